@@ -1,5 +1,6 @@
 -- The laws of a station on files, from those of the files and of the station.
-use Rattle.std.proofs.Common.{◌≡◌, ◌∙◌, ℕ, List, [], ◌++◌, length, Option, Some, None, slice_get, is_some, IsTrue, refl, sym, ap, subst}
+use Rattle.std.proofs.Common.{◌≡◌, ◌∙◌, ℕ, List, [], ◌++◌, length, Option, Some, None, slice_get, is_some, IsTrue, refl, sym, ap}
+use Rattle.std.proofs.Common.{subst}
 use Rattle.std.proofs.lemmas.List.{append_cancel_left}
 use Rattle.std.proofs.lemmas.Option.{slice_get-map}
 use Rattle.std.specs.Option.{option_map}
@@ -19,7 +20,8 @@ use Rattle.site_file.proofs.FollowingWords.{left_since, site_is_followed}
 use Rattle.book_model.specs.Book.{Book, base_of}
 use Rattle.book_model.specs.Opening.{words_in}
 use Rattle.station_alone.specs.Keeping.{KeepsThroughout}
-use Rattle.kept_files.specs.KeptFiles.{has_file, holding, words_or_none, FilesOf, KeepsFiles, SiteHasFiles, SiteKeepsOn, SiteKeepsServing, CutLeavesKept}
+use Rattle.kept_files.specs.KeptFiles.{has_file, holding, words_or_none, FilesOf, KeepsFiles, SiteHasFiles, SiteKeepsOn, SiteKeepsServing}
+use Rattle.kept_files.specs.KeptFiles.{CutLeavesKept}
 use Rattle.kept_files.specs.KeptFiles.{RecoveryLeavesContents, HasContents, KeepsServing}
 
 -- WHAT THE FILES HOLD AT FIRST

@@ -1,5 +1,6 @@
 -- A power cut while a desk is at work: each device is anywhere in the job that is out for it, or between two jobs.
-use Rattle.std.specs.Prelude.{◌≡◌, ◌⊎◌, ℕ, ◌+◌, ◌<◌, ◌≤◌, Bool, false, List, [], ◌∷◌, ◌++◌, length, take, Some, slice_get, IsTrue}
+use Rattle.std.specs.Prelude.{◌≡◌, ◌⊎◌, ℕ, ◌+◌, ◌<◌, ◌≤◌, Bool, false, List, [], ◌∷◌, ◌++◌, length, take, Some}
+use Rattle.std.specs.Prelude.{slice_get, IsTrue}
 use Rattle.sii_words.specs.Words.{bytes_of}
 use Rattle.esc_model.specs.SlaveHalf.{SlaveHalf}
 use Rattle.jrn_format.specs.declared.journal.Journal.{Journal}

@@ -57,8 +57,8 @@ pub record DeskIsCut {F S : Type 0} {seen : S → Seen} {flusher : Stay S (List 
     (desk : DeskOnFiles F seen flusher workers) (calls : List Call) (begun : LineFile → File) (images : LineFile → List ℕ) : Type 0 where
   pub journal : PartIsCut DoesAction (disk_log calls) (is_same JournalFile) (seen flusher.start) (seen flusher.site) desk.journal.device begun images
   pub slaves : (slave : ℕ) (end : Stay S SlaveLog) (is : slice_get workers slave ≡ Some end)
-      → PartIsCut (CallsSlave slave) (rom_log slave calls) (is_same (Image slave)) (seen end.start) (seen end.site) (desk.images slave end is).device
-      begun images
+      → PartIsCut (CallsSlave slave) (rom_log slave calls) (is_same (Image slave)) (seen end.start) (seen end.site)
+      (desk.images slave end is).device begun images
 
 -- THE LAWS
 

@@ -115,7 +115,8 @@ HasContents book (Image slave) file = (words : List ℕ) × (slice_get (base_of 
 -- The files behind a site, by what its device keeps of it.
 abbrev pub SiteHasFiles : Type 0 → Type 0
 SiteHasFiles F = (device : FileDevice F) (calls : List Asked) (seen : Seen) (is_sound : Bool) → Follows device seen
-    → HasLog device.asking.calls calls → (IsTrue is_sound → (device.has_failed ≡ false) × ¬ IsTrue seen.is_stopped) → FilesOf calls seen is_sound
+    → HasLog device.asking.calls calls → (IsTrue is_sound → (device.has_failed ≡ false) × ¬ IsTrue seen.is_stopped)
+    → FilesOf calls seen is_sound
 
 -- What was kept for a machine before the calls of a station, and throughout them, a power cut leaves in the files.
 abbrev pub CutLeavesKept : Type 0

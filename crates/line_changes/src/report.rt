@@ -7,7 +7,7 @@ ghost use Rattle.line_changes.specs.Report.{Reports};
 use crate::changes::{ChangedWord, changed_words, write_changes};
 use crate::checks::checks_of;
 use sii_words::Plant;
-use station_files::{ExitStatus, Fault, Store, load_line, load_slaves, status_of, worse};
+use station_files::{ExitStatus, Fault, Store, load_line, load_slaves};
 use station_listing::CheckByte;
 use station_text::LineFile;
 use std::alloc::Global;
@@ -149,35 +149,22 @@ pub fn look_before<S: Store>(
     Ok(Some(Before { line, words }))
 }
 
-/// Prints the report behind work that ended with this status, if one is asked for, and gives the status of both. Behind a fault nothing is
-/// reported. No file changes.
-pub fn report_behind<S: Store, W: Write, E: Write>(
+/// Prints the report behind work that ended with this status, if one is asked for. Behind a fault nothing is reported. No file changes.
+///
+/// # Errors
+///
+/// The fault of `look_before`; then as for `print_report`.
+pub fn report_behind<S: Store, W: Write>(
     alloc: Global,
     looked: Result<Option<Before>, Fault>,
     status: ExitStatus,
-    store: &mut S,
-    output: &mut W,
-    faults: &mut E,
-) -> ExitStatus
-    ensures same { S.files store.new ≡ S.files store.old }
-{
-    if !matches!(status, ExitStatus::Done | ExitStatus::Refused) {
-        return status;
-    }
-    let reported = report_looked(alloc, looked, store, output);
-    worse(status, status_of(reported, faults))
-}
-
-/// Prints the report, if one is asked for.
-fn report_looked<S: Store, W: Write>(
-    alloc: Global,
-    looked: Result<Option<Before>, Fault>,
     store: &mut S,
     output: &mut W,
 ) -> Result<(), Fault>
     ensures same { S.files store.new ≡ S.files store.old }
 {
     match looked {
+        _ if !matches!(status, ExitStatus::Done | ExitStatus::Refused) => Ok(()),
         Ok(Some(before)) => print_report(alloc, &before, store, output),
         Ok(None) => Ok(()),
         Err(fault) => Err(fault),

@@ -1,5 +1,6 @@
 -- A desk that was closed with what one submitter handed in.
-use Rattle.std.proofs.Common.{◌≡◌, ℕ, Bool, ◌+◌, ◌≤◌, true, false, List, [], ◌∷◌, ◌++◌, length, refl, sym, ◌∙◌, ap, subst, arith, inl, inr, Option}
+use Rattle.std.proofs.Common.{◌≡◌, ℕ, Bool, ◌+◌, ◌≤◌, true, false, List, [], ◌∷◌, ◌++◌, length, refl, sym, ◌∙◌, ap}
+use Rattle.std.proofs.Common.{subst, arith, inl, inr, Option}
 use Rattle.std.proofs.Common.{Some, None, Result, Ok, Err}
 use Rattle.std.specs.Prelude.{◌⊎◌, is_some, IfErr, IfOk, IfSome, IsSomeAnd, MatchResult, OnOk}
 use Rattle.std.specs.Global.{Vec}
@@ -41,7 +42,8 @@ use Rattle.station_jobs.specs.declared.log.SlaveLog.{SlaveLog}
 use Rattle.station_jobs.specs.Ends.{Stay}
 use Rattle.station_threads.specs.Parts.{IsEndOfSlave}
 use Rattle.station_threads.proofs.PlaceLaws.{placed-long}
-use Rattle.script_session.specs.Parts.{Sites, AreFollowed, AreSound, BeginsWith, EndsSynced, HasDiskOf, IsApart, IsDeskLeft, IsDeskTold, IsLineTold, IsServable, AreEndsOfParts}
+use Rattle.script_session.specs.Parts.{Sites, AreFollowed, AreSound, BeginsWith, EndsSynced, HasDiskOf, IsApart, IsDeskLeft, IsDeskTold, IsLineTold}
+use Rattle.script_session.specs.Parts.{IsServable, AreEndsOfParts}
 use Rattle.script_session.specs.AtDesk as at_desk
 use Rattle.script_session.specs.AtDesk.{seen_of, Closes, ClosesWith, DeskServes, IsUnservedTold, EndsSo, IsServedAtDesk, IsStopped}
 use Rattle.script_session.specs.Parts.{IsTogether, Telling}

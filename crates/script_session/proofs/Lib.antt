@@ -10,3 +10,4 @@ pub mod DeskLaws
 pub mod IssueLaws
 pub mod RedoLaws
 pub mod SavingLaws
+pub mod BehindLaws

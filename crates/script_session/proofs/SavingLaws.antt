@@ -8,6 +8,7 @@ use Rattle.station_alone.specs.Station.{Station}
 use Rattle.station_text.specs.declared.line_file.LineFile.{LineFile}
 use Rattle.station_files.specs.Files.{Known}
 use Rattle.station_files.specs.declared.faults.ExitStatus.{ExitStatus}
+use Rattle.station_files.specs.declared.faults.ExitStatus.TheVariants.{Done}
 use Rattle.station_line.specs.Site.{IsFollowed}
 use Rattle.script_session.specs.declared.told.PartTold.{PartTold}
 use Rattle.script_session.specs.Parts.{IsLineOf, Telling}
@@ -26,6 +27,34 @@ pub behind-unserved : (is_driven : Bool) (files : Known) (line : LineFile) (befo
     → SavesBehind files line before is_driven unserved status → SavesBehind files line before is_driven commands status
 behind-unserved is_driven files line before unserved commands status same saves =
     record { r = saves.r; recovered = saves.recovered; begins = saves.begins; holds = holds-unserved is_driven files line saves.r unserved commands status same saves.holds }
+
+-- ---- of a status that is worse than that of the answers
+
+serves-worse : (files : Known) (line : LineFile) (opened : Station) (commands : List Command) (one final : ExitStatus)
+    → (final ≡ Done → one ≡ Done) → SavesServed files line opened commands one → SavesServed files line opened commands final
+serves-worse files line opened commands one final done_too saves = record {
+  s = saves.s;
+  accepted = saves.accepted;
+  goes = saves.goes;
+  among = saves.among;
+  all = λ done. saves.all (done_too done);
+  served = saves.served;
+  held = saves.held;
+}
+
+holds-worse : (is_driven : Bool) (files : Known) (line : LineFile) (r : Station) (commands : List Command) (one final : ExitStatus)
+    → (final ≡ Done → one ≡ Done) → HoldsBehind is_driven files line r commands one → HoldsBehind is_driven files line r commands final
+holds-worse true files line r commands one final done_too holds = holds
+holds-worse false files line r commands one final done_too holds = serves-worse files line r commands one final done_too holds
+
+pub behind-worse : (is_driven : Bool) (files : Known) (line : LineFile) (before : Seen) (commands : List Command) (one final : ExitStatus)
+    → (final ≡ Done → one ≡ Done) → SavesBehind files line before is_driven commands one → SavesBehind files line before is_driven commands final
+behind-worse is_driven files line before commands one final done_too saves = record {
+  r = saves.r;
+  recovered = saves.recovered;
+  begins = saves.begins;
+  holds = holds-worse is_driven files line saves.r commands one final done_too saves.holds;
+}
 
 -- ---- what is told of the device of a line that was saved
 

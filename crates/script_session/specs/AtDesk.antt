@@ -1,5 +1,6 @@
 -- What holds of a line once its desk was closed, or a fault ended the work there.
-use Rattle.std.specs.Prelude.{◌≡◌, ◌⊎◌, ◌<◌, ℕ, Bool, true, false, List, [], ◌∷◌, length, Result, Ok, Err, IfErr, MatchResult, OnOk}
+use Rattle.std.specs.Prelude.{◌≡◌, ◌⊎◌, ◌<◌, ℕ, Bool, true, false, List, [], ◌∷◌, length, Result, Ok, Err, IfErr, MatchResult}
+use Rattle.std.specs.Prelude.{OnOk}
 use Rattle.std.specs.List.{AllByRecursion}
 use Rattle.sii_edit.specs.declared.command.Command.{Command}
 use Rattle.jrn_format.specs.declared.journal.Journal.{Journal}
@@ -205,7 +206,8 @@ pub record IsServedTold {D T : Type 0} (follows : D → Seen → Type 0) (well :
 
 -- Behind each part a device keeps this of the part's site. Where the parts ended soundly, nothing has failed that these devices were asked, and no
 -- site has stopped.
-abbrev pub EndsFollowed : {D : Type 0} → (D → Seen → Type 0) → (D → Type 0) → Station → Result (Unit {0}) Fault → Ends SiteValue → Type 0
+abbrev pub EndsFollowed : {D : Type 0} → (D → Seen → Type 0) → (D → Type 0) → Station → Result (Unit {0}) Fault → Ends SiteValue
+    → Type 0
 EndsFollowed follows well opened (Ok sound) ends = PartsFollowed (Soundly follows well) opened ends
 EndsFollowed follows well opened (Err fault) ends = AreFollowed follows ends
 

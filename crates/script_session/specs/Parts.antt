@@ -1,5 +1,6 @@
 -- A line that is taken apart into sites, and put together again.
-use Rattle.std.specs.Prelude.{◌≡◌, ◌⊎◌, ◌≤◌, ◌+◌, ℕ, List, [], ◌∷◌, true, length, Ok, IfOk, Option, Some, is_some, slice_get, IsTrue, None, false}
+use Rattle.std.specs.Prelude.{◌≡◌, ◌⊎◌, ◌≤◌, ◌+◌, ℕ, List, [], ◌∷◌, true, length, Ok, IfOk, Option, Some, is_some}
+use Rattle.std.specs.Prelude.{slice_get, IsTrue, None, false}
 use Rattle.std.specs.List.{AllByRecursion}
 use Rattle.std.specs.Global.{Vec}
 use Rattle.esc_model.specs.SlaveHalf.{SlaveHalf}
@@ -94,8 +95,8 @@ pub record IsWorkFollowed {D : Type 0} (follows : D → Seen → Type 0) (end : 
   pub followed : IsFollowed follows end.site.seen
 
 -- Each of these is told of the device behind the end at its place.
-abbrev pub AreToldOf : {D T : Type 0} → (D → Seen → Type 0) → (D → Type 0) → (D → T → Type 0) → List (PartTold T) → List (Stay SiteValue SlaveLog)
-    → Type 0
+abbrev pub AreToldOf : {D T : Type 0} → (D → Seen → Type 0) → (D → Type 0) → (D → T → Type 0) → List (PartTold T)
+    → List (Stay SiteValue SlaveLog) → Type 0
 AreToldOf follows well tells [] [] = Unit {0}
 AreToldOf follows well tells (told ∷ rest) (end ∷ ends) =
     IsWorkFollowed (Telling follows well tells told) end × AreToldOf follows well tells rest ends
@@ -103,7 +104,8 @@ AreToldOf follows well tells tellings ends = ⊥
 
 -- The log is empty, or its last action is a sync that succeeded.
 abbrev pub EndsSynced : List DiskEntry → Type 0
-EndsSynced log = (log ≡ []) ⊎ ((at : ℕ) × (at + 1 ≡ length log) × (slice_get log at ≡ Some (record { job = disk.Sync; outcome = Some (Ok tt) })))
+EndsSynced log = (log ≡ []) ⊎
+    ((at : ℕ) × (at + 1 ≡ length log) × (slice_get log at ≡ Some (record { job = disk.Sync; outcome = Some (Ok tt) })))
 
 -- The same of the disk's end and of each slave's.
 pub record AreFollowed {D : Type 0} (follows : D → Seen → Type 0) (ends : Ends SiteValue) : Type 0 where
@@ -113,8 +115,8 @@ pub record AreFollowed {D : Type 0} (follows : D → Seen → Type 0) (ends : En
 
 -- This is told of the devices of a line that was served at a desk: of the line's, whose site was this before it was taken apart, and of those
 -- behind the ends of the disk and of each slave.
-pub record IsDeskTold {D T : Type 0} (follows : D → Seen → Type 0) (well : D → Type 0) (tells : D → T → Type 0) (opened : Seen) (told : DeskTold T)
-    (ends : Ends SiteValue) : Type 0 where
+pub record IsDeskTold {D T : Type 0} (follows : D → Seen → Type 0) (well : D → Type 0) (tells : D → T → Type 0) (opened : Seen)
+    (told : DeskTold T) (ends : Ends SiteValue) : Type 0 where
   pub before : IsFollowed (Telling follows well tells told.line) opened
   pub flushed : IsFlushed ends.flusher.log ends.flusher.start.seen ends.flusher.site.seen
   pub disk : IsFollowed (Telling follows well tells told.disk) ends.flusher.site.seen

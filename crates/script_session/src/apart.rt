@@ -1,7 +1,8 @@
 //! Takes a line apart into sites: one for the disk, one for each slave, and one for the process data. They are made in memory. Once nothing can fail
 //! any more, the line's device lends each its own.
 
-ghost use Rattle.std.specs.Prelude.{◌≡◌, ◌↔◌, ◌+◌, ◌<◌, ◌≤◌, [], true, length, slice_set, vec_len, vec_capacity, is_some, IfOk, IfSome};
+ghost use Rattle.std.specs.Prelude.{◌≡◌, ◌↔◌, ◌+◌, ◌<◌, ◌≤◌, [], true, length, slice_set, vec_len, vec_capacity, is_some};
+ghost use Rattle.std.specs.Prelude.{IfOk, IfSome};
 ghost use Rattle.std.specs.Prelude.{IsSomeAnd, IsTrue};
 ghost use Rattle.site_shadow.specs.Line.{half_of, halves_of};
 ghost use Rattle.site_shadow.specs.Parts.{site_of};

@@ -4,6 +4,7 @@
 
 mod apart;
 mod asked;
+mod behind;
 mod closing;
 mod events;
 mod redoing;
@@ -16,6 +17,7 @@ mod together;
 mod told;
 mod work;
 
+pub use behind::{DeskLeft, LineEnd, end_line};
 pub use closing::Ending;
 pub use redoing::{Redone, redo_by_threads};
 pub use saving::save_told;

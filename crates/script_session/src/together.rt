@@ -1,6 +1,7 @@
 //! Puts a line together again from the ends of its threads, and tells of the devices of its parts.
 
-ghost use Rattle.std.specs.Prelude.{◌≡◌, ◌<◌, ◌≤◌, ◌+◌, ◌∷◌, ◌++◌, [], List, length, vec_capacity, IfOk, IfSome, IsOkAnd, IsTrue};
+ghost use Rattle.std.specs.Prelude.{◌≡◌, ◌<◌, ◌≤◌, ◌+◌, ◌∷◌, ◌++◌, [], List, length, vec_capacity, IfOk, IfSome};
+ghost use Rattle.std.specs.Prelude.{IsOkAnd, IsTrue};
 ghost use Rattle.std.specs.List.{AllByRecursion, AllZip};
 ghost use Rattle.site_core.specs.State.{Seen};
 ghost use Rattle.site_shadow.specs.Line.{half_of, halves_of};

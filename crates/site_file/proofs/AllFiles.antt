@@ -1,5 +1,6 @@
 -- What a power cut leaves of all files at one moment, and of each of them.
-use Rattle.std.proofs.Common.{◌≡◌, ◌⊎◌, ℕ, Bool, true, false, List, [], ◌∷◌, ◌++◌, length, if◌then◌else◌, refl, sym, subst, inl, inr}
+use Rattle.std.proofs.Common.{◌≡◌, ◌⊎◌, ℕ, Bool, true, false, List, [], ◌∷◌, ◌++◌, length, if◌then◌else◌, refl, sym}
+use Rattle.std.proofs.Common.{subst, inl, inr}
 use Rattle.site_core.specs.Disk.{StopImage}
 use Rattle.site_core.proofs.StopImages.{StopImage-write_begun}
 use Rattle.site_file.specs.declared.asking.LineFile.{LineFile}

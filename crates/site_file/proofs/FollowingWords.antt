@@ -1,5 +1,7 @@
 -- The files behind a site follow it as a half becomes idle, and over any number of steps.
-use Rattle.std.proofs.Common.{◌≡◌, ◌⊎◌, ℕ, zero, suc, Bool, true, false, List, [], ◌∷◌, ◌++◌, ◌==◌, ◌+◌, ◌<◌, ◌^◌, length, take, Some, None, slice_get, slice_set, IsTrue, if◌then◌else◌, refl, sym, ap, subst, ◌∙◌, inl, inr, arith, append_assoc}
+use Rattle.std.proofs.Common.{◌≡◌, ◌⊎◌, ℕ, zero, suc, Bool, true, false, List, [], ◌∷◌, ◌++◌, ◌==◌, ◌+◌, ◌<◌}
+use Rattle.std.proofs.Common.{◌^◌, length, take, Some, None, slice_get, slice_set, IsTrue, if◌then◌else◌, refl, sym, ap, subst, ◌∙◌}
+use Rattle.std.proofs.Common.{inl, inr, arith, append_assoc}
 use Rattle.std.specs.List.{AllByRecursion}
 use Rattle.std.proofs.lemmas.Bool.{eqb-true, eq-eqb}
 use Rattle.esc_model.specs.declared.rest.WordWrite.{WordWrite}
@@ -26,7 +28,8 @@ use Rattle.site_shadow.specs.Following as shadow
 use Rattle.site_shadow.specs.Following.{Extends, KeepsContents, begin_of, first_of}
 use Rattle.site_shadow.proofs.Keeping.{Extends-by}
 use Rattle.site_shadow.proofs.Towards.{now_left, Extends-now, Extends-first, towards_since}
-use Rattle.site_file.specs.AllFiles.{AreLeft, AreLeftBehind, calls_of, ShowOne, HoldsDisk, HoldsWords, Holds, FilesFollow, BeginsToFollow, FollowsOn, SiteIsFollowed}
+use Rattle.site_file.specs.AllFiles.{AreLeft, AreLeftBehind, calls_of, ShowOne, HoldsDisk, HoldsWords, Holds, FilesFollow, BeginsToFollow, FollowsOn}
+use Rattle.site_file.specs.AllFiles.{SiteIsFollowed}
 use Rattle.site_file.proofs.AllFiles.{earlier_or_later, left_of_each}
 use Rattle.site_file.proofs.PairsLeft.{IsLeftOfSlave, IsLeftOfPart, ShownPair, shown_pair}
 use Rattle.site_file.proofs.OneFile.{AllOf, is_same-true, of_file-append, of_file-same, of_file-other}

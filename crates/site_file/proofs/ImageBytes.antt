@@ -1,5 +1,6 @@
 -- The bytes of an image of which a word is overwritten.
-use Rattle.std.proofs.Common.{◌≡◌, ℕ, zero, suc, ◌+◌, ◌*◌, ◌/◌, ◌%◌, ◌<◌, ◌≤◌, List, [], ◌∷◌, length, slice_get, slice_index, slice_set, Some, refl, ap, inl, inr, arith}
+use Rattle.std.proofs.Common.{◌≡◌, ℕ, zero, suc, ◌+◌, ◌*◌, ◌/◌, ◌%◌, ◌<◌, ◌≤◌, List, [], ◌∷◌, length}
+use Rattle.std.proofs.Common.{slice_get, slice_index, slice_set, Some, refl, ap, inl, inr, arith}
 use Rattle.sii_words.specs.Words.{bytes_of}
 use Rattle.site_core.specs.Disk.{IsOutside, overlaid}
 use Rattle.site_core.proofs.StopImages.{equal_by_elements}

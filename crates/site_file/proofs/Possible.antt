@@ -1,5 +1,6 @@
 -- The definitions leave something to happen, and any word to be torn.
-use Rattle.std.proofs.Common.{ℕ, ◌*◌, ◌/◌, ◌%◌, ◌<◌, ◌≤◌, Bool, true, false, List, [], ◌∷◌, length, slice_set, refl, subst, inl, arith}
+use Rattle.std.proofs.Common.{ℕ, ◌*◌, ◌/◌, ◌%◌, ◌<◌, ◌≤◌, Bool, true, false, List, [], ◌∷◌, length, slice_set, refl}
+use Rattle.std.proofs.Common.{subst, inl, arith}
 use Rattle.sii_words.specs.Words.{bytes_of}
 use Rattle.site_core.specs.Disk.{Disk, StopImage, write_begun, written, synced, overlaid}
 use Rattle.site_core.proofs.Overlays.{overlaid-outside, length-overlaid}

@@ -1,5 +1,6 @@
 -- The files behind a site in memory, and what a power cut leaves of all of them at one moment.
-use Rattle.std.specs.Prelude.{◌≡◌, ◌⊎◌, ℕ, ◌+◌, ◌≤◌, ◌<◌, Bool, true, false, List, [], ◌∷◌, ◌++◌, length, take, slice_get, Some, IsTrue}
+use Rattle.std.specs.Prelude.{◌≡◌, ◌⊎◌, ℕ, ◌+◌, ◌≤◌, ◌<◌, Bool, true, false, List, [], ◌∷◌, ◌++◌, length, take}
+use Rattle.std.specs.Prelude.{slice_get, Some, IsTrue}
 use Rattle.std.specs.Prelude.{if◌then◌else◌}
 use Rattle.sii_words.specs.Words.{bytes_of}
 use Rattle.esc_model.specs.SlaveHalf.{SlaveHalf}
@@ -87,10 +88,10 @@ pub record FilesFollow
   pub leaves : (place : ℕ) (piece : List Asked) (images : LineFile → List ℕ) → ((name : LineFile) → IsBytes (images name))
       → slice_get pieces place ≡ Some piece → AreLeftBehind (calls_of (take place pieces)) piece begun images
       → ShowOne owned (LeftTowards seen (since + place)) images
-  pub leaves_last : (images : LineFile → List ℕ) → ((name : LineFile) → IsBytes (images name)) → AreLeftBehind (calls_of pieces) last begun images
-      → ShowOne owned (LeftTowards seen (since + length pieces)) images
-  pub held : (place : ℕ) (files : LineFile → File) (name : LineFile) → place < length pieces → LeadTo (calls_of (take (place + 1) pieces)) begun files
-      → IsTrue (owned name) → Holds (state_at seen (since + place)) name (files name)
+  pub leaves_last : (images : LineFile → List ℕ) → ((name : LineFile) → IsBytes (images name))
+      → AreLeftBehind (calls_of pieces) last begun images → ShowOne owned (LeftTowards seen (since + length pieces)) images
+  pub held : (place : ℕ) (files : LineFile → File) (name : LineFile) → place < length pieces
+      → LeadTo (calls_of (take (place + 1) pieces)) begun files → IsTrue (owned name) → Holds (state_at seen (since + place)) name (files name)
   pub holds : device.has_failed ≡ false → ¬ IsTrue seen.is_stopped → (name : LineFile) (later : File) → IsTrue (owned name)
       → BecomesBy (of_file name (calls_of pieces ++ last)) (begun name) later → Holds seen.state name later
 

@@ -1,5 +1,6 @@
 -- What a file holds as it is asked (POSIX: pread, pwrite, fdatasync), and what a power cut may leave of it.
-use Rattle.std.specs.Prelude.{◌≡◌, ◌⊎◌, ℕ, ◌<◌, ◌≤◌, min, Bool, true, false, List, [], ◌∷◌, length, slice_get, slice_index, IsTrue}
+use Rattle.std.specs.Prelude.{◌≡◌, ◌⊎◌, ℕ, ◌<◌, ◌≤◌, min, Bool, true, false, List, [], ◌∷◌, length, slice_get}
+use Rattle.std.specs.Prelude.{slice_index, IsTrue}
 use Rattle.site_core.specs.Disk.{Disk, IsSynced, StopImage, WriteFailed, write_begun, written, synced}
 use Rattle.site_file.specs.Calls.{Call, Asked, tells_length, reads, writes, syncs}
 use Rattle.sii_words.specs.Words.{bytes_of}

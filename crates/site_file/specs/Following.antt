@@ -36,8 +36,9 @@ pub data Step {F : Type 0} (old : Seen) (before : FileDevice F) (new : Seen) (af
   sync : (passing : Passing) (given : Result (Unit {0}) DeviceFault) → old.is_stopped ≡ false → SyncsDisk old given new → IsTold passing given
       → CallsJournal syncs before passing after → Step old before new after
   -- a half becomes idle as the device says, before it takes a datagram
-  rest : (slave : ℕ) (half rested later : SlaveHalf) (resting : Resting) → old.is_stopped ≡ false → slice_get old.state.halves slave ≡ Some half
-      → RestsAs resting half rested → later.words ≡ rested.words → new.state ≡ with_half old.state slave later → Extends old new → FitsWords half
+  rest : (slave : ℕ) (half rested later : SlaveHalf) (resting : Resting) → old.is_stopped ≡ false
+      → slice_get old.state.halves slave ≡ Some half → RestsAs resting half rested → later.words ≡ rested.words
+      → new.state ≡ with_half old.state slave later → Extends old new → FitsWords half
       → Rests slave (in_flight half.activity) before resting after → Step old before new after
 
 -- any number of steps

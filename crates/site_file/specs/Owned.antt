@@ -1,5 +1,6 @@
 -- The files that a device owns.
-use Rattle.std.specs.Prelude.{◌≡◌, ◌⊎◌, ℕ, ◌==◌, Bool, false, List, [], Option, Some, None, slice_get, slice_set, is_some, IsTrue, if◌then◌else◌}
+use Rattle.std.specs.Prelude.{◌≡◌, ◌⊎◌, ℕ, ◌==◌, Bool, false, List, [], Option, Some, None, slice_get, slice_set, is_some, IsTrue}
+use Rattle.std.specs.Prelude.{if◌then◌else◌}
 use Rattle.site_shadow.specs.declared.lending.LinePart.{LinePart}
 use Rattle.site_shadow.specs.declared.lending.LinePart.TheVariants as part
 use Rattle.site_file.specs.declared.asking.LineFile.{LineFile}

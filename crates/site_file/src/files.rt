@@ -1,5 +1,6 @@
 //! The journal and the EEPROM images of a line as files.
-ghost use Rattle.std.specs.Prelude.{◌≡◌, ◌||◌, not, true, false, [], Some, None, is_some, OnOk, OnErr, IfSome, IfNone, IsTrue, if◌then◌else◌};
+ghost use Rattle.std.specs.Prelude.{◌≡◌, ◌||◌, not, true, false, [], Some, None, is_some, OnOk, OnErr, IfSome, IfNone, IsTrue};
+ghost use Rattle.std.specs.Prelude.{if◌then◌else◌};
 ghost use Rattle.esc_model.specs.SlaveHalf.{in_flight};
 ghost use Rattle.site_shadow.specs.declared.device.Passing.TheVariants.{Passes, Fails, Stops};
 ghost use Rattle.site_shadow.specs.declared.device.Resting.TheVariants.{Stays};

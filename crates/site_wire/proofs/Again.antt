@@ -1,12 +1,14 @@
 -- Datagrams that a half takes before and after it comes to rest, and datagrams that it takes again.
-use Rattle.std.proofs.Common.{◌≡◌, ◌⊎◌, ℕ, ◌+◌, ◌-◌, ◌<◌, ◌≤◌, ◌&&◌, Bool, true, false, nat_le, List, length, slice_index, slice_set, refl, sym, ap, subst, ◌∙◌, inl, inr, arith, length-set}
+use Rattle.std.proofs.Common.{◌≡◌, ◌⊎◌, ℕ, ◌+◌, ◌-◌, ◌<◌, ◌≤◌, ◌&&◌, Bool, true, false, nat_le, List, length}
+use Rattle.std.proofs.Common.{slice_index, slice_set, refl, sym, ap, subst, ◌∙◌, inl, inr, arith, length-set}
 use Rattle.std.specs.Prelude.{IsTrue}
 use Rattle.std.proofs.lemmas.Bool.{and_parts, leb-true, le-leb}
 use Rattle.std.proofs.lemmas.Bool.Decides.{leb_tells}
 use Rattle.ecat_frame.specs.Command.{command_of}
 use Rattle.ecat_frame.specs.Frame.{Pdu}
 use Rattle.esc_model.specs.Bytes.{register_of}
-use Rattle.esc_model.specs.SlaveHalf.{SlaveHalf, Activity, Idle, Reading, Writing, is_busy, with_stored, with_errors, settled, fetching, writing, written, MayEnd, MayRest}
+use Rattle.esc_model.specs.SlaveHalf.{SlaveHalf, Activity, Idle, Reading, Writing, is_busy, with_stored, with_errors, settled, fetching, writing}
+use Rattle.esc_model.specs.SlaveHalf.{written, MayEnd, MayRest}
 use Rattle.esc_model.specs.Datagrams.{served_datagram}
 use Rattle.esc_model.proofs.Resting.{MayRest-idle, MayRest-station, MayHold-same}
 use Rattle.esc_model.proofs.Serving.{Goes-served}
@@ -15,8 +17,11 @@ use Rattle.site_wire.specs.Due.{WritesControl, is_command, IsFit, NamesInside, n
 use Rattle.site_wire.specs.Likeness.{IsLike, MayBe}
 use Rattle.site_wire.proofs.Liking.{like_is_possible, MayBe-refl, MayBe-rests, MayBe-as}
 use Rattle.site_wire.proofs.Stored.{offered_same, forced_same, offered_again, forced_again}
-use Rattle.site_wire.proofs.Judged.{judged, Doing, Nothing, Fetches, Writes, doing_of, done, begun_is, begun_as, SameCommand, Needs, none as no_command, reads as a_read, writes as a_write, needs_covers, judged_same, address_needed, first_needed, nothing_alike, fetching_alike, writing_alike}
-use Rattle.site_wire.proofs.Taking.{true_or_false, HasAll, writes_code, writes_inside, writes_here, writes_same, served_other, served_write, written_quiet, written_idle, written_ignored, judges, stores}
+use Rattle.site_wire.proofs.Judged.{judged, Doing, Nothing, Fetches, Writes, doing_of, done, begun_is, begun_as, SameCommand, Needs}
+use Rattle.site_wire.proofs.Judged.{none as no_command, reads as a_read, writes as a_write, needs_covers, judged_same, address_needed, first_needed}
+use Rattle.site_wire.proofs.Judged.{nothing_alike, fetching_alike, writing_alike}
+use Rattle.site_wire.proofs.Taking.{true_or_false, HasAll, writes_code, writes_inside, writes_here, writes_same, served_other, served_write}
+use Rattle.site_wire.proofs.Taking.{written_quiet, written_idle, written_ignored, judges, stores}
 
 -- WHAT IS SENT
 

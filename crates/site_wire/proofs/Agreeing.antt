@@ -1,5 +1,6 @@
 -- After an answer that agrees the real slave is one that the shadow may be; after any other a power cut leaves no more of it.
-use Rattle.std.proofs.Common.{◌≡◌, ◌⊎◌, ℕ, ◌/◌, ◌<◌, Bool, true, false, nat_le, List, Some, None, refl, sym, ap, subst, ◌∙◌, inl, inr, arith}
+use Rattle.std.proofs.Common.{◌≡◌, ◌⊎◌, ℕ, ◌/◌, ◌<◌, Bool, true, false, nat_le, List, Some, None, refl, sym, ap, subst}
+use Rattle.std.proofs.Common.{◌∙◌, inl, inr, arith}
 use Rattle.std.specs.Prelude.{if◌then◌else◌}
 use Rattle.std.proofs.lemmas.Bool.Decides.{leb_tells}
 use Rattle.ecat_frame.specs.Command.{command_of}
@@ -10,7 +11,8 @@ use Rattle.esc_model.proofs.Status.{idle_not_busy, no_error}
 use Rattle.site_wire.specs.Due.{WritesControl}
 use Rattle.site_wire.specs.Likeness.{IsLike, MayBe}
 use Rattle.site_wire.specs.Answers.{AnswersAlike, has_status}
-use Rattle.site_wire.specs.Exchanges.{IsSent, Takes, Takings, rested_well, rested_failed, rested_as, rested_by_answer, Agrees, alike, unconfirmed, unsent, reads_alone, shows_alone, answered, start, next, silent, told}
+use Rattle.site_wire.specs.Exchanges.{IsSent, Takes, Takings, rested_well, rested_failed, rested_as, rested_by_answer, Agrees, alike, unconfirmed}
+use Rattle.site_wire.specs.Exchanges.{unsent, reads_alone, shows_alone, answered, start, next, silent, told}
 use Rattle.site_wire.specs.Laws.{AgreedIsPossible, StopLeavesNoMore, RunIsPossible}
 use Rattle.site_wire.proofs.Liking.{IsLike-then, like_is_possible, possible_leaves_no_more}
 use Rattle.site_wire.proofs.Alone.{read_alone}

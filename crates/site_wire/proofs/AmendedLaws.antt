@@ -1,5 +1,6 @@
 -- What a device does of its own keeps the real slave one of which a power cut leaves no more than of its shadow.
-use Rattle.std.proofs.Common.{◌≡◌, ◌⊎◌, ℕ, ◌+◌, ◌-◌, ◌%◌, ◌≤◌, ◌&&◌, true, false, nat_le, List, length, slice_index, slice_set, refl, sym, ap, subst, ◌∙◌, inl, inr, arith}
+use Rattle.std.proofs.Common.{◌≡◌, ◌⊎◌, ℕ, ◌+◌, ◌-◌, ◌%◌, ◌≤◌, ◌&&◌, true, false, nat_le, List, length}
+use Rattle.std.proofs.Common.{slice_index, slice_set, refl, sym, ap, subst, ◌∙◌, inl, inr, arith}
 use Rattle.std.proofs.lemmas.List.{set-set, set-get_or}
 use Rattle.std.proofs.lemmas.Bool.{le-leb}
 use Rattle.ecat_frame.specs.Command.{command_of}
@@ -12,7 +13,8 @@ use Rattle.esc_model.proofs.Status.{idle_not_busy}
 use Rattle.esc_model.proofs.WordTaking.{number_back, value_back}
 use Rattle.site_wire.specs.Due.{IsOwn, clears, reads, writes}
 use Rattle.site_wire.specs.Likeness.{IsLike}
-use Rattle.site_wire.specs.Amending.{IsAmended, start, next, PossibleIsAmended, AmendedStays, AmendedLeavesNoMore, BusyIsPossible, ReadBackIsPossible, OtherIsKept}
+use Rattle.site_wire.specs.Amending.{IsAmended, start, next, PossibleIsAmended, AmendedStays, AmendedLeavesNoMore, BusyIsPossible, ReadBackIsPossible}
+use Rattle.site_wire.specs.Amending.{OtherIsKept}
 use Rattle.site_wire.proofs.Liking.{MayHold-then, like_is_possible}
 use Rattle.site_wire.proofs.Stored.{offered_kept, forced_kept, command_given}
 use Rattle.site_wire.proofs.Judged.{judged, Doing, Nothing, Fetches, Writes, doing_of, done, begun_is, writes_command}

@@ -1,5 +1,6 @@
 -- A real slave that is behind its shadow stays so through a datagram that both take.
-use Rattle.std.proofs.Common.{◌≡◌, ◌⊎◌, ℕ, ◌+◌, ◌%◌, ◌<◌, ◌≤◌, ◌&&◌, true, false, nat_le, List, length, slice_index, Some, None, refl, sym, ap, subst, ◌∙◌, inl, inr, arith, length-set}
+use Rattle.std.proofs.Common.{◌≡◌, ◌⊎◌, ℕ, ◌+◌, ◌%◌, ◌<◌, ◌≤◌, ◌&&◌, true, false, nat_le, List, length}
+use Rattle.std.proofs.Common.{slice_index, Some, None, refl, sym, ap, subst, ◌∙◌, inl, inr, arith, length-set}
 use Rattle.std.proofs.lemmas.Bool.{le-leb}
 use Rattle.ecat_frame.specs.Command.{command_of}
 use Rattle.ecat_frame.specs.Frame.{Pdu}
@@ -15,8 +16,10 @@ use Rattle.site_wire.specs.Likeness.{IsLike}
 use Rattle.site_wire.specs.RealSlaves.{Serves, Answered}
 use Rattle.site_wire.specs.Following.{IsBehind}
 use Rattle.site_wire.proofs.Stored.{offered_same, forced_same, offered_again, forced_again, command_given}
-use Rattle.site_wire.proofs.Judged.{judged, Doing, Nothing, Fetches, Writes, doing_of, done, begun_is, begun_as, SameCommand, Needs, needs_covers, judged_same, address_needed, first_needed, fetches_command}
-use Rattle.site_wire.proofs.Taking.{true_or_false, writes_here, writes_same, writes_code, writes_inside, served_other, served_write, written_quiet, written_idle, written_ignored, judges, stores}
+use Rattle.site_wire.proofs.Judged.{judged, Doing, Nothing, Fetches, Writes, doing_of, done, begun_is, begun_as, SameCommand, Needs, needs_covers}
+use Rattle.site_wire.proofs.Judged.{judged_same, address_needed, first_needed, fetches_command}
+use Rattle.site_wire.proofs.Taking.{true_or_false, writes_here, writes_same, writes_code, writes_inside, served_other, served_write, written_quiet}
+use Rattle.site_wire.proofs.Taking.{written_idle, written_ignored, judges, stores}
 use Rattle.site_wire.proofs.Again.{MaySend, place_of, quiet_or_idle, fit_all, command_again}
 use Rattle.site_wire.proofs.AmendedLaws.{amended_rests, amended_like}
 use Rattle.site_wire.proofs.Living.{servings_keep}

@@ -1,5 +1,6 @@
 -- A real slave is behind its shadow once a device has carried a datagram to it.
-use Rattle.std.proofs.Common.{◌≡◌, ◌≢◌, ◌⊎◌, ℕ, ◌+◌, ◌%◌, ◌<◌, ◌≤◌, ◌&&◌, Bool, true, false, nat_le, List, [], ◌∷◌, length, slice_index, slice_set, Some, None, refl, sym, ap, subst, ◌∙◌, inl, inr, arith}
+use Rattle.std.proofs.Common.{◌≡◌, ◌≢◌, ◌⊎◌, ℕ, ◌+◌, ◌%◌, ◌<◌, ◌≤◌, ◌&&◌, Bool, true, false, nat_le, List}
+use Rattle.std.proofs.Common.{[], ◌∷◌, length, slice_index, slice_set, Some, None, refl, sym, ap, subst, ◌∙◌, inl, inr, arith}
 use Rattle.std.specs.Prelude.{IsTrue, ◌==◌, if◌then◌else◌}
 use Rattle.std.specs.List.{All}
 use Rattle.std.proofs.lemmas.Bool.{le-leb}
@@ -10,7 +11,8 @@ use Rattle.esc_model.specs.Bytes.{register_of, station_of}
 use Rattle.esc_model.specs.Orders.{station}
 use Rattle.esc_model.specs.declared.rest.WordWrite.{WordWrite}
 use Rattle.esc_model.specs.declared.rest.Rest.TheVariants as rests
-use Rattle.esc_model.specs.SlaveHalf.{SlaveHalf, Activity, Idle, Reading, Writing, is_busy, in_flight, with_stored, with_errors, settled, ended, rested_by, begun, written, MayEnd, MayHold}
+use Rattle.esc_model.specs.SlaveHalf.{SlaveHalf, Activity, Idle, Reading, Writing, is_busy, in_flight, with_stored, with_errors, settled, ended}
+use Rattle.esc_model.specs.SlaveHalf.{rested_by, begun, written, MayEnd, MayHold}
 use Rattle.esc_model.specs.Datagrams.{served_datagram}
 use Rattle.esc_model.proofs.Resting.{MayRest-station}
 use Rattle.esc_model.proofs.Serving.{Goes, Goes-served}
@@ -26,7 +28,8 @@ use Rattle.site_wire.specs.RealSlaves.{Serves, Lives, ends}
 use Rattle.site_wire.specs.Following.{IsOwnTo, RestsBy, stays, read_back, rests_with, Carries, waits, known, passes, follows_up, IsBehind}
 use Rattle.site_wire.proofs.Stored.{offered_same, forced_same, offered_kept, forced_kept, command_given}
 use Rattle.site_wire.proofs.Judged.{judged, Doing, Nothing, Fetches, Writes, doing_of, done, begun_is, writes_command}
-use Rattle.site_wire.proofs.Taking.{true_or_false, writes_here, writes_same, writes_code, writes_inside, served_other, served_write, written_quiet, written_idle, written_ignored, judges}
+use Rattle.site_wire.proofs.Taking.{true_or_false, writes_here, writes_same, writes_code, writes_inside, served_other, served_write, written_quiet}
+use Rattle.site_wire.proofs.Taking.{written_idle, written_ignored, judges}
 use Rattle.site_wire.proofs.Again.{MaySend, place_of, quiet_or_idle}
 use Rattle.site_wire.proofs.AmendedLaws.{ended_idle, amended_rests, amended_like, served_amended, held_is}
 use Rattle.site_wire.proofs.Due.{writing_by}

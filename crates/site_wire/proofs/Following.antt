@@ -1,5 +1,7 @@
 -- A device on a wire has followed its site through each call.
-use Rattle.std.proofs.Common.{◌≡◌, not, ◌||◌, ◌≢◌, ◌⊎◌, ◌↔◌, ℕ, zero, suc, ◌<◌, Bool, true, false, List, [], ◌∷◌, ◌++◌, length, slice_get, slice_set, slice_index, eqb, Option, Some, Ok, Err, Result, IsTrue, refl, sym, ap, subst, ◌∙◌, inl, inr, arith}
+use Rattle.std.proofs.Common.{◌≡◌, not, ◌||◌, ◌≢◌, ◌⊎◌, ◌↔◌, ℕ, zero, suc, ◌<◌, Bool, true, false, List, []}
+use Rattle.std.proofs.Common.{◌∷◌, ◌++◌, length, slice_get, slice_set, slice_index, eqb, Option, Some, Ok, Err, Result, IsTrue, refl, sym}
+use Rattle.std.proofs.Common.{ap, subst, ◌∙◌, inl, inr, arith}
 use Rattle.std.specs.List.{All}
 use Rattle.std.proofs.lemmas.Bool.Decides.{eqb_tells, leb_tells}
 use Rattle.std.proofs.lemmas.List.{get_or_past}
@@ -26,7 +28,8 @@ use Rattle.site_file.specs.Asking.{HasLog}
 use Rattle.site_file.specs.Device.{CallsJournal, AsksLength, ReadsJournal}
 use Rattle.site_wire.specs.Journal.{JournalFollows}
 use Rattle.site_wire.specs.Following.{SendsNothing, CarriesFrame, IsBehind, SlavesFollow, SlavesFollowed, WireFollows, still_follows}
-use Rattle.site_wire.proofs.Journal.{length_follows, length_sound, read_follows, read_sound, write_follows, call_sound, sync_follows, rest_follows, journal_begins}
+use Rattle.site_wire.proofs.Journal.{length_follows, length_sound, read_follows, read_sound, write_follows, call_sound, sync_follows, rest_follows}
+use Rattle.site_wire.proofs.Journal.{journal_begins}
 use Rattle.site_wire.specs.declared.device.WireDevice.{WireDevice}
 use Rattle.site_wire.specs.declared.sending.Exchange.{Exchange}
 use Rattle.site_wire.specs.Sent.{Exchanged, HasSent, exchanges}

@@ -1,5 +1,6 @@
 -- A word in flight that is told again or read back, and all that is sent for a datagram.
-use Rattle.std.proofs.Common.{◌≡◌, ℕ, Bool, true, false, List, [], ◌∷◌, ◌++◌, Option, Some, None, refl, sym, ap, subst, ◌∙◌, inl, inr}
+use Rattle.std.proofs.Common.{◌≡◌, ℕ, Bool, true, false, List, [], ◌∷◌, ◌++◌, Option, Some, None, refl, sym, ap, subst, ◌∙◌}
+use Rattle.std.proofs.Common.{inl, inr}
 use Rattle.std.specs.Prelude.{IsTrue, if◌then◌else◌, IsSome}
 use Rattle.std.specs.Option.{option_map}
 use Rattle.std.proofs.lemmas.Bool.Decides.{eqb_tells}
@@ -17,7 +18,8 @@ use Rattle.site_wire.specs.Answering.{found_of}
 use Rattle.site_wire.specs.declared.answers.Answer.{Answer}
 use Rattle.site_wire.specs.declared.sending.Exchange.{Exchange}
 use Rattle.site_wire.specs.Sent.{Exchanged, exchanged, Sends}
-use Rattle.site_wire.specs.Following.{IsOwnTo, SendsOwn, TellsWord, ReadsBack, RestsBy, stays, read_back, rests_with, FollowsUp, Carries, waits, known, passes, follows_up, SendsFor, IsDueTo, CarriesFrame}
+use Rattle.site_wire.specs.Following.{IsOwnTo, SendsOwn, TellsWord, ReadsBack, RestsBy, stays, read_back, rests_with, FollowsUp, Carries, waits}
+use Rattle.site_wire.specs.Following.{known, passes, follows_up, SendsFor, IsDueTo, CarriesFrame}
 use Rattle.site_wire.proofs.Living.{lives_parts, lives_station}
 use Rattle.site_wire.proofs.Due.{writing_by}
 use Rattle.site_wire.proofs.Sends.{sends_none, sends_then, both_own}

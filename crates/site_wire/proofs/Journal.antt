@@ -1,5 +1,6 @@
 -- The journal's file of a device on a wire follows the site's disk through each call.
-use Rattle.std.proofs.Common.{◌≡◌, ◌↔◌, ℕ, ◌≤◌, Bool, true, false, not, ◌||◌, List, [], length, Result, IsTrue, refl, sym, subst, ◌∙◌}
+use Rattle.std.proofs.Common.{◌≡◌, ◌↔◌, ℕ, ◌≤◌, Bool, true, false, not, ◌||◌, List, [], length, Result, IsTrue, refl, sym}
+use Rattle.std.proofs.Common.{subst, ◌∙◌}
 use Rattle.esc_model.specs.SlaveHalf.{SlaveHalf}
 use Rattle.site_core.specs.declared.fault.DeviceFault.{DeviceFault}
 use Rattle.site_core.specs.State.{Seen, with_half}

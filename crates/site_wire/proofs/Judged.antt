@@ -1,5 +1,6 @@
 -- Commands that are judged by registers that are the same.
-use Rattle.std.proofs.Common.{◌≡◌, ℕ, ◌+◌, ◌%◌, ◌≤◌, ◌||◌, ◌&&◌, Bool, true, false, nat_lt, nat_le, List, length, slice_index, refl, sym, ap, subst, ◌∙◌, arith}
+use Rattle.std.proofs.Common.{◌≡◌, ℕ, ◌+◌, ◌%◌, ◌≤◌, ◌||◌, ◌&&◌, Bool, true, false, nat_lt, nat_le, List, length}
+use Rattle.std.proofs.Common.{slice_index, refl, sym, ap, subst, ◌∙◌, arith}
 use Rattle.std.specs.Prelude.{◌==◌, if◌then◌else◌}
 use Rattle.std.proofs.lemmas.Bool.{eqb-true}
 use Rattle.esc_model.specs.SlaveHalf.{SlaveHalf, Activity, Writing, with_stored, with_command_errors, begun, fetching, writing, MayHold}

@@ -1,5 +1,7 @@
 -- What a real slave is that was asked for a word and the next one, was polled until it showed that it is idle without an error, and told them.
-use Rattle.std.proofs.Common.{◌≡◌, ◌⊎◌, inl, inr, ℕ, ◌+◌, ◌-◌, ◌*◌, ◌/◌, ◌%◌, ◌^◌, ◌<◌, ◌||◌, Bool, true, false, nat_le, List, [], ◌∷◌, ◌++◌, Option, Some, None, slice_index, slice_range, refl, sym, ap, subst, ◌∙◌, arith}
+use Rattle.std.proofs.Common.{◌≡◌, ◌⊎◌, inl, inr, ℕ, ◌+◌, ◌-◌, ◌*◌, ◌/◌, ◌%◌, ◌^◌, ◌<◌, ◌||◌, Bool}
+use Rattle.std.proofs.Common.{true, false, nat_le, List, [], ◌∷◌, ◌++◌, Option, Some, None, slice_index, slice_range, refl, sym, ap, subst}
+use Rattle.std.proofs.Common.{◌∙◌, arith}
 use Rattle.std.specs.Prelude.{◌==◌, if◌then◌else◌}
 use Rattle.std.specs.List.{All}
 use Rattle.std.proofs.lemmas.List.Elements.{All-nil, All-cons, All-head, All-tail}
@@ -8,7 +10,8 @@ use Rattle.ecat_frame.specs.Command.{command_of}
 use Rattle.ecat_frame.specs.Frame.{Pdu}
 use Rattle.esc_model.specs.Bytes.{station_of, word_at}
 use Rattle.esc_model.specs.Orders.{station, poll_order, fetch_order}
-use Rattle.esc_model.specs.SlaveHalf.{SlaveHalf, Outcome, Activity, Idle, Reading, is_busy, MayEnd, MayRest, MayHold, replied, shown_bytes, begun, with_command_errors, with_stored}
+use Rattle.esc_model.specs.SlaveHalf.{SlaveHalf, Outcome, Activity, Idle, Reading, is_busy, MayEnd, MayRest, MayHold, replied, shown_bytes, begun}
+use Rattle.esc_model.specs.SlaveHalf.{with_command_errors, with_stored}
 use Rattle.esc_model.specs.Datagrams.{served_datagram}
 use Rattle.esc_model.proofs.Addressing.{register_is}
 use Rattle.esc_model.proofs.Resting.{MayRest-idle}

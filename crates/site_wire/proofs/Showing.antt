@@ -1,5 +1,7 @@
 -- What the answer to a read shows of a half.
-use Rattle.std.proofs.Common.{◌≡◌, ◌⊎◌, ℕ, ◌+◌, ◌-◌, ◌/◌, ◌%◌, ◌<◌, ◌≤◌, ◌&&◌, Bool, true, false, nat_lt, nat_le, List, length, drop, slice_index, slice_range, refl, sym, ap, subst, ◌∙◌, inl, inr, arith, get_or-drop, get_or-take, length-take}
+use Rattle.std.proofs.Common.{◌≡◌, ◌⊎◌, ℕ, ◌+◌, ◌-◌, ◌/◌, ◌%◌, ◌<◌, ◌≤◌, ◌&&◌, Bool, true, false, nat_lt}
+use Rattle.std.proofs.Common.{nat_le, List, length, drop, slice_index, slice_range, refl, sym, ap, subst, ◌∙◌, inl, inr, arith, get_or-drop}
+use Rattle.std.proofs.Common.{get_or-take, length-take}
 use Rattle.std.specs.Prelude.{◌==◌, if◌then◌else◌}
 use Rattle.std.proofs.lemmas.Bool.{and_parts, leb-true, ltb-true, eqb-true}
 use Rattle.ecat_frame.specs.Command.{command_of}

@@ -1,12 +1,14 @@
 -- The registers after a write, by what they were before.
-use Rattle.std.proofs.Common.{◌≡◌, ℕ, ◌+◌, ◌-◌, ◌*◌, ◌/◌, ◌%◌, ◌<◌, ◌≤◌, Bool, true, false, List, length, slice_index, refl, sym, ap, ◌∙◌, arith}
+use Rattle.std.proofs.Common.{◌≡◌, ℕ, ◌+◌, ◌-◌, ◌*◌, ◌/◌, ◌%◌, ◌<◌, ◌≤◌, Bool, true, false, List, length}
+use Rattle.std.proofs.Common.{slice_index, refl, sym, ap, ◌∙◌, arith}
 use Rattle.std.specs.Prelude.{◌==◌, if◌then◌else◌}
 use Rattle.std.proofs.lemmas.Bool.Decides.{nat_tests}
 use Rattle.esc_model.specs.Bytes.{overlaid}
 use Rattle.esc_model.specs.Registers.{Registers, access_byte, status_byte}
 use Rattle.esc_model.specs.SlaveHalf.{SlaveHalf, is_busy, shown_bytes, with_stored}
 use Rattle.site_wire.specs.Likeness.{SameRegisters}
-use Rattle.site_wire.proofs.Storing.{byte_after, Lies, before, within, behind, lies, after_before, after_behind, overlaid_at, after_within, after_covered}
+use Rattle.site_wire.proofs.Storing.{byte_after, Lies, before, within, behind, lies, after_before, after_behind, overlaid_at, after_within}
+use Rattle.site_wire.proofs.Storing.{after_covered}
 use Rattle.esc_model.proofs.WordTaking.{offered_again as offered_bit}
 
 -- a word that stands at a place, after the write

@@ -1,5 +1,6 @@
 -- What came back of a datagram, beside the answer of the shadow (ETG.1000.4, slave information interface).
-use Rattle.std.specs.Prelude.{◌≡◌, ℕ, ◌+◌, ◌/◌, ◌<◌, ◌≤◌, ◌==◌, nat_le, Bool, true, false, List, length, take, min, slice_index, slice_get}
+use Rattle.std.specs.Prelude.{◌≡◌, ℕ, ◌+◌, ◌/◌, ◌<◌, ◌≤◌, ◌==◌, nat_le, Bool, true, false, List, length, take, min}
+use Rattle.std.specs.Prelude.{slice_index, slice_get}
 use Rattle.std.specs.Prelude.{Option, Some, None, IsTrue, if◌then◌else◌}
 use Rattle.ecat_frame.specs.Frame.{Pdu}
 use Rattle.ecat_frame.specs.Command.{code_of}

@@ -1,5 +1,6 @@
 -- Which frames go to a slave (ETG.1000.4, slave information interface).
-use Rattle.std.specs.Prelude.{◌≡◌, ◌+◌, ◌<◌, ◌≤◌, ◌^◌, ◌%◌, ◌==◌, ◌&&◌, nat_le, Bool, true, ℕ, ◌∷◌, ◌++◌, [], length, slice_index, IsTrue, List}
+use Rattle.std.specs.Prelude.{◌≡◌, ◌+◌, ◌<◌, ◌≤◌, ◌^◌, ◌%◌, ◌==◌, ◌&&◌, nat_le, Bool, true, ℕ, ◌∷◌}
+use Rattle.std.specs.Prelude.{◌++◌, [], length, slice_index, IsTrue, List}
 use Rattle.std.specs.Int.{w16, w32, to_le_bytes}
 use Rattle.ecat_frame.specs.Frame.{Pdu}
 use Rattle.esc_model.specs.Bytes.{register_of, double_word_at}

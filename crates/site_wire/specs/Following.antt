@@ -1,5 +1,6 @@
 -- A device on a wire behind its shadow: what it sends for a datagram, and what real slaves are behind it (ETG.1000.4, slave information interface).
-use Rattle.std.specs.Prelude.{◌≡◌, ℕ, ◌+◌, ◌<◌, ◌⊎◌, ◌==◌, Bool, true, false, IsTrue, refl, List, [], ◌∷◌, ◌++◌, Option, Some, None, slice_get}
+use Rattle.std.specs.Prelude.{◌≡◌, ℕ, ◌+◌, ◌<◌, ◌⊎◌, ◌==◌, Bool, true, false, IsTrue, refl, List, [], ◌∷◌, ◌++◌}
+use Rattle.std.specs.Prelude.{Option, Some, None, slice_get}
 use Rattle.std.specs.Prelude.{slice_index, if◌then◌else◌}
 use Rattle.std.specs.List.{All}
 use Rattle.std.proofs.Common.{sym, subst}
@@ -187,7 +188,8 @@ pub record WireFollows {L F C : Type 0} (device : WireDevice L F C) (seen : Seen
   pub own : device.is_over ≡ false → AreFor device.journal.asking.part (exchanges device.sender.log.all)
 
 -- the law of the trait: a step in which the device isn't asked
-pub follows_on : {L F C : Type 0} (device : WireDevice L F C) (old new : Seen) → IsUnasked old new → WireFollows device old → WireFollows device new
+pub follows_on : {L F C : Type 0} (device : WireDevice L F C) (old new : Seen) → IsUnasked old new → WireFollows device old
+    → WireFollows device new
 follows_on device old new unasked follows = record {
   slaves = still_follows device old new unasked.goes.extends unasked.halves follows.slaves;
   journal = journal_on device.journal old new unasked.goes follows.journal;

@@ -59,7 +59,8 @@ one_step old new before after step so_far = record {
 }
 
 -- a step in which it isn't asked
-pub journal_on : {F : Type 0} (journal : FileDevice F) (old new : Seen) → GoesOn old new → JournalFollows journal old → JournalFollows journal new
+pub journal_on : {F : Type 0} (journal : FileDevice F) (old new : Seen) → GoesOn old new → JournalFollows journal old
+    → JournalFollows journal new
 journal_on journal old new goes (has_followed so_far) =
     has_followed (one_step old new journal journal (goes_on goes (files.unasked refl)) so_far)
 journal_on journal old new goes (refuses unasked_yet failed) = refuses unasked_yet failed

@@ -1,5 +1,6 @@
 //! The slaves on a wire and the journal's file, as the device behind a shadow.
-ghost use Rattle.std.specs.Prelude.{◌≡◌, ◌↔◌, ℕ, ◌<◌, ◌∷◌, ◌==◌, ◌||◌, not, [], true, false, None, Some, length, slice_set, if◌then◌else◌};
+ghost use Rattle.std.specs.Prelude.{◌≡◌, ◌↔◌, ℕ, ◌<◌, ◌∷◌, ◌==◌, ◌||◌, not, [], true, false, None, Some, length};
+ghost use Rattle.std.specs.Prelude.{slice_set, if◌then◌else◌};
 ghost use Rattle.std.specs.Prelude.{IsTrue, IfSome, IsSome};
 ghost use Rattle.ecat_frame.specs.Frame.{Pdu, pdu};
 ghost use Rattle.site_wire.specs.Due.{IsFit, WritesControl};

@@ -1,5 +1,6 @@
 -- Files that stand apart, as they are found one by one.
-use Rattle.std.proofs.Common.{◌≡◌, ℕ, zero, suc, ◌+◌, ◌-◌, ◌<◌, List, [], ◌∷◌, ◌++◌, IfSome, Option, Some, None, length, map, take, drop, get_or, String, Global, string_bytes, refl, sym, ap, ◌∙◌, subst, inl, arith}
+use Rattle.std.proofs.Common.{◌≡◌, ℕ, zero, suc, ◌+◌, ◌-◌, ◌<◌, List, [], ◌∷◌, ◌++◌, IfSome, Option, Some, None, length}
+use Rattle.std.proofs.Common.{map, take, drop, get_or, String, Global, string_bytes, refl, sym, ap, ◌∙◌, subst, inl, arith}
 use Rattle.std.proofs.lemmas.List.{drop_more, get_or-drop, get_or_default, length-drop, map_more, take_more}
 use Rattle.std.specs.List.{AllByRecursion, AllZip, HoldsAt, slice_index_or}
 use Rattle.std.specs.Prelude.{MatchOption}

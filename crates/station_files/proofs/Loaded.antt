@@ -1,13 +1,18 @@
 -- Values that are loaded from files one by one.
-use Rattle.std.proofs.Common.{◌≡◌, ℕ, zero, suc, ◌+◌, ◌<◌, List, [], ◌∷◌, ◌++◌, Result, Ok, Err, IfErr, IfSome, IsSomeAnd, Option, Some, None, length, map, take, drop, get_or, String, Global, string_bytes, refl, sym, ap, ◌∙◌, subst, inl, inr, arith}
+use Rattle.std.proofs.Common.{◌≡◌, ℕ, zero, suc, ◌+◌, ◌<◌, List, [], ◌∷◌, ◌++◌, Result, Ok, Err, IfErr, IfSome, IsSomeAnd}
+use Rattle.std.proofs.Common.{Option, Some, None, length, map, take, drop, get_or, String, Global, string_bytes, refl, sym, ap, ◌∙◌, subst, inl}
+use Rattle.std.proofs.Common.{inr, arith}
 use Rattle.std.proofs.lemmas.Grind.{flat_map-append}
 use Rattle.std.proofs.lemmas.List.{append_assoc, append-nil, take_more}
 use Rattle.std.specs.List.{AllZip}
 use Rattle.std.specs.Prelude.{IsErrAnd, flat_map}
 use Rattle.station_files.specs.Files.{Known, Holds, HasBytes}
-use Rattle.station_files.specs.LineFiles.{IsNoLine, RefusesLine, RefusesLineText, SpellsWords, RefusesWords, RefusesFirst, RefusesSlaves, RefusesPlant, RefusesLayout}
+use Rattle.station_files.specs.LineFiles.{IsNoLine, RefusesLine, RefusesLineText, SpellsWords, RefusesWords, RefusesFirst, RefusesSlaves}
+use Rattle.station_files.specs.LineFiles.{RefusesPlant, RefusesLayout}
 use Rattle.station_files.specs.declared.faults.Fault.{Fault}
-use Rattle.station_files.specs.declared.faults.Fault.TheVariants.{OddLength, BadSize, ImageOverLimit, Memory, Disk, Lost, Stopped, SlaveDead, NotAJournal, BadVersion, BadJournal, WrongLine, Unserved, File, BadHex, BadLine, BadScript, Exists, Busy, SameFile}
+use Rattle.station_files.specs.declared.faults.Fault.TheVariants.{OddLength, BadSize, ImageOverLimit, Memory, Disk, Lost, Stopped, SlaveDead}
+use Rattle.station_files.specs.declared.faults.Fault.TheVariants.{NotAJournal, BadVersion, BadJournal, WrongLine, Unserved, File, BadHex, BadLine}
+use Rattle.station_files.specs.declared.faults.Fault.TheVariants.{BadScript, Exists, Busy, SameFile}
 use Rattle.sii_words.proofs.Quantifiers.{zip_snoc}
 
 -- one more item is loaded, from unchanged files

@@ -1,5 +1,6 @@
 -- Files that are written one after the other.
-use Rattle.std.proofs.Common.{◌≡◌, ◌≢◌, ℕ, ◌+◌, ◌<◌, List, [], ◌∷◌, ◌++◌, Option, IfSome, IsSomeAnd, Contains, length, map, take, get_or, String, Vec, Global, string_bytes, sym, ap, ◌∙◌, subst, arith}
+use Rattle.std.proofs.Common.{◌≡◌, ◌≢◌, ℕ, ◌+◌, ◌<◌, List, [], ◌∷◌, ◌++◌, Option, IfSome, IsSomeAnd, Contains, length}
+use Rattle.std.proofs.Common.{map, take, get_or, String, Vec, Global, string_bytes, sym, ap, ◌∙◌, subst, arith}
 use Rattle.std.proofs.lemmas.List.{get_or-map, length-map, map_more}
 use Rattle.std.proofs.lemmas.List.Elements.{Contains-append_left, Contains-append_right, Contains-get_or}
 use Rattle.station_files.specs.Files.{Known, HasBytes, ChangesOnly, ChangesAmong, HoldsAll}

@@ -7,9 +7,12 @@ use Rattle.station_text.specs.declared.script_command.ScriptEdit.{ScriptEdit}
 use Rattle.station_text.specs.declared.script_command.ScriptEdit.TheVariants.{Alias, Category, Image}
 use Rattle.station_text.specs.declared.script_command.ScriptGroupEdit.{ScriptGroupEdit}
 use Rattle.station_files.specs.Files.{Known, HasBytes}
-use Rattle.station_files.specs.ScriptFiles.{IsNoScript, RefusesCommand, RefusesCommands, RefusesEdit, RefusesGroup, RefusesImages, RefusesOne, RefusesScript, RefusesText}
+use Rattle.station_files.specs.ScriptFiles.{IsNoScript, RefusesCommand, RefusesCommands, RefusesEdit, RefusesGroup, RefusesImages, RefusesOne}
+use Rattle.station_files.specs.ScriptFiles.{RefusesScript, RefusesText}
 use Rattle.station_files.specs.declared.faults.Fault.{Fault}
-use Rattle.station_files.specs.declared.faults.Fault.TheVariants.{OddLength, BadSize, ImageOverLimit, Memory, Disk, Lost, Stopped, SlaveDead, NotAJournal, BadVersion, BadJournal, WrongLine, Unserved, File, BadHex, BadLine, BadScript, Exists, Busy, SameFile}
+use Rattle.station_files.specs.declared.faults.Fault.TheVariants.{OddLength, BadSize, ImageOverLimit, Memory, Disk, Lost, Stopped, SlaveDead}
+use Rattle.station_files.specs.declared.faults.Fault.TheVariants.{NotAJournal, BadVersion, BadJournal, WrongLine, Unserved, File, BadHex, BadLine}
+use Rattle.station_files.specs.declared.faults.Fault.TheVariants.{BadScript, Exists, Busy, SameFile}
 use Rattle.station_files.proofs.Loaded.{of_held}
 
 -- one of the items is refused

@@ -1,5 +1,6 @@
 -- An image as the program reads and writes it: as bytes, or with `--hex` as hexadecimal text.
-use Rattle.std.specs.Prelude.{◌≡◌, ◌⊎◌, ◌/◌, ◌%◌, ℕ, Bool, true, List, length, Option, Some, None, Ok, IsErr, MatchBool, IsUtf8, ⊤}
+use Rattle.std.specs.Prelude.{◌≡◌, ◌⊎◌, ◌/◌, ◌%◌, ℕ, Bool, true, List, length, Option, Some, None, Ok, IsErr, MatchBool, IsUtf8}
+use Rattle.std.specs.Prelude.{⊤}
 use Rattle.hex.specs.Hex.{decode_of, encode_lower}
 use Rattle.sii_words.specs.Words.{IsImageSize}
 use Rattle.station_text.specs.Hexadecimal.{without_whitespace}

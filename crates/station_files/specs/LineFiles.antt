@@ -1,5 +1,6 @@
 -- A line in files: the line file, and the image files that it names.
-use Rattle.std.specs.Prelude.{◌≡◌, ◌⊎◌, ◌/◌, ◌%◌, ℕ, List, ◌∷◌, ◌++◌, length, map, IsSomeAnd, IsUtf8, None, string_bytes, ⊤}
+use Rattle.std.specs.Prelude.{◌≡◌, ◌⊎◌, ◌/◌, ◌%◌, ℕ, List, ◌∷◌, ◌++◌, length, map, IsSomeAnd, IsUtf8, None}
+use Rattle.std.specs.Prelude.{string_bytes, ⊤}
 use Rattle.std.specs.List.{AllZip}
 use Rattle.toml.specs.Parse.{parse_document}
 use Rattle.sii_image.specs.ProcessImage.{process_image}

@@ -1,5 +1,6 @@
 -- The commands that a script file and the image files named in it spell.
-use Rattle.std.specs.Prelude.{◌≡◌, ◌⊎◌, ◌/◌, ◌%◌, ℕ, List, [], ◌∷◌, flat_map, length, All, Contains, IsUtf8, None, string_bytes, ⊤}
+use Rattle.std.specs.Prelude.{◌≡◌, ◌⊎◌, ◌/◌, ◌%◌, ℕ, List, [], ◌∷◌, flat_map, length, All, Contains, IsUtf8, None}
+use Rattle.std.specs.Prelude.{string_bytes, ⊤}
 use Rattle.std.specs.List.{AllZip}
 use Rattle.sii_words.specs.Words.{IsImageSize, bytes_of}
 use Rattle.sii_edit.specs.declared.command.Command.{Command}

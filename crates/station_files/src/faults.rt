@@ -175,6 +175,14 @@ impl Refused {
 }
 
 impl Failure {
+    /// The code that the failure is printed with.
+    pub fn code(self) -> Code {
+        match self {
+            Failure::Fault(fault) => fault.code(),
+            Failure::Refused(refusal) => Refused::from(refusal).code,
+        }
+    }
+
     /// The exit status for this failure, which is never `Done`.
     pub fn status(self) -> ExitStatus
         ensures { result ≢ ExitStatus.Done }
@@ -331,6 +339,13 @@ fn code_of(cause: Cause) -> Code
         Cause::ImageOverLimit => Code::ImageOverLimit,
         Cause::Memory => Code::Memory,
         Cause::WrongIdentity => Code::WrongIdentity,
+    }
+}
+
+/// Work was left undone, and nothing says why.
+impl Default for Failure {
+    fn default() -> Self {
+        Failure::Fault(Fault::Unserved)
     }
 }
 

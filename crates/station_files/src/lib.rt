@@ -1,8 +1,9 @@
-//! Reads the files of a line and of a script into values and writes them back, prints faults, and does the subcommands that need no
+//! Reads the files of a line and of a script into values and writes them back, notes and prints faults, and does the subcommands that need no
 //! journal: `alias`, `show` and `layout`.
 #![tactic(auto)]
 
 mod alias;
+mod failures;
 mod faults;
 mod image;
 mod layout;
@@ -19,6 +20,7 @@ mod show;
 mod store;
 
 pub use alias::set_alias;
+pub use failures::Failures;
 pub use faults::{ExitStatus, Failure, Fault, Refused, worse};
 pub use image::read_image;
 pub use layout::{list_line, show_layout};
@@ -26,7 +28,7 @@ pub use line::{load_line, load_slaves};
 pub use location::{FileId, Location, name_beside};
 pub use printing::{print_listing, write_whole};
 pub use reading::{read_about, read_to_end};
-pub use reporting::{report, report_fault, status_of};
+pub use reporting::report_fault;
 pub use same_files::{Clash, FileNames, find_clash, keep_apart, keep_line_apart};
 pub use saving::{prepare_files, save_slaves, write_files};
 pub use script::{Script, load_script_files};

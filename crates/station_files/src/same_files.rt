@@ -1,5 +1,6 @@
 //! Refuses files of which one would be lost where another one is written.
-ghost use Rattle.std.specs.Prelude.{◌≡◌, ◌≤◌, ◌<◌, ◌∷◌, ◌++◌, [], length, is_some, option_map, string_bytes, vec_len, IfErr, IfOk, MatchOption, OnOk};
+ghost use Rattle.std.specs.Prelude.{◌≡◌, ◌≤◌, ◌<◌, ◌∷◌, ◌++◌, [], length, is_some, option_map, string_bytes, vec_len};
+ghost use Rattle.std.specs.Prelude.{IfErr, IfOk, MatchOption, OnOk};
 ghost use Rattle.std.specs.List.{AllByRecursion, AllZip, HoldsAt};
 ghost use Rattle.station_files.specs.Faults.{IsOfStream};
 ghost use Rattle.station_files.specs.FileNames.{fault_for, files_with, listed, spelt, written_of, IsLineApart, RefusesLineNames, RefusesNames};

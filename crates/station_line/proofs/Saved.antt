@@ -1,5 +1,6 @@
 -- The journal's file is written, and then the slaves' files.
-use Rattle.std.proofs.Common.{◌≡◌, ◌≢◌, ℕ, List, [], ◌∷◌, Option, Result, Ok, Err, OnOk, IfSome, IsSomeAnd, sym, subst, ◌∙◌, arith}
+use Rattle.std.proofs.Common.{◌≡◌, ◌≢◌, ℕ, List, [], ◌∷◌, Option, Result, Ok, Err, OnOk, IfSome, IsSomeAnd, sym, subst, ◌∙◌}
+use Rattle.std.proofs.Common.{arith}
 use Rattle.std.proofs.lemmas.List.Elements.{Contains-append_left, Contains-append_right}
 use Rattle.station_files.specs.Files.{Known, HasBytes, ChangesOnly, ChangesAmong, HoldsAll}
 

@@ -1,10 +1,9 @@
 //! The subcommands that read EEPROM images: `show`, `alias` and `diff`.
 
 use crate::arguments::{JSON, form_of};
-use crate::serving::told;
 use command_line::{Argument, Given, Kind, Subcommand, is_digits};
 use line_changes::diff_images;
-use station_files::{ExitStatus, Failure, Store, report, set_alias, show_image};
+use station_files::{ExitStatus, Failure, Store, set_alias, show_image};
 use station_json::{Form, diff_as_json, show_as_json};
 use station_troubles::Files;
 use std::alloc::Global;
@@ -248,52 +247,42 @@ fn file_of<'a>(given: &Given<'a>, argument: &str) -> Option<&'a str> {
 }
 
 /// Carries out a task that reads images.
-pub(crate) fn serve_image<R: Read, S: Store, W: Write, E: Write>(
+///
+/// # Errors
+///
+/// As for `set_alias`, `show_image` and `diff_images`.
+pub(crate) fn serve_image<R: Read, S: Store, W: Write>(
     alloc: Global,
     task: ImageTask<'_>,
     input: &mut R,
     store: &mut S,
     output: &mut W,
-    faults: &mut E,
-) -> ExitStatus {
-    match task {
+) -> Result<ExitStatus, Failure> {
+    let ended = match task {
         ImageTask::Alias { value, hex, file } => {
-            let ended = set_alias(alloc, value, hex, file, input, store, output);
-            done(ended, faults)
+            set_alias(alloc, value, hex, file, input, store, output)?;
+            ExitStatus::Done
         }
         ImageTask::Show {
             hex,
             all,
-            form,
+            form: Form::Text,
             file,
-        } => {
-            let shown = match form {
-                Form::Text => show_image(alloc, hex, all, file, input, store, output),
-                Form::Json => show_as_json(alloc, hex, all, file, input, store, output),
-            };
-            told(shown, faults)
+        } => show_image(alloc, hex, all, file, input, store, output)?,
+        ImageTask::Show { hex, all, file, .. } => {
+            show_as_json(alloc, hex, all, file, input, store, output)?
         }
         ImageTask::Diff {
             hex,
-            form,
+            form: Form::Text,
             old,
             new,
-        } => {
-            let listed = match form {
-                Form::Text => diff_images(alloc, hex, old, new, input, store, output),
-                Form::Json => diff_as_json(alloc, hex, old, new, input, store, output),
-            };
-            told(listed, faults)
+        } => diff_images(alloc, hex, old, new, input, store, output)?,
+        ImageTask::Diff { hex, old, new, .. } => {
+            diff_as_json(alloc, hex, old, new, input, store, output)?
         }
-    }
-}
-
-/// `Done`, or the exit status of the failure, which is printed.
-fn done<E: Write>(ended: Result<(), Failure>, faults: &mut E) -> ExitStatus {
-    match ended {
-        Ok(()) => ExitStatus::Done,
-        Err(failure) => report(failure, faults),
-    }
+    };
+    Ok(ended)
 }
 
 /// The files that a task reads.

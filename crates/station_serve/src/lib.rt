@@ -8,8 +8,9 @@ mod line_work;
 mod pages;
 mod request;
 mod serving;
+mod streams;
 
 pub use command_line::refuse_words;
 pub use serving::serve;
 pub use station_files::{LockFault, Store};
-pub use station_session::Streams;
+pub use streams::Streams;

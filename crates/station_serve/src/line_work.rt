@@ -1,11 +1,10 @@
 //! The subcommands that work on a line: `init`, `run` and `recover`.
 
 use crate::arguments::{LINE, QUIET, REPORT, SCRIPT};
-use crate::serving::told;
 use command_line::{Argument, Given, Kind, Subcommand, TYPED_COMMANDS};
 use line_changes::{Before, look_before, report_behind};
-use station_files::{ExitStatus, Fault, Store};
-use station_session::{Fuse, RunNames, Streams, Watch, recover_line, run_script};
+use station_files::{ExitStatus, Failures, Fault, Store, worse};
+use station_session::{Answers, Fuse, RunNames, Watch, recover_line, run_script};
 use std::alloc::Global;
 use std::io::Write;
 use std::rt::Clock;
@@ -185,53 +184,48 @@ pub(crate) fn serve_run<
     H: Wait + Threads + Clock + AllocGlobal + Sync,
     S: Store,
     W: Write,
-    E: Write,
     T: Write + Send,
->(
-    watch: Watch<'_, T, H>,
-    run: RunTask<'_>,
-    store: &mut S,
-    streams: Streams<'_, W, E>,
-) -> ExitStatus {
+>(watch: Watch<'_, T, H>, run: RunTask<'_>, store: &mut S, answers: Answers<'_, W>) -> ExitStatus {
     let alloc = watch.rt.alloc();
-    let Streams { output, faults } = streams;
+    let Answers { output, failures } = answers;
     let looked = look_before(alloc, run.reports, run.names.line, store);
-    let streams = Streams {
+    let lent = Answers {
         output: &mut *output,
-        faults: &mut *faults,
+        failures: &mut *failures,
     };
-    let ended = run_script(watch, run.names, run.fuse, store, streams).map(|ran| ran.status);
-    end_report(alloc, looked, ended, store, output, faults)
+    let ended = run_script(watch, run.names, run.fuse, store, lent).map(|ran| ran.status);
+    end_report(alloc, looked, ended, store, output, failures)
 }
 
 /// Recovers a line, and prints what has changed if that is asked for.
-pub(crate) fn serve_recovery<H: Wait + Clock + AllocGlobal, S: Store, W: Write, E: Write, T: Write>(
+pub(crate) fn serve_recovery<H: Wait + Clock + AllocGlobal, S: Store, W: Write, T: Write>(
     watch: Watch<'_, T, H>,
     line: &str,
     reports: bool,
     store: &mut S,
-    streams: Streams<'_, W, E>,
+    answers: Answers<'_, W>,
 ) -> ExitStatus {
     let alloc = watch.rt.alloc();
-    let Streams { output, faults } = streams;
+    let Answers { output, failures } = answers;
     let looked = look_before(alloc, reports, line, store);
-    let streams = Streams {
+    let lent = Answers {
         output: &mut *output,
-        faults: &mut *faults,
+        failures: &mut *failures,
     };
-    let ended = recover_line(watch, line, store, streams).map(|recovery| recovery.status);
-    end_report(alloc, looked, ended, store, output, faults)
+    let ended = recover_line(watch, line, store, lent).map(|recovery| recovery.status);
+    end_report(alloc, looked, ended, store, output, failures)
 }
 
-/// Prints the fault that a run or a recovery ended with, if there is one, and what has changed if that is asked for.
-fn end_report<S: Store, W: Write, E: Write>(
+/// Notes the fault that a run or a recovery ended with, if there is one, and prints what has changed if that is asked for.
+fn end_report<S: Store, W: Write>(
     alloc: Global,
     looked: Result<Option<Before>, Fault>,
     ended: Result<ExitStatus, Fault>,
     store: &mut S,
     output: &mut W,
-    faults: &mut E,
+    failures: &mut Failures,
 ) -> ExitStatus {
-    let status = told(ended, faults);
-    report_behind(alloc, looked, status, store, output, faults)
+    let status = failures.note_status(ended);
+    let reported = report_behind(alloc, looked, status, store, output);
+    worse(status, failures.note_end(reported))
 }

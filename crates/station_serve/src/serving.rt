@@ -5,13 +5,14 @@ use crate::line_listings::list_layout;
 use crate::line_work::{serve_recovery, serve_run};
 use crate::pages::{explanation, print_page};
 use crate::request::{Request, Task, completions_for, manual_of, read_arguments};
+use crate::streams::Streams;
 use command_line::{INPUT, InputScript, Script, Unread};
 use line_watch::Progress;
-use station_files::{ExitStatus, Fault, Store, report_fault, status_of};
+use station_files::{ExitStatus, Failure, Failures, Fault, Store, report_fault};
 use station_line::init_line;
 use station_plan::{plan_script, show_journal};
-use station_session::{Streams, Watch};
-use station_troubles::{Files, Heard, LineNames, Remembering, tell_more};
+use station_session::{Answers, Watch};
+use station_troubles::{Files, LineNames, Remembering, tell_more};
 use std::io::{Read, Write};
 use std::rt::Clock;
 use std::sync::Wait;
@@ -87,7 +88,8 @@ fn watch_of<'a, T, H>(rt: &'a H, progress: Option<&'a Progress<T>>) -> Watch<'a,
     Watch { rt, progress }
 }
 
-/// Carries out a task. Where `is_told` and it ends with a fault or a refusal of its own, a line more says what that was about.
+/// Carries out a task, and then prints what has gone wrong. Where `is_told` and that is a fault or a refusal of its own, a line more says what the
+/// first was about.
 fn serve_and_tell<
     H: Wait + Threads + Clock + AllocGlobal + Sync,
     R: Read,
@@ -106,19 +108,21 @@ fn serve_and_tell<
     let alloc = watch.rt.alloc();
     let Streams { output, faults } = streams;
     let mut known = Remembering::new(alloc, store, is_told);
-    let mut heard = Heard::new(&mut *faults);
-    let streams = Streams {
+    let mut failures = Failures::none();
+    let answers = Answers {
         output,
-        faults: &mut heard,
+        failures: &mut failures,
     };
-    let status = serve_task(watch, task, input, &mut known, streams);
-    match heard.code() {
-        Some(code) if is_told => {
+    let status = serve_task(watch, task, input, &mut known, answers);
+    failures.print(faults);
+    match failures.first() {
+        Some(failure) if is_told => {
+            let files = files_of(task);
             tell_more(
                 alloc,
                 "sii_station",
-                code,
-                files_of(task),
+                failure.code(),
+                files,
                 &mut known,
                 faults,
             );
@@ -160,49 +164,42 @@ fn serve_task<
     R: Read,
     S: Store,
     W: Write,
-    E: Write,
     T: Write + Send,
 >(
     watch: Watch<'_, T, H>,
     task: Task<'_>,
     input: &mut R,
     store: &mut S,
-    streams: Streams<'_, W, E>,
+    answers: Answers<'_, W>,
 ) -> ExitStatus {
     let alloc = watch.rt.alloc();
-    let Streams { output, faults } = streams;
-    match task {
-        Task::Image(image) => serve_image(alloc, image, input, store, output, faults),
-        Task::Layout { line, form } => {
-            status_of(list_layout(alloc, line, form, store, output), faults)
-        }
-        Task::Explain { code } => status_of(print_page(explanation(alloc, code), output), faults),
-        Task::Completions { shell } => status_of(
-            print_page(completions_for(alloc, shell), output),
-            faults,
-        ),
-        Task::Man => status_of(print_page(manual_of(alloc), output), faults),
-        Task::Init { line } => status_of(init_line(alloc, line, store, output), faults),
-        Task::Plan { line, script, form } => {
-            let planned = plan_script(alloc, line, script, form, store, output);
-            told(planned, faults)
-        }
-        Task::Journal { line, form } => {
-            status_of(show_journal(alloc, line, form, store, output), faults)
-        }
-        Task::Run(run) => serve_run(watch, run, store, Streams { output, faults }),
+    let Answers { output, failures } = answers;
+    let ended = match task {
+        Task::Run(run) => return serve_run(watch, run, store, Answers { output, failures }),
         Task::Recover { line, reports } => {
-            serve_recovery(watch, line, reports, store, Streams { output, faults })
+            return serve_recovery(watch, line, reports, store, Answers { output, failures });
         }
+        Task::Image(image) => serve_image(alloc, image, input, store, output),
+        Task::Layout { line, form } => done(list_layout(alloc, line, form, store, output)),
+        Task::Explain { code } => done(print_page(explanation(alloc, code), output)),
+        Task::Completions { shell } => done(print_page(completions_for(alloc, shell), output)),
+        Task::Man => done(print_page(manual_of(alloc), output)),
+        Task::Init { line } => done(init_line(alloc, line, store, output)),
+        Task::Plan { line, script, form } => {
+            plan_script(alloc, line, script, form, store, output).map_err(Failure::from)
+        }
+        Task::Journal { line, form } => done(show_journal(alloc, line, form, store, output)),
+    };
+    match ended {
+        Ok(status) => status,
+        Err(failure) => failures.note_failure(failure),
     }
 }
 
-/// The exit status that a subcommand ended with, or that of its fault, which is printed.
-pub(crate) fn told<E: Write>(ended: Result<ExitStatus, Fault>, faults: &mut E) -> ExitStatus {
-    match ended {
-        Ok(status) => status,
-        Err(fault) => report_fault(fault, faults),
-    }
+/// `Done`, where no fault came.
+fn done(ended: Result<(), Fault>) -> Result<ExitStatus, Failure> {
+    ended?;
+    Ok(ExitStatus::Done)
 }
 
 /// Prints the help or the version that was asked for, or what is wrong with the arguments.

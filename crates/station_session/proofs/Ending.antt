@@ -26,7 +26,8 @@ use Rattle.station_line.specs.Judging.{HasJournal, IsRunApart}
 use Rattle.station_line.specs.Site.{files_of, HoldsSite}
 use Rattle.station_line.specs.Rounds.{ServesSo}
 use Rattle.station_line.specs.Opened.{is_old, Loads, StartsFrom}
-use Rattle.station_session.specs.Session.{BeginsCapture, EndsCaptured, EndsRecovery, EndsRun, EndsStation, RecoversFiles, RunsFiles, SavedSoundly, SavesRecovered}
+use Rattle.station_session.specs.Session.{BeginsCapture, EndsCaptured, EndsRecovery, EndsRun, EndsStation, RecoversFiles, RunsFiles, SavedSoundly}
+use Rattle.station_session.specs.Session.{SavesRecovered}
 use Rattle.script_session.specs.Saving.{SavesRun, SavesServed}
 
 -- ---- a station that was opened

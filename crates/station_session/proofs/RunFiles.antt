@@ -1,8 +1,9 @@
 -- What a power cut leaves in the files of a run.
-use Rattle.std.proofs.Common.{◌≡◌, ◌∙◌, ℕ, ◌+◌, zero, suc, eq-eqb, Bool, true, false, List, [], ◌∷◌, Some, slice_get, IsTrue, Result, Ok, Err, refl}
+use Rattle.std.proofs.Common.{◌≡◌, ◌∙◌, ℕ, ◌+◌, zero, suc, eq-eqb, Bool, true, false, List, [], ◌∷◌, Some, slice_get, IsTrue}
+use Rattle.std.proofs.Common.{Result, Ok, Err, refl}
 use Rattle.std.proofs.Common.{sym, ap, subst, inl, inr, arith}
 use Rattle.std.proofs.lemmas.List.{append_cancel_left}
-use Rattle.std.specs.Prelude.{◌⊎◌, IfSome, IsSomeAnd, None, OnOk, Option}
+use Rattle.std.specs.Prelude.{◌⊎◌, IfSome, IsSomeAnd, None, OnErr, OnOk, Option}
 use Rattle.std.specs.List.{AllByRecursion}
 use Rattle.sii_edit.specs.declared.command.Command.{Command}
 use Rattle.esc_model.specs.SlaveHalf.{SlaveHalf}
@@ -54,14 +55,17 @@ use Rattle.script_session.specs.declared.told.UnservedTold.{UnservedTold}
 use Rattle.script_session.specs.declared.told.UnservedTold.TheVariants as unserved
 use Rattle.script_session.specs.declared.told.DeskTold.{DeskTold}
 use Rattle.script_session.specs.declared.told.PartTold.{PartTold}
-use Rattle.script_session.specs.Parts.{AreFollowed, AreSound, AreToldOf, BeginsWith, EndsWith, IsDeskTold, IsTogether, IsWorkFollowed, Soundly, Telling}
+use Rattle.script_session.specs.Parts.{AreFollowed, AreSound, AreToldOf, BeginsWith, EndsWith, IsDeskTold, IsTogether, IsWorkFollowed, Soundly}
+use Rattle.script_session.specs.Parts.{Telling}
 use Rattle.script_session.proofs.LeftLaws.{first, opened-on, placed-back}
 use Rattle.script_session.proofs.SlaveLaws.{placed-at}
-use Rattle.station_session.specs.RunFiles.{BeginsPart, DeskGoes, GoesAlone, GoesBehind, GoesFollowed, HoldTogether, IsLeftBy, KeepsAtDesk, KeepsParts}
+use Rattle.script_session.specs.Behind.{GoesBehindDesk, GoesFollowed, ServesSome, Tells}
+use Rattle.station_session.specs.RunFiles.{BeginsPart, DeskGoes, GoesAlone, GoesBehind, HoldTogether, IsLeftBy, KeepsAtDesk, KeepsParts}
 use Rattle.station_session.specs.RunFiles.{OfDevices, OfFiles, RunsFollowed, KeepsRunFiles, RunKeepsFiles, Says, ServesFollowedBy, ServesOn}
 use Rattle.station_session.specs.declared.told.RunTold.{RunTold}
-use Rattle.station_session.specs.RunFiles.{DeskTells, HaveAsked, IsTold, KeepsAsTold, KeepsDeskAsTold, KeepsPartsAsTold, ServesAsTold, TellsOf, desk_of, line_told, opening_of}
-use Rattle.station_session.specs.RunFiles.{ServesSome, unbegun, idle, apart, served, unopened, opened, unrecovered, recovered}
+use Rattle.station_session.specs.RunFiles.{DeskTells, HaveAsked, IsTold, KeepsAsTold, KeepsDeskAsTold, KeepsPartsAsTold, ServesAsTold, TellsOf}
+use Rattle.station_session.specs.RunFiles.{desk_of, line_told, opening_of}
+use Rattle.station_session.specs.RunFiles.{unbegun, idle, apart, served, unopened, opened, unrecovered, recovered}
 use Rattle.station_line.specs.Opened.{GoesKept, Loads}
 use Rattle.station_line.specs.Rounds.{Goes}
 use Rattle.station_line.specs.Site.{IsFollowed}
@@ -476,6 +480,24 @@ pub goes_alone : {D T : Type 0} (follows : D → Seen → Type 0) (well : D → 
 goes_alone follows well tells told before r commands status goes begins some =
     recovered some.accepted some.last.seen some.among
     (serves_behind (TellsOf follows tells told.behind) before r some.accepted some.last goes begins some.goes some.followed)
+
+-- what went behind a desk whose parts ended soundly
+pub goes_behind_desk : {D T : Type 0} (follows : D → Seen → Type 0) (well : D → Type 0) (tells : D → T → Type 0) (told : RunTold T) (behind : T)
+    (is_driven : Bool) (sound : Result (Unit {0}) Fault) (commands : List Command) (left : Seen) (ended : Result ExitStatus Fault) (status : ExitStatus)
+    → sound ≡ Ok tt → told.behind ≡ Some behind → OnErr ended (¬ IsFaultless status)
+    → GoesBehindDesk (Tells follows tells behind) is_driven commands left ended
+    → GoesBehind (OfDevices follows well tells told) is_driven sound commands left status
+goes_behind_desk {D} {T} follows well tells told behind true sound commands left ended status is tells_so bad goes =
+    behind_driven (OfDevices follows well tells told) true sound commands left status is refl
+    (goes.0, subst (λ (t : Option T). GoesFollowed (TellsOf follows tells t) left goes.0) (sym tells_so) goes.1)
+goes_behind_desk {D} {T} follows well tells told behind false sound commands left ended status is tells_so bad (inl (last, fault, goes, failed)) =
+    behind_failed (OfDevices follows well tells told) false sound commands left status is
+    (subst (λ (r : Result ExitStatus Fault). OnErr r (¬ IsFaultless status)) failed bad) last
+    (subst (λ (t : Option T). GoesFollowed (TellsOf follows tells t) left last) (sym tells_so) goes)
+goes_behind_desk {D} {T} follows well tells told behind false sound commands left ended status is tells_so bad (inr serves) =
+    behind_alone (OfDevices follows well tells told) false sound commands left status is refl
+    (goes_alone follows well tells told left serves.r commands status serves.goes serves.begins
+    (subst (λ (t : Option T). ServesSome (TellsOf follows tells t) commands serves.r) (sym tells_so) serves.serves))
 
 -- what a line was not served with, by what `serve_by_threads` tells
 pub not_served : {D T : Type 0} (follows : D → Seen → Type 0) (well : D → Type 0) (tells : D → T → Type 0) (told : RunTold T) (station : Station)

@@ -1,6 +1,7 @@
 -- A run on the files of a line: what a power cut leaves in them as the station is opened, while its desk is at work, and as the line is recovered
 -- behind it.
-use Rattle.std.specs.Prelude.{◌≡◌, ℕ, Bool, true, false, List, ◌++◌, Result, Ok, Err, OnOk, Option, Some, None, is_some, IfSome, IsSomeAnd}
+use Rattle.std.specs.Prelude.{◌≡◌, ℕ, Bool, true, false, List, ◌++◌, Result, Ok, Err, OnOk, Option, Some, None, is_some, IfSome}
+use Rattle.std.specs.Prelude.{IsSomeAnd}
 use Rattle.std.specs.Prelude.{slice_get, IsTrue}
 use Rattle.sii_edit.specs.declared.command.Command.{Command}
 use Rattle.site_core.specs.State.{Pair, Seen}
@@ -34,8 +35,8 @@ use Rattle.station_files.specs.Files.{Known}
 use Rattle.station_files.specs.ScriptFiles.{SpellsCommands}
 use Rattle.station_files.specs.declared.faults.ExitStatus.{ExitStatus}
 use Rattle.station_files.specs.declared.faults.Fault.{Fault}
-use Rattle.station_line.specs.Opened.{GoesKept}
 use Rattle.script_session.specs.declared.closing.Ending.{Ending}
+use Rattle.script_session.specs.Behind.{GoesFollowed}
 use Rattle.script_session.specs.AtDesk.{BeginsAs, DeskServes, EndsFollowed, PartsEnd, ServesParts, seen_of}
 use Rattle.script_session.specs.declared.told.DeskTold.{DeskTold}
 use Rattle.script_session.specs.declared.told.UnservedTold.{UnservedTold}
@@ -43,7 +44,7 @@ use Rattle.script_session.specs.declared.told.UnservedTold.TheVariants as unserv
 use Rattle.script_session.specs.declared.told.PartTold.{PartTold}
 use Rattle.script_session.specs.Parts.{AreSound, AreUnserved, IsDeskTold}
 use Rattle.station_session.specs.declared.told.RunTold.{RunTold}
-use Rattle.station_line.specs.Rounds.{AreAmong, Goes}
+use Rattle.station_line.specs.Rounds.{AreAmong}
 use Rattle.station_line.specs.Site.{IsFollowed}
 use Rattle.station_line.specs.Opened.{Loads}
 
@@ -95,25 +96,12 @@ pub data RunGoes (says : Says) (before : Seen) (commands : List Command) (status
 
 -- ---- by devices
 
--- The site went on so, and a device keeps this of it.
-pub record GoesFollowed {D : Type 0} (follows : D → Seen → Type 0) (before now : Seen) : Type 0 where
-  pub goes : GoesKept before now
-  pub followed : IsFollowed follows now
-
 -- The site was recovered, and then a station on it accepted these commands: calls alone led it on, what was kept for a machine stays so at each
 -- moment of them, and a device keeps this of the site.
 pub record ServesOn {D : Type 0} (follows : D → Seen → Type 0) (commands : List Command) (before now : Seen) : Type 0 where
   pub goes_on : SiteFollows before now
   pub keeps : KeepsServing commands before now
   pub followed : IsFollowed follows now
-
--- A station on one thread accepted some of these commands, and a device keeps this of its site.
-pub record ServesSome {D : Type 0} (follows : D → Seen → Type 0) (commands : List Command) (opened : Station) : Type 0 where
-  pub accepted : List Command
-  pub among : AreAmong accepted commands
-  pub last : Station
-  pub goes : Goes accepted opened last
-  pub followed : IsFollowed follows last.seen
 
 -- what is told of the line's device as the station was opened: with those of its parts, if it was taken apart
 abbrev pub line_told : {T : Type 0} → Option (DeskTold T) → Option T → Option T
@@ -152,13 +140,13 @@ OfDevices follows well tells told = record {
 }
 
 -- A run, with devices that keep this of its sites.
-abbrev pub RunsFollowed : {D T : Type 0} → (D → Seen → Type 0) → (D → Type 0) → (D → T → Type 0) → Seen → List Command → ExitStatus → RunTold T
-    → Type 0
+abbrev pub RunsFollowed : {D T : Type 0} → (D → Seen → Type 0) → (D → Type 0) → (D → T → Type 0) → Seen → List Command
+    → ExitStatus → RunTold T → Type 0
 RunsFollowed follows well tells before commands status told = RunGoes (OfDevices follows well tells told) before commands status
 
 -- The same of an open station.
-abbrev pub ServesFollowedBy : {D T : Type 0} → (D → Seen → Type 0) → (D → Type 0) → (D → T → Type 0) → Station → List Command → ExitStatus
-    → RunTold T → Type 0
+abbrev pub ServesFollowedBy : {D T : Type 0} → (D → Seen → Type 0) → (D → Type 0) → (D → T → Type 0) → Station → List Command
+    → ExitStatus → RunTold T → Type 0
 ServesFollowedBy follows well tells station commands status told = DeskGoes (OfDevices follows well tells told) station commands status
 
 -- ---- on files

@@ -6,8 +6,7 @@ ghost use Rattle.station_session.specs.Session.{BeginsCapture};
 
 use line_watch::{BeginFault, Capture};
 use site_file::RandomAccessFile;
-use station_files::{ExitStatus, Fault, Store, report_fault, worse};
-use std::io::Write;
+use station_files::{ExitStatus, Failures, Fault, Store, worse};
 
 /// Begins a capture in the file of this name, if there is one.
 ///
@@ -39,11 +38,11 @@ fn begin_in<S: Store>(name: &str, store: &mut S) -> Result<Option<Capture<S::Fil
     }
 }
 
-/// Ends the capture of a run that ends with this status, and returns the status of both. A fault of the capture is printed.
-pub fn end_capture<F: RandomAccessFile + Drop, E: Write>(
+/// Ends the capture of a run that ends with this status, and returns the status of both. A fault of the capture is noted.
+pub fn end_capture<F: RandomAccessFile + Drop>(
     capture: Option<Capture<F>>,
     status: ExitStatus,
-    faults: &mut E,
+    failures: &mut Failures,
 ) -> ExitStatus
     ensures { (result ≡ status) ⊎ (¬ IsFaultless result) }
 {
@@ -52,6 +51,6 @@ pub fn end_capture<F: RandomAccessFile + Drop, E: Write>(
     };
     match capture.end() {
         Ok(()) => status,
-        Err(error) => worse(status, report_fault(Fault::from(error), faults)),
+        Err(error) => worse(status, failures.note(Fault::from(error))),
     }
 }

@@ -6,14 +6,14 @@ ghost use Rattle.station_line.specs.Opened.{is_old, IsFresh};
 ghost use Rattle.station_line.specs.Site.{files_of};
 ghost use Rattle.station_session.specs.Session.{EndsRun, EndsStation, IsRefusal};
 
-use crate::streams::Streams;
+use crate::answers::Answers;
 use line_watch::{Capture, Captured};
 use sii_edit::Command;
 use site_journal::ReadFault;
 use site_mem::{FaultPlan, Pattern};
 use site_shadow::{Device, ShadowSite};
 use station_alone::{Alone, OpenFault};
-use station_files::{ExitStatus, Store, report_fault, status_of, worse};
+use station_files::{ExitStatus, Failures, Store, worse};
 use station_line::{Given, Session, of_open, open_station, save_site, serve_commands};
 use station_text::LineFile;
 use std::alloc::Global;
@@ -31,13 +31,13 @@ pub struct Fuse {
 }
 
 /// Opens the station on the line in memory, serves the commands up to the power cut, and saves what the line holds.
-pub(crate) fn run_fused<S: Store, W: Write, E: Write, R: Wait + Clock + AllocGlobal>(
+pub(crate) fn run_fused<S: Store, W: Write, R: Wait + Clock + AllocGlobal>(
     rt: &R,
     given: Given<S::Lock>,
     fuse: Fuse,
     capture: Option<&Capture<S::File>>,
     store: &mut S,
-    streams: Streams<'_, W, E>,
+    answers: Answers<'_, W>,
 ) -> ExitStatus
     requires fresh { IsFresh given.session.line given.session.site }
     requires old { given.session.is_old ≡ is_old given.session.site.seen.state.disk.bytes }
@@ -56,10 +56,10 @@ pub(crate) fn run_fused<S: Store, W: Write, E: Write, R: Wait + Clock + AllocGlo
     let plan = FaultPlan::fused(u64::from(fuse.writes) + 1, Pattern::Fill(fuse.left));
     let device = Captured::new(plan, capture, rt);
     match open_station(rt.alloc(), site, is_old, Some(device)) {
-        Ok(alone) => run_station(rt.alloc(), &line, alone, commands, store, streams),
+        Ok(alone) => run_station(rt.alloc(), &line, alone, commands, store, answers),
         Err((left, fault)) => {
             drop(commands);
-            give_up(rt.alloc(), &line, left, fault, store, streams.faults)
+            give_up(rt.alloc(), &line, left, fault, store, answers.failures)
         }
     }
 }
@@ -71,15 +71,15 @@ fn is_refused(fault: &OpenFault) -> bool
     matches!(fault, OpenFault::Journal(ReadFault::Journal(_)))
 }
 
-/// Prints why a line in memory can't be opened or recovered, and saves what the line holds. No file is written where the journal was
+/// Notes why a line in memory can't be opened or recovered, and saves what the line holds. No file is written where the journal was
 /// refused.
-fn give_up<D: Device + Drop, S: Store, E: Write>(
+fn give_up<D: Device + Drop, S: Store>(
     alloc: Global,
     line: &LineFile,
     site: ShadowSite<D>,
     fault: OpenFault,
     store: &mut S,
-    faults: &mut E,
+    failures: &mut Failures,
 ) -> ExitStatus
     requires disk { IsTrue site.line.has_disk }
     requires slaves { length site.line.sizes ≡ length line.now.images.items }
@@ -88,34 +88,34 @@ fn give_up<D: Device + Drop, S: Store, E: Write>(
     ensures refused { IsRefusal fault → S.files store.new ≡ S.files store.old }
 {
     let is_refused = is_refused(&fault);
-    let status = report_fault(of_open(fault), faults);
+    let status = failures.note(of_open(fault));
     if is_refused {
         drop(site);
         return status;
     }
     let saved = save_site(alloc, line, site, store);
-    worse(status, status_of(saved, faults))
+    worse(status, failures.note_end(saved))
 }
 /// Serves the commands on a station in memory, and saves what its line holds, also after a fault.
-fn run_station<D: Device + Drop, S: Store, W: Write, E: Write>(
+fn run_station<D: Device + Drop, S: Store, W: Write>(
     alloc: Global,
     line: &LineFile,
     mut alone: Alone<ShadowSite<D>>,
     commands: Vec<Command>,
     store: &mut S,
-    streams: Streams<'_, W, E>,
+    answers: Answers<'_, W>,
 ) -> ExitStatus
     requires disk { IsTrue alone.line.has_disk }
     requires slaves { length alone.line.sizes ≡ length line.now.images.items }
     ensures { EndsStation true (S.files store.old) (S.files store.new) line.now alone commands.items result }
 {
-    let Streams { output, faults } = streams;
+    let Answers { output, failures } = answers;
     let mut status = ExitStatus::Done;
     let slaves = line.images.len() as u16;
     let served = serve_commands(&mut alone, slaves, commands, output, &mut status);
     let (core, site) = alone.into_parts();
     drop(core);
     let saved = save_site(alloc, line, site, store);
-    let ended = worse(status_of(served, faults), status_of(saved, faults));
+    let ended = worse(failures.note_end(served), failures.note_end(saved));
     worse(status, ended)
 }

@@ -2,20 +2,20 @@
 //! and the line is recovered.
 #![tactic(auto)]
 
+mod answers;
 mod capture;
 mod fused;
 mod on_files;
 mod recovery;
 mod run;
-mod streams;
 mod threads;
 mod told;
 mod watch;
 
+pub use answers::Answers;
 pub use capture::{begin_capture, end_capture};
 pub use fused::Fuse;
 pub use recovery::{Recovery, recover_line};
 pub use run::{Ran, RunNames, run_script};
-pub use streams::Streams;
 pub use told::{FilesTold, RunTold};
 pub use watch::Watch;

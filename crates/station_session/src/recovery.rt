@@ -5,13 +5,13 @@ ghost use Rattle.station_line.specs.Refusals.{RefusesRecovery};
 ghost use Rattle.station_session.specs.Session.{EndsRecovery, RecoversFiles};
 ghost use Rattle.station_line.specs.Opened.{IsFresh};
 
+use crate::answers::Answers;
 use crate::on_files::{Apart, Saved, WatchedSite, save_sound, take_apart};
-use crate::streams::Streams;
 use crate::watch::Watch;
 use line_watch::{Cleared, Watched};
 use site_file::{FileDevice, Finished};
 use station_alone::{Recovered, recover};
-use station_files::{ExitStatus, Fault, Store, report_fault, status_of, worse};
+use station_files::{ExitStatus, Failures, Fault, Store, worse};
 use station_line::{Session, load_session, of_journal, of_open, open_files, write_recovered};
 use station_text::LineFile;
 use std::alloc::Global;
@@ -30,7 +30,7 @@ pub struct Recovery<F> {
 
 /// Recovers the line whose line file is `name`, on its files, and prints what was recovered. Returns the exit status, and the files that were open.
 ///
-/// The files are read in this order: line file, images of the slaves, journal. After any later fault, which is printed, the files hold what
+/// The files are read in this order: line file, images of the slaves, journal. After any later fault, which is noted, the files hold what
 /// was written so far, and another recovery completes it. What a power cut leaves in the open files at any moment, all of them together, is kept
 /// for each machine for which what was read is kept; behind `Done` each image has the contents, synced.
 ///
@@ -40,11 +40,11 @@ pub struct Recovery<F> {
 ///
 /// As for `load_session`; then `NotAJournal`, `BadVersion`, `WrongLine` or `BadJournal` where the journal is refused. No file was written,
 /// and none was opened for writing.
-pub fn recover_line<S: Store, W: Write, E: Write, T: Write, R: Wait + Clock + AllocGlobal>(
+pub fn recover_line<S: Store, W: Write, T: Write, R: Wait + Clock + AllocGlobal>(
     watch: Watch<'_, T, R>,
     name: &str,
     store: &mut S,
-    streams: Streams<'_, W, E>,
+    answers: Answers<'_, W>,
 ) -> Result<Recovery<S::File>, Fault>
     ensures recovered { IfOk result (λ recovery. RecoversFiles S.leads (S.files store.old) (S.files store.new) name.now recovery.status
         (option_map (λ files. files.log) recovery.files)) }
@@ -54,7 +54,7 @@ pub fn recover_line<S: Store, W: Write, E: Write, T: Write, R: Wait + Clock + Al
     let session = load_session(watch.rt.alloc(), name, store)?;
     let refusal = session.refusal;
     match refusal {
-        None => Ok(recover_session(watch, session, store, streams)),
+        None => Ok(recover_session(watch, session, store, answers)),
         Some(fault) => {
             drop(session);
             Err(of_journal(fault))
@@ -63,18 +63,18 @@ pub fn recover_line<S: Store, W: Write, E: Write, T: Write, R: Wait + Clock + Al
 }
 
 /// Opens the files of a line that was read, and recovers the line on them. The line of the progress gives way to what is printed.
-fn recover_session<S: Store, W: Write, E: Write, T: Write, R: Wait + Clock + AllocGlobal>(
+fn recover_session<S: Store, W: Write, T: Write, R: Wait + Clock + AllocGlobal>(
     watch: Watch<'_, T, R>,
     session: Session<S::Lock>,
     store: &mut S,
-    streams: Streams<'_, W, E>,
+    answers: Answers<'_, W>,
 ) -> Recovery<S::File>
     requires fresh { IsFresh session.line session.site }
     ensures { EndsRecovery (S.files store.old) (S.files store.new) session.line session.site.seen result.status
         (option_map (λ files. files.log) result.files) }
 {
     let Watch { rt, progress } = watch;
-    let Streams { output, faults } = streams;
+    let Answers { output, failures } = answers;
     let Session {
         line,
         site,
@@ -92,7 +92,7 @@ fn recover_session<S: Store, W: Write, E: Write, T: Write, R: Wait + Clock + All
                 site,
                 store,
                 &mut Cleared::new(output, progress, rt),
-                &mut Cleared::new(faults, progress, rt),
+                failures,
             );
             watch.erase();
             recovery
@@ -100,7 +100,7 @@ fn recover_session<S: Store, W: Write, E: Write, T: Write, R: Wait + Clock + All
         Err(fault) => {
             drop(site);
             Recovery {
-                status: report_fault(fault, faults),
+                status: failures.note(fault),
                 files: None,
             }
         }
@@ -108,13 +108,13 @@ fn recover_session<S: Store, W: Write, E: Write, T: Write, R: Wait + Clock + All
 }
 
 /// Recovers a line on its files, and saves what it holds.
-fn recover_site<S: Store, W: Write, E: Write, T: Write, R: Clock>(
+fn recover_site<S: Store, W: Write, T: Write, R: Clock>(
     alloc: Global,
     line: &LineFile,
     site: WatchedSite<'_, S::File, T, R>,
     store: &mut S,
     output: &mut W,
-    faults: &mut E,
+    failures: &mut Failures,
 ) -> Recovery<S::File>
     requires { IsFresh line.now site }
     ensures { EndsRecovery (S.files store.old) (S.files store.new) line.now site.entry.seen result.status
@@ -125,9 +125,9 @@ fn recover_site<S: Store, W: Write, E: Write, T: Write, R: Clock>(
             let (core, left) = alone.into_parts();
             drop(core);
             let Saved { saved, files } = save_sound(alloc, line, left, store);
-            let saved = status_of(saved, faults);
+            let saved = failures.note_end(saved);
             Recovery {
-                status: worse(saved, print_recovered(recovered, output, faults)),
+                status: worse(saved, print_recovered(recovered, output, failures)),
                 files,
             }
         }
@@ -135,21 +135,21 @@ fn recover_site<S: Store, W: Write, E: Write, T: Write, R: Clock>(
             let Apart { parts, files, .. } = take_apart(left);
             drop(parts);
             Recovery {
-                status: report_fault(of_open(fault), faults),
+                status: failures.note(of_open(fault)),
                 files,
             }
         }
     }
 }
 
-/// Prints the counts of a recovery, and returns the exit status.
-fn print_recovered<W: Write, E: Write>(
+/// Prints the counts of a recovery, and returns the exit status. A fault of the output is noted.
+fn print_recovered<W: Write>(
     recovered: Recovered,
     output: &mut W,
-    faults: &mut E,
+    failures: &mut Failures,
 ) -> ExitStatus {
     match write_recovered(recovered, output) {
         Ok(()) => ExitStatus::Done,
-        Err(error) => report_fault(Fault::from(error), faults),
+        Err(error) => failures.note(Fault::from(error)),
     }
 }

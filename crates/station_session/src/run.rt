@@ -6,9 +6,9 @@ ghost use Rattle.station_line.specs.Refusals.{RefusesRun};
 ghost use Rattle.station_session.specs.RunFiles.{IsAllTold, IsNoneTold, KeepsRunFiles, RunKeepsFiles, RunsFollowed};
 ghost use Rattle.station_session.specs.Session.{EndsCaptured, EndsRun, RunsFiles};
 
+use crate::answers::Answers;
 use crate::capture::{begin_capture, end_capture};
 use crate::fused::{Fuse, run_fused};
-use crate::streams::Streams;
 use crate::threads::run_threads;
 use crate::told::{FilesTold, RunTold, Served, with_all_told};
 use crate::watch::Watch;
@@ -16,7 +16,7 @@ use line_watch::{Capture, Captured, Cleared, Watched};
 use sii_edit::Command;
 use site_file::{FileDevice, FileTold, OpenFiles};
 use site_shadow::{Device, Lends, ShadowSite};
-use station_files::{ExitStatus, Fault, Store, report_fault};
+use station_files::{ExitStatus, Failures, Fault, Store};
 use station_line::{Given, Session, load, of_open, open_files, open_station};
 use station_text::LineFile;
 use std::io::Write;
@@ -74,13 +74,13 @@ struct Ready<D: Device> {
 /// and the totals. Returns how far it came, the exit status, and all that was asked of the line's files.
 ///
 /// The files are read in this order: line file, images of the slaves, journal, script, images that the script names. After any later fault,
-/// which is printed, the files hold what was written so far, and a recovery completes it.
+/// which is noted, the files hold what was written so far, and a recovery completes it.
 ///
 /// With a fuse, the commands are served on one thread on a copy of the line in memory, and what the power cut leaves is saved.
 ///
 /// Each frame is written down in the capture, if one is named. It begins once all files are read and the journal is judged. Where it can't,
-/// the fault is printed, and no file of the line is written. If it can't be written further, the run goes on as without it, and the fault is
-/// printed behind all others.
+/// the fault is noted, and no file of the line is written. If it can't be written further, the run goes on as without it, and the fault is
+/// noted behind all others.
 ///
 /// Without a fuse, the progress of `watch` counts what is done, if there is one. Its line is erased before anything is printed, and at the
 /// end.
@@ -91,7 +91,6 @@ struct Ready<D: Device> {
 pub fn run_script<
     S: Store,
     W: Write,
-    E: Write,
     T: Write + Send,
     R: Wait + Threads + Clock + AllocGlobal + Sync,
 >(
@@ -99,7 +98,7 @@ pub fn run_script<
     names: RunNames<'_>,
     fuse: Option<Fuse>,
     store: &mut S,
-    streams: Streams<'_, W, E>,
+    answers: Answers<'_, W>,
 ) -> Result<Ran, Fault>
     ensures ran { IfOk result (λ ran. RunsFiles S.leads (is_some fuse) (option_map (λ given. given.now) names.entry.capture)
         (S.files store.old) (S.files store.new) names.entry.line.now names.entry.script.now ran.status) }
@@ -118,7 +117,7 @@ pub fn run_script<
         capture,
     } = names;
     match load(watch.rt.alloc(), line, script, capture, store) {
-        Ok(given) => Ok(run_captured(watch, given, fuse, capture, store, streams)),
+        Ok(given) => Ok(run_captured(watch, given, fuse, capture, store, answers)),
         Err(fault) => Err(fault),
     }
 }
@@ -127,7 +126,6 @@ pub fn run_script<
 fn run_captured<
     S: Store,
     W: Write,
-    E: Write,
     T: Write + Send,
     R: Wait + Threads + Clock + AllocGlobal + Sync,
 >(
@@ -136,7 +134,7 @@ fn run_captured<
     fuse: Option<Fuse>,
     capture: Option<&str>,
     store: &mut S,
-    streams: Streams<'_, W, E>,
+    answers: Answers<'_, W>,
 ) -> Ran
     requires fresh { IsFresh given.session.line given.session.site }
     requires old { given.session.is_old ≡ is_old given.session.site.seen.state.disk.bytes }
@@ -148,17 +146,17 @@ fn run_captured<
     ensures told { is_some fuse ≡ false → IsFaultless result.status → IsAllTold result.told }
     ensures unbegun { result.is_begun ≡ false → IsNoneTold result.told }
 {
-    let Streams { output, faults } = streams;
+    let Answers { output, failures } = answers;
     let begun = match begin_capture(capture, store) {
         Ok(begun) => begun,
         Err(fault) => {
             drop(given);
-            return Ran::without_files(false, report_fault(fault, faults));
+            return Ran::without_files(false, failures.note(fault));
         }
     };
-    let lent = Streams {
+    let lent = Answers {
         output,
-        faults: &mut *faults,
+        failures: &mut *failures,
     };
     let ran = run_given(watch, given, fuse, begun.as_ref(), store, lent);
     let Ran {
@@ -168,25 +166,19 @@ fn run_captured<
     } = ran;
     Ran {
         is_begun,
-        status: end_capture(begun, status, faults),
+        status: end_capture(begun, status, failures),
         told,
     }
 }
 
 /// Serves the commands, with a fuse in memory, and else on the line's files, which it opens.
-fn run_given<
-    S: Store,
-    W: Write,
-    E: Write,
-    T: Write + Send,
-    R: Wait + Threads + Clock + AllocGlobal + Sync,
->(
+fn run_given<S: Store, W: Write, T: Write + Send, R: Wait + Threads + Clock + AllocGlobal + Sync>(
     watch: Watch<'_, T, R>,
     given: Given<S::Lock>,
     fuse: Option<Fuse>,
     capture: Option<&Capture<S::File>>,
     store: &mut S,
-    streams: Streams<'_, W, E>,
+    answers: Answers<'_, W>,
 ) -> Ran
     requires fresh { IsFresh given.session.line given.session.site }
     requires old { given.session.is_old ≡ is_old given.session.site.seen.state.disk.bytes }
@@ -200,12 +192,12 @@ fn run_given<
 {
     match fuse {
         Some(fuse) => {
-            let status = run_fused(watch.rt, given, fuse, capture, store, streams);
+            let status = run_fused(watch.rt, given, fuse, capture, store, answers);
             Ran::without_files(true, status)
         }
         None => match open_files(watch.rt.alloc(), &given.session.line, store) {
             Ok(files) => {
-                let served = run_opened(watch, given, files, capture, store, streams);
+                let served = run_opened(watch, given, files, capture, store, answers);
                 Ran {
                     is_begun: true,
                     status: served.status,
@@ -214,7 +206,7 @@ fn run_given<
             }
             Err(fault) => {
                 drop(given);
-                Ran::without_files(false, report_fault(fault, streams.faults))
+                Ran::without_files(false, answers.failures.note(fault))
             }
         },
     }
@@ -225,7 +217,6 @@ fn run_opened<
     'a,
     S: Store,
     W: Write,
-    E: Write,
     T: Write + Send,
     R: Wait + Threads + Clock + AllocGlobal + Sync,
 >(
@@ -234,7 +225,7 @@ fn run_opened<
     files: OpenFiles<S::File>,
     capture: Option<&'a Capture<S::File>>,
     store: &mut S,
-    streams: Streams<'_, W, E>,
+    answers: Answers<'_, W>,
 ) -> Served<FileTold>
     requires fresh { IsFresh given.session.line given.session.site }
     requires old { given.session.is_old ≡ is_old given.session.site.seen.state.disk.bytes }
@@ -243,7 +234,7 @@ fn run_opened<
     ensures told { IsFaultless result.status → IsAllTold result.told }
 {
     let Watch { rt, progress } = watch;
-    let Streams { output, faults } = streams;
+    let Answers { output, failures } = answers;
     let Given { session, commands } = given;
     let Session {
         line,
@@ -259,28 +250,27 @@ fn run_opened<
         is_old,
         commands,
     };
-    let mut faults = Cleared::new(faults, progress, rt);
     let served = run_site(
         rt,
         &line,
         ready,
         store,
         &mut Cleared::new(output, progress, rt),
-        &mut faults,
+        failures,
     );
-    let served = with_all_told(served, &mut faults);
+    let served = with_all_told(served, failures);
     watch.erase();
     served
 }
 
 /// Opens the station on this line, and serves the commands by threads.
-fn run_site<D: Lends + Send, S: Store, W: Write, E: Write, R: Wait + Threads + AllocGlobal + Sync>(
+fn run_site<D: Lends + Send, S: Store, W: Write, R: Wait + Threads + AllocGlobal + Sync>(
     rt: &R,
     line: &LineFile,
     ready: Ready<D>,
     store: &mut S,
     output: &mut W,
-    faults: &mut E,
+    failures: &mut Failures,
 ) -> Served<D::Told>
     requires fresh { IsFresh line.now ready.site }
     requires old { ready.is_old ≡ is_old ready.site.seen.state.disk.bytes }
@@ -294,15 +284,15 @@ fn run_site<D: Lends + Send, S: Store, W: Write, E: Write, R: Wait + Threads + A
     } = ready;
     match open_station(rt.alloc(), site, is_old, None) {
         Ok(alone) => {
-            let streams = Streams { output, faults };
-            run_threads(rt, line, alone, commands, store, streams)
-        },
+            let answers = Answers { output, failures };
+            run_threads(rt, line, alone, commands, store, answers)
+        }
         Err((left, fault)) => {
             let (parts, mut device) = left.into_parts();
             drop(parts);
             drop(commands);
             Served {
-                status: report_fault(of_open(fault), faults),
+                status: failures.note(of_open(fault)),
                 told: RunTold::of_opening(device.tell()),
             }
         }

@@ -6,8 +6,7 @@ ghost use Rattle.station_session.specs.RunFiles.{desk_of, opening_of, AreLogsTol
 use script_session::{DeskTold, PartTold, UnservedTold};
 use site_file::FileTold;
 use site_shadow::LinePart;
-use station_files::{ExitStatus, Fault, report_fault};
-use std::io::Write;
+use station_files::{ExitStatus, Failures, Fault};
 
 /// What a run tells of the calls on the files of its line.
 pub type FilesTold = RunTold<FileTold>;
@@ -79,30 +78,8 @@ pub(crate) struct Served<T> {
     pub(crate) told: RunTold<T>,
 }
 
-/// How the work behind a desk ended, and what is told of the line's device.
-#[derive(Drop)]
-pub(crate) struct Behind<T> {
-    pub(crate) status: ExitStatus,
-    pub(crate) told: T,
-}
-
-impl<T> Behind<T> {
-    /// This went behind a desk of which that is told.
-    pub(crate) fn at_desk(self, desk: DeskTold<T>) -> Served<T>
-        ensures status { result.status ≡ self.status }
-        ensures desk { result.told.desk ≡ Some desk }
-        ensures behind { result.told.behind ≡ Some self.told }
-    {
-        let Behind { status, told } = self;
-        Served {
-            status,
-            told: RunTold::of_desk(desk, Some(told)),
-        }
-    }
-}
-
 /// The same, or `Unserved` where no fault is told and a log is missing.
-pub(crate) fn with_all_told<E: Write>(served: Served<FileTold>, faults: &mut E) -> Served<FileTold>
+pub(crate) fn with_all_told(served: Served<FileTold>, failures: &mut Failures) -> Served<FileTold>
     ensures told { result.told ≡ served.told }
     ensures status { (result.status ≡ served.status) ⊎ (¬ IsFaultless result.status) }
     ensures all { IsFaultless result.status → IsAllTold result.told }
@@ -116,7 +93,7 @@ pub(crate) fn with_all_told<E: Write>(served: Served<FileTold>, faults: &mut E) 
     }
     let Served { status: _, told } = served;
     Served {
-        status: report_fault(Fault::Unserved, faults),
+        status: failures.note(Fault::Unserved),
         told,
     }
 }

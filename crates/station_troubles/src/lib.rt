@@ -4,7 +4,6 @@
 mod command_text;
 mod contents;
 mod flaws;
-mod heard;
 mod line_text;
 mod places;
 mod remembering;
@@ -14,7 +13,6 @@ mod shown;
 mod telling;
 
 pub use flaws::TextTrouble;
-pub use heard::Heard;
 pub use line_text::line_trouble;
 pub use remembering::Remembering;
 pub use script_text::script_trouble;

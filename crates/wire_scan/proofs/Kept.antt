@@ -1,5 +1,6 @@
 -- Files that are there keep their bytes.
-use Rattle.std.proofs.Common.{◌≡◌, ◌≢◌, ℕ, List, Option, Some, None, Result, Ok, Err, IfSome, ◌+◌, ◌<◌, length, take, get_or, Contains, map, String, Global, string_bytes, refl, sym, subst, ◌∙◌, inl, inr}
+use Rattle.std.proofs.Common.{◌≡◌, ◌≢◌, ℕ, List, Option, Some, None, Result, Ok, Err, IfSome, ◌+◌, ◌<◌, length, take, get_or}
+use Rattle.std.proofs.Common.{Contains, map, String, Global, string_bytes, refl, sym, subst, ◌∙◌, inl, inr}
 use Rattle.std.specs.List.{All}
 use Rattle.std.proofs.lemmas.List.Elements.{All-map, All-more}
 use Rattle.station_files.specs.Faults as station

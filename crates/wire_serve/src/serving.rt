@@ -6,7 +6,7 @@ use crate::explain::explain;
 use crate::slaves::serve_slaves;
 use command_line::{InputScript, Script};
 use line_watch::{Capture, CapturedWire, Cleared, Progress, WatchedWire};
-use station_files::{ExitStatus, Fault, Store, report_fault};
+use station_files::{ExitStatus, Failures, Fault, Store, report_fault};
 use station_session::{begin_capture, end_capture};
 use station_troubles::{Files, LineNames, Remembering, reason_of};
 use std::alloc::Global;
@@ -148,7 +148,10 @@ fn serve_job<
             let ended = do_counted(rt, job, terminal, captured, store, output);
             let files = files_of(job.task, None);
             let status = status_of(rt.alloc(), ended, is_told, files, store, faults);
-            end_capture(begun, status, faults)
+            let mut failures = Failures::none();
+            let status = end_capture(begun, status, &mut failures);
+            failures.print(faults);
+            status
         }
         Err(fault) => {
             drop(wire);

@@ -1,12 +1,13 @@
 -- What the files hold after a run on a wire.
-use Rattle.std.proofs.Common.{◌≡◌, ℕ, Bool, true, false, List, ◌∷◌, ◌++◌, length, None, Option, Some, Result, Ok, Err, inr, sym, subst}
-use Rattle.std.specs.Prelude.{IfSome, IfOk, IsSomeAnd, IsTrue, OnOk, string_bytes}
+use Rattle.std.proofs.Common.{◌≡◌, ℕ, Bool, false, List, ◌∷◌, ◌++◌, length, None, Option, Some, Result, Ok, Err, inr, sym}
+use Rattle.std.proofs.Common.{subst}
+use Rattle.std.specs.Prelude.{IfSome, IsSomeAnd, IsTrue, OnOk, string_bytes}
 use Rattle.sii_edit.specs.declared.command.Command.{Command}
-use Rattle.site_core.specs.State.{State, Seen}
+use Rattle.site_core.specs.State.{Seen}
 use Rattle.site_core.specs.Times.{Follows}
 use Rattle.site_shadow.specs.Site.{SiteValue}
 use Rattle.station_alone.specs.Station.{Station}
-use Rattle.station_alone.specs.Recovery.{HasRecovered, BeginsRecovered}
+use Rattle.station_alone.specs.Recovery.{HasRecovered}
 use Rattle.station_text.specs.declared.line_file.LineFile.{LineFile}
 use Rattle.station_files.specs.Files.{Known, ChangesAmong, ChangesOnly}
 use Rattle.station_files.specs.FileNames.{files_with, written_of}
@@ -14,135 +15,41 @@ use Rattle.station_files.specs.Locations.{AreApart, Leads}
 use Rattle.station_files.specs.ScriptFiles.{NamesImages, SpellsCommands}
 use Rattle.station_files.specs.declared.faults.ExitStatus.{ExitStatus}
 use Rattle.station_files.specs.declared.faults.ExitStatus.TheVariants.{Done}
-use Rattle.station_files.specs.declared.faults.Fault.{Fault}
-use Rattle.station_line.specs.Rounds.{ServesSo}
 use Rattle.script_session.specs.declared.threads.Left.{Left}
 use Rattle.script_session.specs.declared.told.DeskTold.{DeskTold}
 use Rattle.script_session.specs.AtDesk.{IsServedTold, LeavesSo, ServesFollowed}
 use Rattle.script_session.proofs.DeskLaws.{served-told}
 use Rattle.script_session.proofs.SoundLaws.{served_soundly}
-use Rattle.station_line.specs.Site.{IsSiteOf, files_of, HoldsSite}
+use Rattle.station_line.specs.Site.{IsSiteOf, files_of}
 use Rattle.station_line.specs.Judging.{IsRunApart}
 use Rattle.station_line.specs.Opened.{is_old, StartsFrom}
-use Rattle.script_session.specs.Saving.{HoldsBehind, SavesBehind, SavesLeft, SavesServed, Serves}
-use Rattle.script_session.proofs.SavingLaws.{behind-unserved}
+use Rattle.script_session.specs.Behind.{LedOn, SavesFollowed}
+use Rattle.script_session.specs.Saving.{SavesBehind, SavesLeft, Serves}
+use Rattle.script_session.proofs.SavingLaws.{behind-unserved, behind-worse}
 use Rattle.wire_faults.specs.declared.faults.WireFault.{WireFault}
 use Rattle.wire_scan.specs.Opening.{IsFound}
-use Rattle.wire_session.specs.Ending.{Ends, LeavesImages}
-use Rattle.wire_session.specs.Running.{EndsAlone, EndsFound, RunsScript, SavesDesk, SavesFound, SavesSite}
+use Rattle.wire_session.specs.Ending.{Ends}
+use Rattle.wire_session.specs.Running.{EndsFound, RunsScript, SavesDesk, SavesFound, SavesSite}
 use Rattle.site_wire.specs.declared.device.WireTold.{WireTold}
 use Rattle.wire_session.specs.declared.told.LineTold.{LineTold}
 use Rattle.wire_session.specs.declared.told.Worked.{Worked}
-use Rattle.script_session.specs.Saving.{IsToldLine}
-use Rattle.wire_session.specs.Slaves.{EndsTold, LedAtDesk, LedOn, SavesFollowed, SlavesHold}
+use Rattle.wire_session.specs.Slaves.{EndsTold, LedAtDesk, SlavesHold}
 use Rattle.wire_session.proofs.Endings.{ends_behind_open, ends_weaker}
 
--- the line was saved
-ends_saved : (saves : ExitStatus → Type 0) (result : Result ExitStatus WireFault) (old new : Known) (line : LineFile) (status : ExitStatus)
-    (state : State) → (HoldsSite new line state → saves status) → OnOk result (HoldsSite new line state)
-    → IfOk result (λ given. given ≡ status) → ChangesAmong old new (files_of line) → LeavesImages result old new line → Ends saves result old new line
-ends_saved saves (Ok given) old new line status state holds held same others failed =
-    record { others = others; unsaved = tt; saved = subst saves (sym same) (holds held) }
-ends_saved saves (Err fault) old new line status state holds held same others failed =
-    record { others = others; unsaved = failed; saved = tt }
+-- ---- the line is saved behind the desk
 
--- ---- the commands are served on one thread
-
-pub ends_served : (result : Result ExitStatus WireFault) (old new : Known) (line : LineFile) (commands : List Command)
-    (opened left : Station) (served : Result (Unit {0}) Fault) (state : State) (status : ExitStatus) → served ≡ Ok tt
-    → ServesSo commands served Done status opened left → state ≡ left.seen.state → OnOk result (HoldsSite new line state)
-    → IfOk result (λ given. given ≡ status) → ChangesAmong old new (files_of line) → LeavesImages result old new line
-    → EndsAlone result old new line opened commands
-ends_served result old new line commands opened left served state status told serves is held same others failed =
-    let so : ServesSo commands (Ok tt) Done status opened left
-    = subst (λ (r : Result (Unit {0}) Fault). ServesSo commands r Done status opened left) told serves in
-    let saves : HoldsSite new line state → SavesServed new line opened commands status = λ holds. record {
-      s = left;
-      accepted = so.submits.accepted;
-      goes = so.submits.goes;
-      among = so.submits.among;
-      all = λ done. (so.submits.all done).1;
-      served = so.served;
-      held = subst (λ (s : State). HoldsSite new line s) is holds;
-    } in
-    ends_saved (λ given. SavesServed new line opened commands given) result old new line status state saves held same others failed
-
--- ---- the line is recovered behind the desk
-
--- what is said of a recovered line, and of the status of the answers so far
-abbrev pub Behind : (is_driven : Bool) → Known → LineFile → Station → List Command → ExitStatus → ExitStatus → Type 0
-Behind is_driven new line r commands status ended = HoldsBehind is_driven new line r commands ended × (ended ≡ Done → status ≡ Done)
-
--- it is saved
-pub ends_driven : (is_driven : Bool) (result : Result ExitStatus WireFault) (old new : Known) (line : LineFile) (commands : List Command)
-    (r : Station) (state : State) (status : ExitStatus) → is_driven ≡ true → state ≡ r.seen.state → OnOk result (HoldsSite new line state)
-    → IfOk result (λ given. given ≡ status) → ChangesAmong old new (files_of line) → LeavesImages result old new line
-    → Ends (λ ended. Behind is_driven new line r commands status ended) result old new line
-ends_driven is_driven result old new line commands r state status driven is held same others failed =
-    let saves : HoldsSite new line state → Behind is_driven new line r commands status status = λ holds. (
-      subst (λ (b : Bool). HoldsBehind b new line r commands status) (sym driven) (subst (λ (s : State). HoldsSite new line s) is holds),
-      λ done. done,
-    ) in
-    ends_saved (λ ended. Behind is_driven new line r commands status ended) result old new line status state saves held same others failed
-
--- no command was submitted, and the commands were served on it
-pub ends_undriven : (is_driven : Bool) (served : Result ExitStatus WireFault) (old new : Known) (line : LineFile) (commands : List Command)
-    (r : Station) (status ended final : ExitStatus) → is_driven ≡ false → served ≡ Ok ended → (final ≡ Done → (status ≡ Done) × (ended ≡ Done))
-    → EndsAlone served old new line r commands → Ends (λ given. Behind is_driven new line r commands status given) (Ok final) old new line
-ends_undriven is_driven served old new line commands r status ended final undriven is both ends =
-    let so : EndsAlone (Ok ended) old new line r commands
-    = subst (λ (x : Result ExitStatus WireFault). EndsAlone x old new line r commands) is ends in
-    let saves : SavesServed new line r commands ended = so.saved in
-    let holds : HoldsBehind false new line r commands final = record {
-      s = saves.s;
-      accepted = saves.accepted;
-      goes = saves.goes;
-      among = saves.among;
-      all = λ done. saves.all (both done).1;
-      served = saves.served;
-      held = saves.held;
-    } in
-    record {
-      others = so.others;
-      unsaved = tt;
-      saved = (subst (λ (b : Bool). HoldsBehind b new line r commands final) (sym undriven) holds, λ done. (both done).0);
-    }
-
--- a fault came as they were served
-pub ends_failed : (saves says : ExitStatus → Type 0) (served : Result ExitStatus WireFault) (old new : Known) (line : LineFile)
-    (fault : WireFault) → served ≡ Err fault → Ends saves served old new line → Ends says (Err fault) old new line
-ends_failed saves says served old new line fault is ends =
-    let so : Ends saves (Err fault) old new line = subst (λ (x : Result ExitStatus WireFault). Ends saves x old new line) is ends in
-    record { others = so.others; unsaved = so.unsaved; saved = tt }
-
-pub ends_behind : (is_driven : Bool) (result : Result ExitStatus WireFault) (old new : Known) (line : LineFile) (commands : List Command)
-    (before : Seen) (r : Station) (status : ExitStatus) → HasRecovered r → BeginsRecovered before r
-    → Ends (λ ended. Behind is_driven new line r commands status ended) result old new line
-    → Ends (λ ended. SavesBehind new line before is_driven commands ended × (ended ≡ Done → status ≡ Done)) result old new line
-ends_behind is_driven result old new line commands before r status recovered begins ends =
-    ends_weaker (λ ended. Behind is_driven new line r commands status ended)
-    (λ ended. SavesBehind new line before is_driven commands ended × (ended ≡ Done → status ≡ Done)) result old new line
-    (λ ended behind. (record { r = r; recovered = recovered; begins = begins; holds = behind.0 }, behind.1)) ends
-
-pub ends_left : {T : Type 0} (result : Result ExitStatus WireFault) (old new : Known) (line : LineFile) (left : Left SiteValue T)
-    → left.ending.told ≡ Ok tt
-    → Ends (λ ended. SavesBehind new line left.site.seen left.ending.is_driven left.unserved.items ended × (ended ≡ Done → left.ending.status ≡ Done))
-    result old new line
-    → Ends (λ status. SavesLeft new line left status) result old new line
-ends_left result old new line left told ends =
-    ends_weaker
-    (λ ended. SavesBehind new line left.site.seen left.ending.is_driven left.unserved.items ended × (ended ≡ Done → left.ending.status ≡ Done))
-    (λ status. SavesLeft new line left status) result old new line
-    (λ ended saves. record { worst = saves.1; told = told; behind = saves.0 }) ends
-
--- the files hold the recovered line, and a device has followed it to there
-pub saves_led : {D T : Type 0} (follows : D → Seen → Type 0) (well : D → Type 0) (tells : D → T → Type 0) (told : T) (result : Result ExitStatus WireFault) (new : Known) (line : LineFile) (slaves : ℕ) (before : Seen)
-    (r : Station) (is_driven : Bool) → HasRecovered r → Follows before r.seen → OnOk result (IsTrue is_driven → HoldsSite new line r.seen.state)
-    → OnOk result (IsTrue is_driven → IsToldLine follows well tells told slaves r.seen)
-    → OnOk result (IsTrue is_driven → SavesFollowed (LedOn follows well tells told slaves before) new line)
-saves_led follows well tells told (Ok status) new line slaves before r is_driven recovered leads held ends =
-    λ driven. record { s = r; recovered = recovered; held = held driven; way = record { leads = leads; ends = ends driven } }
-saves_led follows well tells told (Err fault) new line slaves before r is_driven recovered leads held ends = tt
+pub ends_left : {T : Type 0} (old new : Known) (line : LineFile) (left : Left SiteValue T) (given final : ExitStatus) → left.ending.told ≡ Ok tt
+    → ChangesAmong old new (files_of line) → SavesBehind new line left.site.seen left.ending.is_driven left.unserved.items given
+    → (final ≡ Done → (left.ending.status ≡ Done) × (given ≡ Done)) → Ends (λ status. SavesLeft new line left status) (Ok final) old new line
+ends_left old new line left given final told others saves both = record {
+  others = others;
+  unsaved = tt;
+  saved = record {
+    worst = λ done. (both done).0;
+    told = told;
+    behind = behind-worse left.ending.is_driven new line left.site.seen left.unserved.items given final (λ done. (both done).1) saves;
+  };
+}
 
 -- ---- the line is served by threads
 

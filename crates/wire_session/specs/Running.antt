@@ -1,5 +1,5 @@
 -- `run` on a wire: how the line that was found is served by threads, and what the files hold in the end.
-use Rattle.std.specs.Prelude.{◌≡◌, ◌⊎◌, ℕ, false, List, Result, Option, None, IsErr, IsTrue}
+use Rattle.std.specs.Prelude.{◌≡◌, ◌⊎◌, ℕ, false, List, Option, None, IsErr, IsTrue}
 use Rattle.sii_edit.specs.declared.command.Command.{Command}
 use Rattle.site_core.specs.State.{Seen}
 use Rattle.site_shadow.specs.Site.{SiteValue}
@@ -11,18 +11,14 @@ use Rattle.station_alone.specs.Station.{Station}
 use Rattle.station_files.specs.Locations.{Leads}
 use Rattle.station_line.specs.Judging.{IsRunApart}
 use Rattle.station_line.specs.Site.{IsSiteOf}
-use Rattle.script_session.specs.Saving.{SavesRun, SavesServed, Serves}
-use Rattle.wire_faults.specs.declared.faults.WireFault.{WireFault}
+use Rattle.script_session.specs.Saving.{SavesRun, Serves}
 use Rattle.wire_scan.specs.Opening.{IsFound}
 use Rattle.site_wire.specs.declared.device.WireTold.{WireTold}
 use Rattle.wire_session.specs.declared.told.LineTold.{LineTold}
 use Rattle.wire_session.specs.declared.told.Worked.{Worked}
 use Rattle.wire_session.specs.Ending.{Ends}
-use Rattle.wire_session.specs.Slaves.{SavesFollowed, SlavesAreSaved}
-
--- If the result is `Ok`, the commands were served on this station by one thread, and the files hold its state.
-abbrev pub EndsAlone : Result ExitStatus WireFault → Known → Known → LineFile → Station → List Command → Type 0
-EndsAlone result old new line opened commands = Ends (λ status. SavesServed new line opened commands status) result old new line
+use Rattle.script_session.specs.Behind.{SavesFollowed}
+use Rattle.wire_session.specs.Slaves.{SlavesAreSaved}
 
 -- The commands were served by threads, and the files hold the result. Where the commands were submitted at the desk, the line was recovered behind
 -- it, with `Way` said of what led there.

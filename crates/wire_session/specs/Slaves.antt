@@ -57,19 +57,6 @@ pub record EndsTold {D T : Type 0} (follows : D → Seen → Type 0) (well : D �
   pub leads : LedThroughout follows well tells told.desk site last
   pub ends : IsToldLine follows well tells told.behind slaves last
 
--- A site was recovered, the files hold its state then, and `Way` is said of what led there.
-pub record SavesFollowed (Way : Seen → Type 0) (files : Known) (line : LineFile) : Type 0 where
-  pub s : Station
-  pub recovered : HasRecovered s
-  pub held : HoldsSite files line s.seen.state
-  pub way : Way s.seen
-
--- from this site on calls alone led there, and this is told of a device that has followed it
-pub record LedOn {D T : Type 0} (follows : D → Seen → Type 0) (well : D → Type 0) (tells : D → T → Type 0) (told : T) (slaves : ℕ)
-    (before last : Seen) : Type 0 where
-  pub leads : Follows before last
-  pub ends : IsToldLine follows well tells told slaves last
-
 -- the line of this station was served at a desk on the way
 pub record LedAtDesk {D T : Type 0} (follows : D → Seen → Type 0) (well : D → Type 0) (tells : D → T → Type 0) (slaves : ℕ)
     (opened : Station) (told : LineTold T) (last : Seen) : Type 0 where

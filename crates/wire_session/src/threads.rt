@@ -1,39 +1,24 @@
 //! Serves the commands of a run by threads, and saves what the slaves hold.
-ghost use Rattle.std.specs.Prelude.{◌≡◌, [], length, IfOk, IfSome, IsSomeAnd, IsTrue, Ok, OnOk};
-ghost use Rattle.station_files.specs.Files.{ChangesAmong};
-ghost use Rattle.station_files.specs.declared.faults.ExitStatus.TheVariants.{Done};
-ghost use Rattle.station_line.specs.Site.{files_of, HoldsSite};
+ghost use Rattle.std.specs.Prelude.{◌≡◌, [], length, IfSome, IsSomeAnd, IsTrue, Ok, OnOk};
 ghost use Rattle.script_session.specs.Parts.{IsLineOf};
-ghost use Rattle.script_session.specs.Saving.{HoldsBehind, IsToldLine, SavesBehind, SavesLeft};
-ghost use Rattle.wire_session.specs.Ending.{Ends, LeavesImages};
-ghost use Rattle.wire_session.specs.Running.{EndsAlone, SavesDesk};
-ghost use Rattle.wire_session.specs.Slaves.{AreOfParts, LedAtDesk, LedOn, SavesFollowed};
+ghost use Rattle.script_session.specs.Behind.{LedOn, SavesFollowed};
+ghost use Rattle.script_session.specs.Saving.{SavesLeft};
+ghost use Rattle.wire_session.specs.Ending.{Ends};
+ghost use Rattle.wire_session.specs.Running.{SavesDesk};
+ghost use Rattle.wire_session.specs.Slaves.{AreOfParts, LedAtDesk};
 
 use crate::told::{LineTold, Worked, are_of_parts};
-use script_session::{Ending, Left, Work, save_told, serve_by_threads};
-use sii_edit::Command;
+use script_session::{DeskLeft, Ending, Left, Work, end_line, serve_by_threads};
 use site_shadow::{Lends, ShadowSite};
 use site_wire::TellsPart;
-use station_alone::{Alone, recover};
+use station_alone::Alone;
 use station_files::{ExitStatus, Fault, Store, worse};
-use station_line::{of_open, serve_commands};
 use station_text::LineFile;
 use std::alloc::Global;
 use std::io::Write;
 use std::sync::Wait;
 use std::thread::Threads;
 use wire_faults::WireFault;
-
-/// What a desk has left of its commands.
-#[derive(Drop)]
-struct DeskLeft {
-    /// Whether they were submitted.
-    is_driven: bool,
-    /// The status of the answers so far.
-    status: ExitStatus,
-    /// The commands where they were not submitted, and otherwise none.
-    commands: Vec<Command>,
-}
 
 /// Serves the commands by threads, recovers the line so that nothing is live, and saves what its slaves hold. Where no thread can be made,
 /// the commands are served on this one. `Unserved` where a part's device isn't told as its own. The station must not have accepted a command yet.
@@ -88,7 +73,8 @@ fn end_threads<D: Lends, S: Store, O: Write>(
     ensures sound { OnOk result.0 (left.sound ≡ Ok tt) }
     ensures desk { result.1.desk ≡ left.told }
     ensures followed { OnOk result.0 (IsTrue left.ending.is_driven
-        → SavesFollowed (LedOn D.follows D.well D.tells result.1.behind (length line.now.images.items) left.site.seen) (S.files store.new) line.now) }
+        → SavesFollowed (LedOn D.follows D.well D.tells result.1.behind (length line.now.images.items) left.site.seen)
+        (S.files store.new) line.now) }
 {
     let Left {
         site,
@@ -105,13 +91,20 @@ fn end_threads<D: Lends, S: Store, O: Write>(
     } = ending;
     match both_of(told, sound) {
         Ok(()) => {
-            let behind = DeskLeft {
+            let left = DeskLeft {
+                site,
                 is_driven,
-                status,
                 commands: unserved,
             };
-            let (ended, behind) = save_behind(alloc, line, site, behind, store, output);
-            (ended, LineTold { desk, behind })
+            let behind = end_line(alloc, line, left, store, output);
+            let told = LineTold {
+                desk,
+                behind: behind.told,
+            };
+            match behind.ended {
+                Ok(given) => (Ok(worse(status, given)), told),
+                Err(fault) => (Err(WireFault::Station(fault)), told),
+            }
         }
         Err(fault) => {
             drop(unserved);
@@ -135,115 +128,5 @@ fn both_of(told: Result<(), Fault>, sound: Result<(), Fault>) -> Result<(), Faul
     match told {
         Ok(()) => sound,
         Err(fault) => Err(fault),
-    }
-}
-
-/// Recovers the line, and saves what its slaves hold. If the commands were not submitted yet, they are served between the two. Gives the
-/// status of all answers, and what is told of the device.
-fn save_behind<D: Lends, S: Store, O: Write>(
-    alloc: Global,
-    line: &LineFile,
-    site: ShadowSite<D>,
-    behind: DeskLeft,
-    store: &mut S,
-    output: &mut O,
-) -> (Result<ExitStatus, WireFault>, D::Told)
-    requires line { IsLineOf (length line.now.images.items) site.line }
-    ensures ends { Ends (λ ended. SavesBehind (S.files store.new) line.now site.seen behind.is_driven behind.commands.items ended
-        × (ended ≡ Done → behind.status ≡ Done))
-        result.0 (S.files store.old) (S.files store.new) line.now }
-    ensures followed { OnOk result.0 (IsTrue behind.is_driven
-        → SavesFollowed (LedOn D.follows D.well D.tells result.1 (length line.now.images.items) site.seen) (S.files store.new) line.now) }
-{
-    match recover(alloc, site) {
-        Ok((alone, _recovered)) => save_recovered(alloc, line, alone, behind, store, output),
-        Err((left, fault)) => {
-            drop(behind);
-            (Err(WireFault::Station(of_open(fault))), told_of(left))
-        }
-    }
-}
-
-/// Saves what the slaves of a recovered line hold, and gives what is told of the device. If the commands were not submitted yet, they are served
-/// first.
-fn save_recovered<D: Lends, S: Store, O: Write>(
-    alloc: Global,
-    line: &LineFile,
-    alone: Alone<ShadowSite<D>>,
-    behind: DeskLeft,
-    store: &mut S,
-    output: &mut O,
-) -> (Result<ExitStatus, WireFault>, D::Told)
-    requires disk { IsTrue alone.line.has_disk }
-    requires slaves { length alone.line.sizes ≡ length line.now.images.items }
-    ensures ends { Ends (λ ended. HoldsBehind behind.is_driven (S.files store.new) line.now alone behind.commands.items ended
-        × (ended ≡ Done → behind.status ≡ Done))
-        result.0 (S.files store.old) (S.files store.new) line.now }
-    ensures held { OnOk result.0 (IsTrue behind.is_driven → HoldsSite (S.files store.new) line.now alone.seen.state) }
-    ensures told { OnOk result.0 (IsTrue behind.is_driven
-        → IsToldLine D.follows D.well D.tells result.1 (length line.now.images.items) alone.seen) }
-{
-    let DeskLeft {
-        is_driven,
-        status,
-        commands,
-    } = behind;
-    if !is_driven {
-        let (served, told) = run_alone(alloc, line, alone, commands, store, output);
-        return match served {
-            Ok(ended) => (Ok(worse(status, ended)), told),
-            Err(fault) => (Err(fault), told),
-        };
-    }
-    drop(commands);
-    let (core, site) = alone.into_parts();
-    drop(core);
-    save_served(alloc, line, site, status, store)
-}
-
-/// Serves the commands on an open station on this thread, and saves what the slaves hold unless a fault came. Gives what is told of the device.
-fn run_alone<D: Lends, S: Store, O: Write>(
-    alloc: Global,
-    line: &LineFile,
-    mut alone: Alone<ShadowSite<D>>,
-    commands: Vec<Command>,
-    store: &mut S,
-    output: &mut O,
-) -> (Result<ExitStatus, WireFault>, D::Told)
-    requires disk { IsTrue alone.line.has_disk }
-    requires slaves { length alone.line.sizes ≡ length line.now.images.items }
-    ensures { EndsAlone result.0 (S.files store.old) (S.files store.new) line.now alone commands.items }
-{
-    let mut status = ExitStatus::Done;
-    let slaves = line.images.len() as u16;
-    let served = serve_commands(&mut alone, slaves, commands, output, &mut status);
-    let (core, end) = alone.into_parts();
-    drop(core);
-    match served {
-        Ok(()) => save_served(alloc, line, end, status, store),
-        Err(fault) => (Err(WireFault::Station(fault)), told_of(end)),
-    }
-}
-
-/// Saves what the slaves hold, as `save_told` does. Gives the status of the answers, and what is told of the device.
-fn save_served<D: Lends, S: Store>(
-    alloc: Global,
-    line: &LineFile,
-    site: ShadowSite<D>,
-    status: ExitStatus,
-    store: &mut S,
-) -> (Result<ExitStatus, WireFault>, D::Told)
-    requires disk { IsTrue site.line.has_disk }
-    requires slaves { length site.line.sizes ≡ length line.now.images.items }
-    ensures saved { OnOk result.0 (HoldsSite (S.files store.new) line.now site.seen.state) }
-    ensures status { IfOk result.0 (λ given. given ≡ status) }
-    ensures others { ChangesAmong (S.files store.old) (S.files store.new) (files_of line.now) }
-    ensures failed { LeavesImages result.0 (S.files store.old) (S.files store.new) line.now }
-    ensures told { OnOk result.0 (IsToldLine D.follows D.well D.tells result.1 (length line.now.images.items) site.seen) }
-{
-    let (saved, told) = save_told(alloc, line, site, store);
-    match saved {
-        Ok(()) => (Ok(status), told),
-        Err(fault) => (Err(WireFault::Station(fault)), told),
     }
 }

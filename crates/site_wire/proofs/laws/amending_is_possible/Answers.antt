@@ -1,4 +1,5 @@
-use Rattle.site_wire.proofs.AmendedLaws.{possible_is_amended, amended_stays, amended_leaves_no_more, busy_is_possible, read_back_is_possible, other_is_kept}
+use Rattle.site_wire.proofs.AmendedLaws.{possible_is_amended, amended_stays, amended_leaves_no_more, busy_is_possible, read_back_is_possible}
+use Rattle.site_wire.proofs.AmendedLaws.{other_is_kept}
 use Rattle.site_wire.proofs.laws.amending_is_possible.Goals as goal
 
 pub returns-clause-begins : goal.returns-clause-begins

@@ -1,4 +1,5 @@
-use Rattle.std.proofs.Common.{◌≡◌, ℕ, ◌+◌, ◌<◌, List, [], ◌∷◌, ◌++◌, length, map, take, get_or, subst, ap, ◌∙◌, rules, String, Global, string_bytes}
+use Rattle.std.proofs.Common.{◌≡◌, ℕ, ◌+◌, ◌<◌, List, [], ◌∷◌, ◌++◌, length, map, take, get_or, subst, ap, ◌∙◌, rules}
+use Rattle.std.proofs.Common.{String, Global, string_bytes}
 use Rattle.std.specs.List.{AllZip}
 use Rattle.station_files.specs.Files.{Known}
 use Rattle.station_files.specs.LineFiles.{SpellsWords}

@@ -11,5 +11,5 @@ returns-in-Ok g c =
 
 pub returns : goal.returns
 returns g c =
-    ends-unrecovered (g.S.Store.files c.args.store.now) (g.S.Store.files c.open_files.new.store) c.args.session.line c.args.session.site.seen None c.report_fault.result
-    (keeps_unasked c.args.session.site.seen.state) c.open_files.ensures.others c.report_fault.ensures.fault
+    ends-unrecovered (g.S.Store.files c.args.store.now) (g.S.Store.files c.open_files.new.store) c.args.session.line c.args.session.site.seen None c.note.result
+    (keeps_unasked c.args.session.site.seen.state) c.open_files.ensures.others c.note.ensures.fault

@@ -17,4 +17,4 @@ returns-in-Err-clause-goes g c =
       followed = subst (λ t. IsFollowed (TellsOf g.D.Device.follows g.D.Lends.tells t) c.in-Err.left.seen)
           (sym (told-opening told.desk told.opening c.tell.result c.of_opening.ensures.desk c.of_opening.ensures.opening))
           (c.into_parts-parts.result.1, (c.into_parts-parts.ensures.device, c.tell.ensures));
-    }) c.report_fault.ensures.fault
+    }) c.note.ensures.fault

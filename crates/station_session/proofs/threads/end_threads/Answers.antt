@@ -5,7 +5,7 @@ use Rattle.station_session.proofs.threads.end_threads.Goals as goal
 
 pub returns-in-Ok-clause-saved : goal.returns-in-Ok-clause-saved
 returns-in-Ok-clause-saved g c =
-    saves-left (g.S.Store.files c.save_behind-saved.new.store) c.args.line.now c.args.left c.status_of-told.result c.save_behind-saved.result.status c.worse.result c.worse-in-Ok.result c.status_of-told.ensures.fault c.save_behind-saved.ensures.saved
+    saves-left (g.S.Store.files c.save_behind-saved.new.store) c.args.line.now c.args.left c.note_end-told.result c.save_behind-saved.result.status c.worse.result c.worse-in-Ok.result c.note_end-told.ensures.fault c.save_behind-saved.ensures.saved
     c.worse.ensures.done c.worse.ensures.faultless c.worse-in-Ok.ensures.done c.worse-in-Ok.ensures.faultless
 
 pub returns-in-Ok-clause-goes : goal.returns-in-Ok-clause-goes

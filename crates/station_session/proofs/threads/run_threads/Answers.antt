@@ -40,4 +40,4 @@ returns-in-Err-clause-followed g c =
 pub returns-in-Err-clause-serves : goal.returns-in-Err-clause-serves
 returns-in-Err-clause-serves g c =
     not_served g.D.Device.follows g.D.Device.well g.D.Lends.tells c.of_unserved.result c.args.alone c.args.commands.items c.in-Err.why.told
-    c.report_fault.result c.report_fault.ensures.fault c.of_unserved.ensures.desk c.in-Err.ensures.failed
+    c.note.result c.note.ensures.fault c.of_unserved.ensures.desk c.in-Err.ensures.failed

@@ -1,12 +1,18 @@
-use Rattle.std.proofs.Common.{◌≡◌, Ok, Result, subst}
-use Rattle.std.specs.Prelude.{OnOk}
+use Rattle.std.proofs.Common.{Result, subst}
+use Rattle.std.specs.Prelude.{IfOk}
+use Rattle.station_files.specs.declared.faults.ExitStatus.{ExitStatus}
 use Rattle.station_files.specs.declared.faults.Fault.{Fault}
+use Rattle.script_session.specs.Saving.{SavesBehind}
 use Rattle.wire_session.proofs.RunEnds.{ends_left}
 use Rattle.wire_session.proofs.threads.end_threads.Goals as goal
 
-pub returns-in-Ok-clause-ends : goal.returns-in-Ok-clause-ends
-returns-in-Ok-clause-ends g c =
-    ends_left c.save_behind-ended.result.0 (g.S.Store.files c.args.store.now) (g.S.Store.files c.save_behind-ended.new.store) c.args.line.now
-    c.args.left
-    (subst (λ (r : Result (Unit {0}) Fault). OnOk r ((c.args.left.ending.told ≡ Ok tt) × (c.args.left.sound ≡ Ok tt))) c.in-Ok.is c.both_of.ensures).0
-    c.save_behind-ended.ensures.ends
+pub returns-in-Ok-ended-clause-ends : goal.returns-in-Ok-ended-clause-ends
+returns-in-Ok-ended-clause-ends g c =
+    let left = c.args.left in
+    let behind = c.end_line-behind in
+    let new = g.S.Store.files behind.new.store in
+    ends_left (g.S.Store.files c.args.store.now) new c.args.line.now left c.in-Ok-ended.given c.worse.result c.in-Ok.ensures.0
+    behind.ensures.others
+    (subst (λ (r : Result ExitStatus Fault). IfOk r (SavesBehind new c.args.line.now left.site.seen left.ending.is_driven left.unserved.items))
+    c.in-Ok-ended.is behind.ensures.saved)
+    c.worse.ensures.done

@@ -1,6 +1,6 @@
-//! Where a call prints.
+//! Where the program prints.
 
-/// Where a call prints.
+/// Where the program prints.
 #[derive(Drop)]
 pub struct Streams<'a, W, E> {
     /// What was asked for.
