@@ -39,8 +39,8 @@ pub record ServesRecovered {D : Type 0} (follows : D → Seen → Type 0) (comma
   pub serves : ServesSome follows commands r
 
 -- The site was recovered. If the commands weren't submitted at the desk, some were accepted then, unless the recovery failed.
-abbrev pub GoesBehindDesk : {D : Type 0} → (D → Seen → Type 0) → (is_driven : Bool) → List Command → (left : Seen) → Result ExitStatus Fault
-    → Type 0
+abbrev pub GoesBehindDesk : {D : Type 0} → (D → Seen → Type 0) → (is_driven : Bool) → List Command → (left : Seen)
+    → Result ExitStatus Fault → Type 0
 GoesBehindDesk follows true commands left ended = (last : Seen) × GoesFollowed follows left last
 GoesBehindDesk follows false commands left ended =
     ((last : Seen) × (fault : Fault) × GoesFollowed follows left last × (ended ≡ Err fault)) ⊎ ServesRecovered follows commands left

@@ -1,5 +1,5 @@
 //! What has gone wrong in a subcommand.
-ghost use Rattle.std.specs.Prelude.{◌≡◌, ◌≢◌, ◌<◌, ◌≤◌, [], ◌∷◌, ◌++◌, length, slice_get, IfOk, OnErr, OnOk};
+ghost use Rattle.std.specs.Prelude.{◌≡◌, ◌≢◌, ◌<◌, ◌≤◌, [], ◌∷◌, ◌++◌, length, slice_get, IfErr, IfOk, OnErr, OnOk};
 ghost use Rattle.station_files.specs.Failures.{met_by};
 ghost use Rattle.station_files.specs.Faults.{IsFaultless, status_of};
 ghost use Rattle.station_files.specs.declared.faults.Failure.TheVariants as failures;
@@ -52,6 +52,7 @@ impl Failures {
     pub fn note_end(&mut self, ended: Result<(), Fault>) -> ExitStatus
         ensures done { OnOk ended (result ≡ ExitStatus.Done) }
         ensures fault { OnErr ended (¬ IsFaultless result) }
+        ensures noted { IfErr ended (λ fault. length (met_by self.old) < 8 → met_by self.new ≡ met_by self.old ++ failures.Fault fault ∷ []) }
         ensures same { OnOk ended (self.new ≡ self.old) }
     {
         match ended {
@@ -64,6 +65,7 @@ impl Failures {
     pub fn note_status(&mut self, ended: Result<ExitStatus, Fault>) -> ExitStatus
         ensures ended { IfOk ended (λ status. result ≡ status) }
         ensures fault { OnErr ended (¬ IsFaultless result) }
+        ensures noted { IfErr ended (λ fault. length (met_by self.old) < 8 → met_by self.new ≡ met_by self.old ++ failures.Fault fault ∷ []) }
         ensures same { OnOk ended (self.new ≡ self.old) }
     {
         match ended {
