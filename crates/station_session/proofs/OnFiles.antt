@@ -1,5 +1,5 @@
 -- Whether the files hold what a site holds, and what is told of them.
-use Rattle.std.proofs.Common.{◌≡◌, Bool, true, false, not, List, Result, Ok, Err, OnOk, IsTrue, refl, sym, ◌∙◌}
+use Rattle.std.proofs.Common.{◌≡◌, Bool, true, false, not, ap, is_some, List, Result, Ok, Err, OnOk, IsTrue, refl, sym, ◌∙◌}
 use Rattle.std.specs.Prelude.{IfSome, Option, Some, None}
 use Rattle.std.specs.Option.{option_map}
 use Rattle.site_core.specs.State.{Seen}
@@ -40,3 +40,10 @@ pub told_files : (F : Type 0) (device : FileDevice F) (files : Option (Finished 
     → IfSome files (λ done. FilesOf done.log now is_sound)
 told_files F device (Some done) now is_sound follows sound log = site_has_files F device done.log now is_sound follows log sound
 told_files F device None now is_sound follows sound log = tt
+
+-- where the line was saved, its files are told of
+pub saved_and_told : {T E F : Type 0} (saved : Result T E) (files : Option (Finished F)) (is_sound is_none : Bool) → is_sound ≡ true
+    → is_some files ≡ not is_none → is_none ≡ false → OnOk saved (IsTrue is_sound × IsTrue (is_some (log_of files)))
+saved_and_told (Ok kept) (Some done) is_sound is_none is some none = (is, refl)
+saved_and_told (Ok kept) None is_sound is_none is some none = absurd (let e : false ≡ true = some ∙ ap not none in cc)
+saved_and_told (Err fault) files is_sound is_none is some none = tt

@@ -387,11 +387,6 @@ module _ (F : Type 0) {D : Type 0} (follows : D → Seen → Type 0) (well : D �
 pub told-opening : {T : Type 0} (tellings : Option (DeskTold T)) (opening : Option T) (told : T) → tellings ≡ None → opening ≡ Some told → line_told tellings opening ≡ Some told
 told-opening {T} tellings opening told none some = ap (λ (d : Option (DeskTold T)). line_told d opening) none ∙ some
 
--- the same site, with another device
-pub kept_as : (F : Type 0) (site other : SiteValue) (commands : List Command) (status : ExitStatus) (told : RunTold FileTold) → other ≡ site
-    → RunKeepsFiles F other.seen commands status told → RunKeepsFiles F site.seen commands status told
-kept_as F site other commands status told same kept = subst (λ (s : SiteValue). RunKeepsFiles F s.seen commands status told) same kept
-
 -- where a fault is told of one status, so it is of the final one
 alone_told : (says : Says) (commands : List Command) (left : Seen) (one final : ExitStatus) → (¬ IsFaultless one → ¬ IsFaultless final)
     → GoesAlone says commands left one → GoesAlone says commands left final

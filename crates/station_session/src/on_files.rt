@@ -10,7 +10,7 @@ ghost use Rattle.station_session.specs.Session.{SavedSoundly};
 use line_watch::Watched;
 use site_core::Site;
 use site_file::{FileDevice, Finished, RandomAccessFile};
-use site_shadow::{Parts, ShadowSite};
+use site_shadow::{Device, Parts, ShadowSite};
 use station_files::{Fault, Store};
 use station_line::save_parts;
 use station_text::LineFile;
@@ -31,17 +31,47 @@ pub(crate) struct Apart<F> {
     pub(crate) files: Option<Finished<F>>,
 }
 
+/// A site that was taken apart, whatever its device.
+struct Parted<D> {
+    parts: Parts,
+    has_stopped: bool,
+    device: D,
+}
+
+/// Takes a site apart, whatever its device.
+fn split<D: Device>(site: ShadowSite<D>) -> Parted<D>
+    ensures count { length result.parts.halves.items ≡ length site.line.sizes }
+    ensures halves { halves_of result.parts.halves.items ≡ site.seen.state.halves }
+    ensures disk { IfSome result.parts.disk (λ bytes. bytes.items ≡ site.seen.state.disk.bytes) }
+    ensures has_disk { is_some result.parts.disk ≡ site.line.has_disk }
+    ensures stopped { result.has_stopped ≡ site.seen.is_stopped }
+    ensures device { D.follows result.device site.seen }
+{
+    let _count = site.slaves();
+    let has_stopped = site.has_stopped();
+    let (parts, device) = site.into_parts();
+    Parted {
+        parts,
+        has_stopped,
+        device,
+    }
+}
+
 /// Takes a site on files apart.
 pub(crate) fn take_apart<F: RandomAccessFile + Drop, T: Write, R: Clock>(
     site: WatchedSite<'_, F, T, R>,
 ) -> Apart<F>
+    ensures count { length result.parts.halves.items ≡ length site.entry.line.sizes }
     ensures halves { halves_of result.parts.halves.items ≡ site.entry.seen.state.halves }
     ensures disk { IfSome result.parts.disk (λ bytes. bytes.items ≡ site.entry.seen.state.disk.bytes) }
     ensures has_disk { is_some result.parts.disk ≡ site.entry.line.has_disk }
     ensures files { IfSome result.files (λ files. FilesOf files.log site.entry.seen result.is_sound) }
 {
-    let has_stopped = site.has_stopped();
-    let (parts, watched) = site.into_parts();
+    let Parted {
+        parts,
+        has_stopped,
+        device: watched,
+    } = split(site);
     let device = watched.into_device();
     let is_sound = !has_stopped && !device.has_failed();
     Apart {
@@ -74,7 +104,6 @@ pub(crate) fn save_sound<S: Store, T: Write, R: Clock>(
     ensures others { ChangesAmong (S.files store.old) (S.files store.new) (files_of line.now) }
     ensures files { SavedSoundly site.entry.seen result.saved (option_map (λ files. files.log) result.files) }
 {
-    let _count = site.slaves();
     let Apart {
         parts,
         is_sound,

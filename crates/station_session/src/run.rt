@@ -15,7 +15,8 @@ use crate::watch::Watch;
 use line_watch::{Capture, Captured, Cleared, Watched};
 use sii_edit::Command;
 use site_file::{FileDevice, FileTold, OpenFiles};
-use site_shadow::{Device, Lends, ShadowSite};
+use site_mem::FaultPlan;
+use site_shadow::{Lends, ShadowSite};
 use station_files::{ExitStatus, Failures, Fault, Store};
 use station_line::{Given, Session, load, of_open, open_files, open_station};
 use station_text::LineFile;
@@ -61,10 +62,11 @@ impl Ran {
     }
 }
 
-/// A line to be opened, and the commands for it.
+/// A line to be opened on a device, and the commands for it.
 #[derive(Drop)]
-struct Ready<D: Device> {
-    site: ShadowSite<D>,
+struct Ready<D> {
+    site: ShadowSite<FaultPlan>,
+    device: D,
     /// Whether the journal's version byte is other than 2.
     is_old: bool,
     commands: Vec<Command>,
@@ -246,7 +248,8 @@ fn run_opened<
     watch.expect(commands.len());
     let device = Watched::new(FileDevice::new(files), progress, rt);
     let ready = Ready {
-        site: site.with_device(Captured::new(device, capture, rt)),
+        site,
+        device: Captured::new(device, capture, rt),
         is_old,
         commands,
     };
@@ -279,10 +282,11 @@ fn run_site<D: Lends + Send, S: Store, W: Write, R: Wait + Threads + AllocGlobal
 {
     let Ready {
         site,
+        device,
         is_old,
         commands,
     } = ready;
-    match open_station(rt.alloc(), site, is_old, None) {
+    match open_station(rt.alloc(), site.with_device(device), is_old, None) {
         Ok(alone) => {
             let answers = Answers { output, failures };
             run_threads(rt, line, alone, commands, store, answers)

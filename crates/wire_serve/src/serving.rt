@@ -263,28 +263,36 @@ fn do_task<
         Task::Scan { sizes, form } => all_done(scan_line(rt, &mut wire, &sizes, form, output)),
         Task::Backup { line, sizes } => back_up(rt, line, &sizes, &mut wire, store, output),
         Task::BackupTo { folder, sizes } => {
-            let line = dated_name(rt, folder)?;
-            let ended = back_up(rt, &line, &sizes, &mut wire, store, output)?;
-            writeln!(output, "line {line}")?;
-            Ok(ended)
+            back_up_to(rt, folder, &sizes, &mut wire, store, output)
         }
         Task::Init { line, asked } => {
             all_done(init_on_wire(rt, &mut wire, line, asked, store, output))
         }
         Task::Run(order) => run_script(rt, wire, order, store, output).into_ended(),
-        Task::Plan { order, form } => { plan_on_wire(rt, &mut wire, order, form, store, output) }
+        Task::Plan { order, form } => plan_on_wire(rt, &mut wire, order, form, store, output),
         Task::Recover { line, asked } => {
             all_done(recover_line(rt, wire, line, asked, store, output).into_ended())
         }
         Task::Slaves(practice) => {
-            serve_slaves(rt, rt.alloc(), practice, wire.wire(), store, output)?;
-            Ok(ExitStatus::Done)
+            all_done(serve_slaves(rt, rt.alloc(), practice, wire.wire(), store, output))
         }
-        Task::Explain => {
-            explain(rt.alloc(), output)?;
-            Ok(ExitStatus::Done)
-        }
+        Task::Explain => all_done(explain(rt.alloc(), output)),
     }
+}
+
+/// Backs up the line into files of this folder, whose names have the time of the day, and prints the name of the line file.
+fn back_up_to<H: Clock + AllocGlobal, W: Wire, S: Store, O: Write>(
+    rt: &H,
+    folder: &str,
+    sizes: &Sizes,
+    wire: &mut NumberedWire<W>,
+    store: &mut S,
+    output: &mut O,
+) -> Result<ExitStatus, WireFault> {
+    let line = dated_name(rt, folder)?;
+    let ended = back_up(rt, &line, sizes, wire, store, output)?;
+    writeln!(output, "line {line}")?;
+    Ok(ended)
 }
 
 /// Backs up the line, and makes an empty journal for it if there is none.
@@ -301,7 +309,10 @@ fn back_up<H: Clock + AllocGlobal, W: Wire, S: Store, O: Write>(
 }
 
 /// `Done` where no fault came.
-fn all_done(ended: Result<(), WireFault>) -> Result<ExitStatus, WireFault> {
+fn all_done<F>(ended: Result<(), F>) -> Result<ExitStatus, WireFault>
+where
+    WireFault: From<F>,
+{
     ended?;
     Ok(ExitStatus::Done)
 }

@@ -103,20 +103,20 @@ pub(crate) const NO_TROUBLE: Trouble = Trouble {
 
 /// What is done with a line.
 #[derive(Clone, Copy)]
-pub(crate) enum Act {
+pub(crate) enum Act<'v> {
     Nothing,
     /// All words of slave 0 are read, each as 0.
     Read,
     /// The register is read that says who has access.
     Look,
     /// The words of slave 0 from word 4 on are made these. Each is issued so often, as long as it ends in error.
-    Write(&'static [u16], u32),
+    Write(&'v [u16], u32),
 }
 
 /// Words 4, 5 and 6 of slave 0, which are 0 at first, become these.
 const NEW: [u16; 3] = [0x1111, 0x2222, 0x3333];
 
-pub(crate) const WRITE_NEW: Act = Act::Write(&NEW, 100);
+pub(crate) const WRITE_NEW: Act<'static> = Act::Write(&NEW, 100);
 
 /// What comes of an act.
 #[derive(Clone, Copy)]
@@ -149,10 +149,10 @@ pub(crate) struct Work {
 pub(crate) struct Run<'a> {
     pub slaves: &'a [Slave],
     pub trouble: Trouble,
-    pub act: Act,
+    pub act: Act<'static>,
     /// What goes wrong as the EEPROMs are handed back behind the first act, if they are.
     pub behind: Option<Trouble>,
-    pub then: Act,
+    pub then: Act<'static>,
 }
 
 /// What comes of a run.
@@ -333,13 +333,26 @@ fn count_written(site: &mut impl Site, values: &[u16], tries: u32) -> usize {
     values.len()
 }
 
+// Does this with a site. How many words were written, and whether all went well.
+fn done_on(alloc: Global, site: &mut impl Site, act: &Act<'_>) -> (usize, bool) {
+    match *act {
+        Act::Nothing => (0, true),
+        Act::Read => (0, is_read(alloc, site)),
+        Act::Look => (0, has_access(site)),
+        Act::Write(values, tries) => {
+            let count = count_written(site, values, tries);
+            (count, count == values.len())
+        }
+    }
+}
+
 /// Does this with the line that was brought up on this wire, and gives the wire back.
 pub(crate) fn work_on<W: Wire>(
     alloc: Global,
     bench: &Bench,
     wire: NumberedWire<W>,
     parts: Parts,
-    act: &Act,
+    act: &Act<'_>,
 ) -> (NumberedWire<W>, Outcome)
     requires { AreWhole parts }
 {
@@ -349,15 +362,7 @@ pub(crate) fn work_on<W: Wire>(
     };
     let device = WireDevice::new(wire, &bench.clock, FileDevice::new(files));
     let mut site = ShadowSite::of_parts(alloc, parts, device);
-    let (count, is_done) = match *act {
-        Act::Nothing => (0, true),
-        Act::Read => (0, is_read(alloc, &mut site)),
-        Act::Look => (0, has_access(&mut site)),
-        Act::Write(values, tries) => {
-            let count = count_written(&mut site, values, tries);
-            (count, count == values.len())
-        }
-    };
+    let (count, is_done) = done_on(alloc, &mut site, act);
     let (parts, device) = site.into_parts();
     drop(parts);
     let outcome = Outcome {
@@ -393,7 +398,7 @@ fn work_with<'f>(
     bench: &Bench,
     wire: TestWire<'f>,
     trouble: &Trouble,
-    act: &Act,
+    act: &Act<'_>,
 ) -> Option<(TestWire<'f>, Work)> {
     let mut wire = wire;
     plan(&mut wire, &NO_TROUBLE);

@@ -7,9 +7,9 @@ use std::alloc::Global;
 use wire_practice::{Fate, Mishap, NO_QUIRKS, Quirks};
 
 // Word 4 is made 1, or words 4, 5 and 6 are made 1, 2 and 3.
-const WRITE: Act = Act::Write(&[1], 1);
+const WRITE: Act<'static> = Act::Write(&[1], 1);
 
-const WRITE_ALL: Act = Act::Write(&[1, 2, 3], 1);
+const WRITE_ALL: Act<'static> = Act::Write(&[1, 2, 3], 1);
 
 // The site doesn't stop.
 const GOES_ON: Option<StopReason> = None;
@@ -45,7 +45,15 @@ const DEAD: Pattern = Pattern::Fill(0xdead);
 
 // What is done, for how many datagrams the slave stays busy with a command, how many frames pass, how many have the fate, why the
 // site stops, and words 4, 5 and 6 then.
-type Case = (Act, u32, u32, u32, Fate, Option<StopReason>, [u16; 3]);
+type Case = (
+    Act<'static>,
+    u32,
+    u32,
+    u32,
+    Fate,
+    Option<StopReason>,
+    [u16; 3],
+);
 
 // Frame 0 asks to write the word, and those behind it poll, until the slave is idle; then the word is read back.
 const CASES: &[Case] = &[
@@ -116,7 +124,7 @@ const CUTS: &[(u32, Pattern, [u16; 3])] = &[
 // the line is brought up again on a good wire.
 fn ends_so(
     alloc: Global,
-    act: Act,
+    act: Act<'static>,
     delay: u32,
     trouble: Trouble,
     reason: Option<StopReason>,

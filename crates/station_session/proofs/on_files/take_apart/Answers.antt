@@ -10,9 +10,9 @@ returns-clause-files g c =
     let device = c.into_device-device.result in
     let seen = c.args.site.seen in
     told_files _ device c.finish.result seen c.if-not-has_stopped.is_sound
-    (subst (λ (d : FileDevice g.row.F.Denot). Follows d seen) (sym c.into_device-device.ensures) c.into_parts-parts.ensures.device) (elim c.if-not-has_stopped.branch [
+    (subst (λ (d : FileDevice g.row.F.Denot). Follows d seen) (sym c.into_device-device.ensures) c.split-parts.ensures.device) (elim c.if-not-has_stopped.branch [
       | then-not-has_stopped w ↦
-          sound_by c.if-not-has_stopped.is_sound c.has_stopped-has_stopped.result seen.is_stopped w.has_failed.result device.has_failed
-          c.has_stopped-has_stopped.ensures w.if-not-has_stopped.true w.has_failed.ensures w.is_sound-is
+          sound_by c.if-not-has_stopped.is_sound c.split-parts.result.has_stopped seen.is_stopped w.has_failed.result device.has_failed
+          c.split-parts.ensures.stopped w.if-not-has_stopped.true w.has_failed.ensures w.is_sound-is
       | else-not-has_stopped w ↦ (λ is. absurd (let e : true ≡ false = sym is ∙ w.is_sound-is ∙ ap not w.if-not-has_stopped.false in cc))
     ]) c.finish.ensures.log

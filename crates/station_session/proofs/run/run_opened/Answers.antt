@@ -1,13 +1,10 @@
 use Rattle.std.proofs.Common.{false, sym, subst}
 use denote.Param.Send.{sendable}
-use Rattle.site_shadow.specs.Site.{SiteValue}
 use Rattle.site_file.proofs.Sent.{device-send}
 use Rattle.line_watch.proofs.Sent.{captured-send, watched-send}
-use Rattle.station_line.specs.Opened.{IsFresh}
 use Rattle.station_session.specs.RunFiles.{RunKeepsFiles}
-use Rattle.station_session.specs.Session.{EndsRun}
 use Rattle.station_session.proofs.Ending.{told-too}
-use Rattle.station_session.proofs.RunFiles.{kept_as, run_on_files, told_as}
+use Rattle.station_session.proofs.RunFiles.{run_on_files, told_as}
 use Rattle.station_session.proofs.run.run_opened.Goals as goal
 
 pub run_site-served-requires-send-D : goal.run_site-served-requires-send-D
@@ -18,18 +15,15 @@ returns-clause-ends g c =
     let given = c.args.given in
     let files = g.S.Store.files in
     told-too false (files c.args.store.now) (files c.run_site-served.new.store) given.session.line given.session.site given.commands.items c.run_site-served.result.status c.with_all_told-served.result.status
-    (subst (λ (s : SiteValue). EndsRun false (files c.args.store.now) (files c.run_site-served.new.store) given.session.line s given.commands.items c.run_site-served.result.status) c.with_device.ensures c.run_site-served.ensures.ends)
+    c.run_site-served.ensures.ends
     c.with_all_told-served.ensures.status
 
 pub returns-clause-kept : goal.returns-clause-kept
 returns-clause-kept g c =
     let given = c.args.given in
-    let site = c.with_device in
     let ran = c.run_site-served in
     let told = c.with_all_told-served in
-    let fresh = subst (λ (s : SiteValue). IsFresh given.session.line s) (sym site.ensures) c.requires.fresh in
     subst (λ t. RunKeepsFiles _ given.session.site.seen given.commands.items told.result.status t) (sym told.ensures.told)
     (told_as _ given.session.site.seen given.commands.items ran.result.status told.result.status ran.result.told told.ensures.status
-    (kept_as _ given.session.site site.result given.commands.items ran.result.status ran.result.told site.ensures
     (run_on_files _ _ _ _ (λ device seen follows. (device.device.device, follows)) (λ device seen follows told tells. tells.calls) (λ device seen follows well. well) ran.result.told
-    site.result.seen given.commands.items ran.result.status fresh.new ran.ensures.goes)))
+    given.session.site.seen given.commands.items ran.result.status c.requires.fresh.new ran.ensures.goes))

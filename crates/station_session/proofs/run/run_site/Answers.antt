@@ -1,4 +1,6 @@
 use Rattle.std.proofs.Common.{subst, sym}
+use Rattle.site_shadow.specs.Site.{SiteValue}
+use Rattle.station_line.specs.Opened.{GoesKept, StartsFrom}
 use Rattle.station_line.specs.Site.{IsFollowed}
 use Rattle.station_line.proofs.Opened.{starts-synced}
 use Rattle.station_session.specs.RunFiles.{TellsOf, opened, unopened}
@@ -7,13 +9,18 @@ use Rattle.station_session.proofs.run.run_site.Goals as goal
 
 pub returns-in-Ok-clause-goes : goal.returns-in-Ok-clause-goes
 returns-in-Ok-clause-goes g c =
-    opened c.in-Ok.alone (record { goes = c.in-Ok.ensures.goes; followed = c.run_threads.ensures.followed }) (starts-synced c.args.ready.is_old c.args.ready.site c.in-Ok.alone c.in-Ok.ensures.starts) c.run_threads.ensures.serves
+    let alone = c.in-Ok.alone in
+    let same = c.with_device.ensures in
+    let goes = subst (λ (s : SiteValue). GoesKept s.seen alone.seen) same c.in-Ok.ensures.goes in
+    let starts = subst (λ (s : SiteValue). StartsFrom c.args.ready.is_old s alone) same c.in-Ok.ensures.starts in
+    opened alone (record { goes = goes; followed = c.run_threads.ensures.followed }) (starts-synced c.args.ready.is_old c.args.ready.site alone starts)
+    c.run_threads.ensures.serves
 
 pub returns-in-Err-clause-goes : goal.returns-in-Err-clause-goes
 returns-in-Err-clause-goes g c =
     let told = c.of_opening.result in
     unopened c.in-Err.left.seen (record {
-      goes = c.in-Err.ensures.goes;
+      goes = subst (λ (s : SiteValue). GoesKept s.seen c.in-Err.left.seen) c.with_device.ensures c.in-Err.ensures.goes;
       followed = subst (λ t. IsFollowed (TellsOf g.D.Device.follows g.D.Lends.tells t) c.in-Err.left.seen)
           (sym (told-opening told.desk told.opening c.tell.result c.of_opening.ensures.desk c.of_opening.ensures.opening))
           (c.into_parts-parts.result.1, (c.into_parts-parts.ensures.device, c.tell.ensures));
