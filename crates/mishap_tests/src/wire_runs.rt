@@ -80,8 +80,8 @@ const RECOVERY: Step = Step {
     trouble: NO_TROUBLE,
 };
 
-/// What frames meet, how many in a row, and why a site may stop then. What isn't compared never stops it.
-const MISHAPS: &[(Fate, u32, Why)] = &[
+/// Frames that are lost, late or there twice: what they meet, how many in a row, and why a site may stop then.
+const ASTRAY: &[(Fate, u32, Why)] = &[
     (Fate::LostBefore, 2, Why::Never),
     (Fate::LostBefore, 3, Why::Silent),
     (Fate::LostBehind, 1, Why::Never),
@@ -89,6 +89,10 @@ const MISHAPS: &[(Fate, u32, Why)] = &[
     (Fate::Doubled, 9, Why::Never),
     (Fate::SentTwice, 9, Why::Never),
     (Fate::Delayed, 1, Why::Never),
+];
+
+/// The same of frames in which bits are turned. What isn't compared never stops a site.
+const TURNED: &[(Fate, u32, Why)] = &[
     // The length of the frame, which is sent again then, and the IRQ word, which is not compared.
     (Fate::Turned(0, 1), 1, Why::Never),
     (Fate::Turned(10, 1), 1, Why::Never),
@@ -329,15 +333,29 @@ fn stops_as_said<R: Wait + Threads + Sync>(
 }
 
 #[test]
-fn mishaps_of_a_run_end_well_or_stop(rt: HostRuntime) {
-    for mishap in MISHAPS {
+fn frames_astray_in_a_run_end_well_or_stop(rt: HostRuntime) {
+    for mishap in ASTRAY {
         assert!(rt; stops_as_said(&rt, rt.alloc(), Act::Run(Way::OneByOne), mishap));
     }
 }
 
 #[test]
-fn mishaps_of_a_run_by_threads_end_well_or_stop(rt: HostRuntime) {
-    for mishap in MISHAPS {
+fn frames_turned_in_a_run_end_well_or_stop(rt: HostRuntime) {
+    for mishap in TURNED {
+        assert!(rt; stops_as_said(&rt, rt.alloc(), Act::Run(Way::OneByOne), mishap));
+    }
+}
+
+#[test]
+fn frames_astray_in_a_run_by_threads_end_well_or_stop(rt: HostRuntime) {
+    for mishap in ASTRAY {
+        assert!(rt; stops_as_said(&rt, rt.alloc(), Act::RunByThreads, mishap));
+    }
+}
+
+#[test]
+fn frames_turned_in_a_run_by_threads_end_well_or_stop(rt: HostRuntime) {
+    for mishap in TURNED {
         assert!(rt; stops_as_said(&rt, rt.alloc(), Act::RunByThreads, mishap));
     }
 }

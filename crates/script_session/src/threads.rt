@@ -165,10 +165,26 @@ fn taken_apart<D: Device + Drop, T: Drop>(
     ensures room { IfOk result (λ apart. IsRoom apart.room × (length apart.sites.slaves.items ≤ vec_capacity apart.room.told)) }
 {
     let sites = servable_sites(alloc, line, capacity)?;
-    let slaves = sites.slaves.len();
+    match room_for(alloc, sites.slaves.len()) {
+        Ok((lent, room)) => Ok(Apart { sites, lent, room }),
+        Err(AllocError) => {
+            drop(sites);
+            Err(Fault::Memory)
+        }
+    }
+}
+
+/// Empty lists with room for the sites of so many slaves, each with its device, and for what the workers leave.
+fn room_for<D: Device + Drop, T: Drop>(
+    alloc: Global,
+    slaves: usize,
+) -> Result<(Vec<ShadowSite<D>>, OfSlaves<T>), AllocError>
+    ensures lent { IfOk result (λ room. (room.0.items ≡ []) × (slaves ≤ vec_capacity room.0)) }
+    ensures room { IfOk result (λ room. IsRoom room.1 × (slaves ≤ vec_capacity room.1.told)) }
+{
     let lent = Vec::with_capacity(alloc, slaves)?;
     let room = OfSlaves::room(alloc, slaves)?;
-    Ok(Apart { sites, lent, room })
+    Ok((lent, room))
 }
 
 /// Takes a line apart, and makes room to put it together again. The line's device lends each part its own once nothing can fail any more.

@@ -47,7 +47,8 @@ fn split<D: Device>(site: ShadowSite<D>) -> Parted<D>
     ensures stopped { result.has_stopped ≡ site.seen.is_stopped }
     ensures device { D.follows result.device site.seen }
 {
-    let _count = site.slaves();
+    // Its contract says that there is a half for each slave.
+    let _slaves = site.slaves();
     let has_stopped = site.has_stopped();
     let (parts, device) = site.into_parts();
     Parted {

@@ -2,6 +2,7 @@ use Rattle.std.proofs.Common.{◌∙◌, ◌≤◌, ap, arith, length, refl, sub
 use Rattle.std.specs.Prelude.{vec_capacity}
 use Rattle.site_core.specs.Line.{Line}
 use Rattle.book_model.specs.Book.{Book}
+use Rattle.station_line.specs.Site.{IsFollowed}
 use Rattle.script_session.specs.AtDesk.{IsUnservedTold}
 use Rattle.script_session.specs.Parts.{IsApart, Sites}
 use Rattle.script_session.proofs.ApartLaws.{apart_told}
@@ -66,3 +67,12 @@ returns-in-Err-serve_at_desk-clause-failed g c =
 pub told_unserved-requires-clause-reserved : goal.told_unserved-requires-clause-reserved
 told_unserved-requires-clause-reserved g c =
     subst (λ (sites : Sites). length sites.slaves.items ≤ vec_capacity c.in-Ok.prepared.whole.room.told) (sym c.in-Err-serve_at_desk.ensures.handed_back) c.in-Ok.ensures.reserved
+
+pub returns-in-Err-clause-before : goal.returns-in-Err-clause-before
+returns-in-Err-clause-before g c = subst (IsFollowed g.D.Device.follows) c.into_parts-core.ensures.seen c.prepare.ensures.followed
+
+pub returns-in-Ok-serve_at_desk-clause-before : goal.returns-in-Ok-serve_at_desk-clause-before
+returns-in-Ok-serve_at_desk-clause-before g c = subst (IsFollowed g.D.Device.follows) c.into_parts-core.ensures.seen c.prepare.ensures.followed
+
+pub returns-in-Err-serve_at_desk-clause-before : goal.returns-in-Err-serve_at_desk-clause-before
+returns-in-Err-serve_at_desk-clause-before g c = subst (IsFollowed g.D.Device.follows) c.into_parts-core.ensures.seen c.prepare.ensures.followed
