@@ -114,8 +114,8 @@ static int is_among(const char *word, const char *words) {
 
 int main(int argc, char **argv) {
     const char *name = NULL, *program = NULL, *timeout = "100";
-    char *words[argc + 4], *rest = NULL;
-    int it = 1, count = 3, helps = 0, text_named = 0, spare;
+    char *words[argc + 6], *rest = NULL;
+    int it = 1, count = 5, helps = 0, text_named = 0, spare;
     while ((spare = open("/dev/null", O_RDWR)) >= 0 && spare < 3) {}  // so that standard input, output and error are there
     for (const char *word; it < argc && (word = argv[it]); it++) {
         const char **value = !strcmp(word, "-i") ? &name : !strcmp(word, "--timeout") ? &timeout : !strcmp(word, "--program") ? &program : NULL;
@@ -127,14 +127,14 @@ int main(int argc, char **argv) {
     }
     long ms = timeout ? strtol(timeout, &rest, 10) : 0;
     if (!rest || *rest || ms < 1 || ms > 60000) errx(USAGE, "--timeout wants a number of milliseconds, 1 to 60000");
-    int wire = helps || is_among(count > 3 ? words[3] : "help", " help explain man completions ") ? spare : open_wire(name, ms);
+    int wire = helps || is_among(count > 5 ? words[5] : "help", " help explain man completions ") ? spare : open_wire(name, ms);
     give_up_privileges();
     int text = fcntl(open_text(), F_DUPFD, 10), moved = fcntl(wire, F_DUPFD, 10), begin = text_named ? 2 : 0;
     must(text >= 0 && moved >= 0 && dup2(text, 3) == 3 && dup2(moved, 0) == 0 && dup2(moved, 1) == 1, "descriptors");
     // Help goes to standard error, and is to be read in a pager.
     must((!helps || dup2(3, 2) == 2) && !close_range(4, ~0U, 0), "descriptors");
-    words[count] = NULL, words[begin] = argv[0];
-    if (!text_named) words[1] = "--text", words[2] = "/dev/fd/3";
+    words[count] = NULL, words[begin] = argv[0], words[begin + 1] = "--timeout", words[begin + 2] = (char *)timeout;
+    if (!text_named) words[3] = "--text", words[4] = "/dev/fd/3";
     if (!program) program = program_beside();
 #ifdef BUILD
     if (is_among(words[count - 1], " -V --version ")) dprintf(3, "%s\n", BUILD);

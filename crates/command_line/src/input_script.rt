@@ -1,7 +1,7 @@
 //! The files of a store, and a script that is no file among them.
 ghost use Rattle.command_line.specs.InputScript.{but_scripts, with_script};
 
-use station_files::{Location, LockFault, Store, read_to_end};
+use station_files::{Entry, Location, LockFault, Store, read_to_end};
 use std::alloc::Global;
 use std::io;
 use std::io::Read;
@@ -79,6 +79,18 @@ impl<S: Store> Store for InputScript<'_, S> {
         }
     }
 
+    fn look(&mut self, name: &str) -> io::Result<Entry> {
+        match &self.script {
+            Some(script) if script.name == name => match &script.text {
+                Ok(bytes) => Ok(Entry::File {
+                    length: bytes.len() as u64,
+                }),
+                Err(error) => Err(*error),
+            },
+            _ => self.store.look(name),
+        }
+    }
+
     fn locate(&mut self, alloc: Global, name: &str) -> io::Result<Location> {
         if self.script.is_some() && (name == INPUT || name == TYPED) {
             return Ok(Location::of_name(alloc, name)?);
@@ -97,10 +109,10 @@ impl<S: Store> Store for InputScript<'_, S> {
         }
     }
 
-    fn open(&mut self, name: &str) -> io::Result<S::File> {
+    fn open(&mut self, name: &str, bytes: &[u8]) -> io::Result<S::File> {
         match &self.script {
             Some(script) if script.name == name => Err(refusal()),
-            _ => self.store.open(name),
+            _ => self.store.open(name, bytes),
         }
     }
 

@@ -65,10 +65,21 @@ impl Unread {
                 ExitStatus::Done
             }
             Unread::Wrong(text) => {
-                let _ = faults.write_all(text.as_bytes());
+                write_escaped(text.as_str(), faults);
                 ExitStatus::Usage
             }
         }
+    }
+}
+
+/// Writes a text that may hold what a user has typed: what controls a terminal is escaped, but for ends of lines.
+fn write_escaped<E: Write>(text: &str, faults: &mut E) {
+    for letter in text.chars() {
+        let _ = if letter.is_control() && letter != '\n' {
+            write!(faults, "{}", letter.escape_default())
+        } else {
+            write!(faults, "{letter}")
+        };
     }
 }
 

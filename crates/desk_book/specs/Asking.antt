@@ -1,5 +1,5 @@
 -- What a request for a job, and the report of its outcome, do to the book under its lock.
-use Rattle.std.specs.Prelude.{◌≡◌, ◌⊎◌, ◌+◌, ◌-◌, ◌&&◌, ◌||◌, ◌==◌, ℕ, Bool, true, false, MatchBool, List, Option, Some, None, Result, Ok, length, slice_get, is_some, nat_le, if◌then◌else◌}
+use Rattle.std.specs.Prelude.{◌≡◌, ◌⊎◌, ◌+◌, ◌-◌, ◌&&◌, ◌||◌, ◌==◌, ℕ, Bool, true, false, not, MatchBool, List, Option, Some, None, Result, Ok, length, slice_get, is_some, nat_le, if◌then◌else◌}
 use Rattle.sii_image.specs.declared.plan.Plan.{Plan}
 use Rattle.sii_image.specs.ProcessImage.{process_image}
 use Rattle.site_core.specs.declared.fault.DeviceFault.{DeviceFault}
@@ -124,6 +124,10 @@ is_of_prefix prefix (Some turn) = turn.prefix == prefix
 -- There are no more cycles to do: the book has a fault, or its plan stays as it is and the last cycle of the log was of it.
 abbrev pub has_no_more_turns : Book → List CycleNote → Bool
 has_no_more_turns book log = is_some book.fault || (is_done book && is_of_prefix (applied book) (last_turn log))
+
+-- The next cycle would repeat the last one of the log: there are more cycles to do, and the last one was of the book's plan.
+abbrev pub is_repeating : Book → List CycleNote → Bool
+is_repeating book log = not (has_no_more_turns book log) && is_of_prefix (applied book) (last_turn log)
 
 -- the cycle exchanged no bytes
 abbrev pub is_without_bytes : Option CycleNote → Bool

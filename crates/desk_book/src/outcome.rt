@@ -1,6 +1,6 @@
 //! Reads the final book, and compares with it what is handed in to close a desk.
 
-ghost use Rattle.std.specs.Prelude.{◌≡◌, ◌↔◌, ◌<◌, length, IsTrue};
+ghost use Rattle.std.specs.Prelude.{◌≡◌, ◌↔◌, ◌<◌, [], length, IsTrue};
 ghost use Rattle.sii_edit.specs.Fold.{contents};
 ghost use Rattle.book_model.specs.Book.{base_of};
 ghost use Rattle.desk_book.specs.Calls.{replayed, AreAnswered};
@@ -16,7 +16,7 @@ use crate::ticket::Receipt;
 use sii_edit::Command;
 use sii_words::Plant;
 use site_core::Site;
-use station_jobs::{CycleNote, DiskEntry, End, SlaveLog, are_same_actions, are_same_turns};
+use station_jobs::{CycleLog, CycleNotes, DiskEntry, End, SlaveLog, are_same_actions};
 
 impl<T: Tickets, R: Refusals> Served<T, R> {
     /// The accepted commands, in order.
@@ -88,10 +88,17 @@ impl<T: Tickets, R: Refusals> Served<T, R> {
     }
 
     /// Whether this log has exactly the process data cycles that were handed out.
-    pub fn cycle_matches(&self, log: &[CycleNote]) -> bool
+    pub fn cycle_matches(&self, log: &CycleLog) -> bool
         ensures { IsTrue result ↔ (log.now ≡ cycle_log self.now.calls) }
     {
-        are_same_turns(log, &self.cycle)
+        log.notes().are_same(&self.cycle)
+    }
+
+    /// Whether no process data cycle was handed out.
+    pub fn has_no_turns(&self) -> bool
+        ensures { IsTrue result ↔ (cycle_log self.now.calls ≡ []) }
+    {
+        self.cycle.are_same(&CycleNotes::new(self.alloc))
     }
 
     /// Whether this is the log of slave `at`, with exactly the jobs that were handed out for it.

@@ -12,7 +12,7 @@ use book_core::Core;
 use book_model::{DiskNext, RomNext, RomOutcome, Status};
 use sii_words::History;
 use site_core::DeviceFault;
-use station_jobs::{CycleNote, Notes};
+use station_jobs::{CycleNotes, Notes};
 use std::alloc::{AllocError, Global};
 use std::marker::Model;
 use std::sync::ledger::Book;
@@ -31,7 +31,7 @@ pub struct Served<T: Tickets, R: Refusals> {
     pub(crate) pool: Pool<T, R>,
     pub(crate) disk: Notes<DiskNext, Result<(), DeviceFault>>,
     pub(crate) slaves: Vec<Notes<RomNext, RomOutcome>>,
-    pub(crate) cycle: Vec<CycleNote>,
+    pub(crate) cycle: CycleNotes,
     /// The status that `progress` answered last.
     pub(crate) seen: Status,
 }
@@ -51,7 +51,7 @@ impl<T: Tickets, R: Refusals> Model for Served<T, R> {
     } };
 
     ghost invariant = { λ s. IsReplayed T.opened s.core s.history × AreCounted s.core s.history s.tickets.total s.refusals.total
-        × (s.refused ≡ s.refusals.total) × AreLogs s.history s.disk.entries s.slaves.items s.cycle.items
+        × (s.refused ≡ s.refusals.total) × AreLogs s.history s.disk.entries s.slaves.items s.cycle.entries
         × IsEach T.opened s.slaves.items };
 }
 
@@ -136,7 +136,7 @@ impl<T: Tickets, R: Refusals> Served<T, R> {
             pool,
             disk: Notes::new(alloc),
             slaves,
-            cycle: Vec::new(alloc),
+            cycle: CycleNotes::new(alloc),
             seen,
         }
     }

@@ -2,7 +2,7 @@
 
 ghost use Rattle.std.specs.Prelude.{◌≡◌, Some};
 ghost use Rattle.book_model.specs.Reading.{applied};
-ghost use Rattle.desk_book.specs.Asking.{AsksPlan, HearsPlan, has_no_more_turns, is_done, is_of_prefix, is_resting, is_without_bytes, last_turn, note_of};
+ghost use Rattle.desk_book.specs.Asking.{AsksPlan, HearsPlan, has_no_more_turns, is_done, is_of_prefix, is_repeating, is_resting, is_without_bytes, last_turn, note_of};
 ghost use Rattle.desk_book.specs.Calls.{replayed, AreAnswered};
 ghost use Rattle.desk_book.specs.Logs.{cycle_log};
 
@@ -37,7 +37,7 @@ impl<T: Tickets, R: Refusals> Served<T, R> {
     fn is_last_turn_of_plan(&self) -> bool
         ensures { result ≡ is_of_prefix (applied (replayed T.opened self.now.calls)) (last_turn (cycle_log self.now.calls)) }
     {
-        match self.cycle.as_slice().last() {
+        match self.cycle.last() {
             Some(last) => last.prefix == self.core.applied(),
             None => false,
         }
@@ -55,7 +55,7 @@ impl<T: Tickets, R: Refusals> Served<T, R> {
     fn is_last_turn_without_bytes(&self) -> bool
         ensures { result ≡ is_without_bytes (last_turn (cycle_log self.now.calls)) }
     {
-        match self.cycle.as_slice().last() {
+        match self.cycle.last() {
             Some(last) => last.size == 0,
             None => false,
         }
@@ -66,6 +66,14 @@ impl<T: Tickets, R: Refusals> Served<T, R> {
         ensures { result ≡ is_resting (replayed T.opened self.now.calls) (cycle_log self.now.calls) }
     {
         self.is_last_turn_of_plan() && self.is_last_turn_without_bytes()
+    }
+
+    /// Whether the next cycle would repeat the last one: there are more cycles to do, and the last one had the image after the commands that
+    /// are settled in a row.
+    pub fn repeats_turn(&self) -> bool
+        ensures { result ≡ is_repeating (replayed T.opened self.now.calls) (cycle_log self.now.calls) }
+    {
+        !self.has_no_more_turns() && self.is_last_turn_of_plan()
     }
 
     /// Answers the plan of the next process data cycle: the process image after the commands that are settled in a row.
@@ -93,7 +101,7 @@ impl<T: Tickets, R: Refusals> Served<T, R> {
         ensures hears { HearsPlan (replayed T.opened self.old.calls) result self.old self.new }
         ensures answered { AreAnswered T.opened self.new.calls }
     {
-        let Ok(()) = self.cycle.reserve(1) else {
+        let Ok(()) = self.cycle.reserve() else {
             return Heard::NoMemory;
         };
         match self.core.plan() {
@@ -101,7 +109,7 @@ impl<T: Tickets, R: Refusals> Served<T, R> {
                 let turn = note_of(&plan);
                 let answer = Some(turn);
                 note(&mut self.history, Call::PlanAsked { answer });
-                self.cycle.push_reserved(turn);
+                self.cycle.hand_out(turn);
                 Heard::Work(plan)
             }
             Err(ImageFault::ImageOverLimit) => {

@@ -21,3 +21,5 @@ mod sites;
 mod stops;
 #[cfg(test)]
 mod submitter;
+#[cfg(test)]
+mod turns;

@@ -84,7 +84,7 @@ fn put_together(rt: &impl Abort, alloc: Global, ends: &Ends<MemSite>) -> Parts {
 /// The last turn of the cycle.
 fn last_turn(cycle: &Option<End<MemSite, CycleLog>>) -> Option<CycleNote> {
     match cycle {
-        Some(end) => end.log().as_slice().last().copied(),
+        Some(end) => end.log().notes().last(),
         None => None,
     }
 }

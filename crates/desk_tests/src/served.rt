@@ -84,7 +84,7 @@ const INPUTS: &[u8] = &[
 ];
 
 /// An alias for the first of two slaves with process data.
-const TURNING: Scenario = Scenario {
+pub(crate) const TURNING: Scenario = Scenario {
     plan: Plan {
         words: 128,
         slaves: &[BOTH, INPUTS],

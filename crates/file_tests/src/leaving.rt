@@ -146,7 +146,7 @@ fn is_allowed(alloc: Global, calls: &[Call], trouble: Trouble, pattern: Pattern)
     let mut shelf = Shelf::new(alloc).ok()?;
     shelf.put("file", &BEFORE).ok()?;
     shelf.trouble(trouble, pattern).ok()?;
-    let file = shelf.open("file").ok()?;
+    let file = shelf.open("file", &BEFORE).ok()?;
     let mut asked = Asked::new();
     for call in calls {
         asked.begin(*call);

@@ -17,13 +17,15 @@ pub enum Mishap {
     Error,
     /// It fails, and all calls behind it.
     Full,
+    /// It fails, and then the disk works again, without a power cut before the next run.
+    Mended,
 }
 
 impl Mishap {
     fn at(self, call: u64) -> Trouble {
         match self {
             Mishap::Cut => Trouble::Cut(call),
-            Mishap::Error => Trouble::Error(call),
+            Mishap::Error | Mishap::Mended => Trouble::Error(call),
             Mishap::Full => Trouble::Full(call),
         }
     }
@@ -75,7 +77,7 @@ pub fn try_calls<'a>(
         behind_cuts: Vec::new(bench.alloc),
     };
     for call in 0..CALLS {
-        match try_call(rt, bench, run, mishap.at(call), &mut tried)? {
+        match try_call(rt, bench, run, (mishap, call), &mut tried)? {
             Ended::GoesOn => {}
             Ended::Last if call == 0 => return Err(io::Error::other("no call")),
             Ended::Last => return Ok(""),
@@ -90,9 +92,10 @@ fn try_call<'a>(
     rt: &(impl Wait + Threads + Sync),
     bench: &mut Bench,
     run: &Run<'a>,
-    trouble: Trouble,
+    (mishap, call): (Mishap, u64),
     tried: &mut Tried,
 ) -> io::Result<Ended<'a>> {
+    let trouble = mishap.at(call);
     let mut shelf = run.shelf(bench.alloc)?;
     run.prepare(bench.alloc, &mut shelf)?;
     shelf.trouble(trouble, run.pattern()?)?;
@@ -102,8 +105,16 @@ fn try_call<'a>(
         return Ok(Ended::Wrong(wrong));
     }
     let durable = durable_of(&bench.printed);
+    let has_come = shelf.troubles.has_come();
+    if matches!(mishap, Mishap::Mended) {
+        shelf.trouble(Trouble::Nothing, run.pattern()?)?;
+        print_words(rt, bench, run, run.text("first"), &mut shelf)?;
+        if bench.printed.status != 0 {
+            return Ok(Ended::Wrong("a recovery on a disk that works again"));
+        }
+    }
     match try_left(rt, bench, run, &shelf, durable, tried)? {
-        "" if shelf.troubles.has_come() => Ok(Ended::GoesOn),
+        "" if has_come => Ok(Ended::GoesOn),
         "" => Ok(Ended::Last),
         wrong => Ok(Ended::Wrong(wrong)),
     }

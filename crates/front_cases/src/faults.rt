@@ -28,6 +28,8 @@ const FAULTS: &[(Fault, &str, u8)] = &[
     (Fault::BadScript { command: 1 }, "fault 93 BadScript 1\n", 3),
     (Fault::Exists, "fault 94 Exists\n", 3),
     (Fault::Busy, "fault 95 Busy\n", 3),
+    (Fault::NotAFile, "fault 97 NotAFile\n", 3),
+    (Fault::TooLong, "fault 98 TooLong\n", 3),
 ];
 
 /// Why arguments can't be read, and what is printed of that, and the exit status.

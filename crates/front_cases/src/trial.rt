@@ -106,6 +106,7 @@ fn try_so<'a>(
         "power cuts" => try_calls(rt, bench, run, Mishap::Cut),
         "calls that fail" => try_calls(rt, bench, run, Mishap::Error),
         "full disks" => try_calls(rt, bench, run, Mishap::Full),
+        "disks that forget" => try_calls(rt, bench, run, Mishap::Mended),
         "page" => try_page(rt, bench, run, shelf),
         "plan" => try_plan(rt, bench, run, shelf),
         _ => Err(io::Error::other("an unknown way")),

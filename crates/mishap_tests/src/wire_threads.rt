@@ -6,7 +6,7 @@ use crate::wires::{Bench, journal_on};
 use runner_cases::asks::command;
 use runner_cases::runs::ASKS;
 use runner_cases::sites::{off, open};
-use script_session::{Work, serve_by_threads};
+use script_session::{Task, Work, serve_task};
 use sii_edit::Command;
 use site_core::Site;
 use site_shadow::{Lends, Parts, ShadowSite};
@@ -90,7 +90,8 @@ fn told_by_threads<D: Lends + Send, R: Wait + Threads + Sync>(
             commands: commands(alloc),
             tells_events: false,
         };
-        drop(serve_by_threads(rt, alloc, station, 3, work, &mut text).ok()?);
+        let task = Task { work, turns: false };
+        drop(serve_task(rt, alloc, station, 3, task, &mut text).ok()?);
     }
     Some(told_in(&text))
 }

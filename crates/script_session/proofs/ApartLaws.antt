@@ -1,6 +1,5 @@
 -- A line that was taken apart in memory, whose parts got devices, and which no desk has served.
 use Rattle.std.proofs.Common.{◌≡◌, ◌∙◌, ℕ, suc, List, [], ◌∷◌, ◌++◌, length, Option, Some, None, refl, sym, ap, subst}
-use Rattle.std.specs.Prelude.{is_some}
 use Rattle.std.specs.List.{AllByRecursion, AllZip}
 use Rattle.site_core.specs.Passes.{LeavesOnly}
 use Rattle.site_core.specs.State.{Leaves, Pair, Seen, State}
@@ -39,7 +38,6 @@ same_servable capacity whole sites same are is = record {
     disk = ap (λ (s : SiteValue). s.seen.state.disk) are.disk ∙ is.apart.disk;
     new = ap (λ (s : SiteValue). s.seen.past) are.disk ∙ is.apart.new;
     slaves = subst (AllPlaced BeginsWith 0 whole.halves) (sym are.slaves) is.apart.slaves;
-    turning = ap is_some are.cycle ∙ is.apart.turning;
   };
   own = record {
     owned = record {

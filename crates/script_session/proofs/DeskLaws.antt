@@ -206,16 +206,16 @@ module _ (opened : Book) (commands : List Command) (status : ExitStatus) (counts
 -- ---- the disk of a line that is taken apart
 
 pub servable : {E : Type 0} (result : Result Sites E) (sites : Sites) (capacity : ℕ) (whole : State) (disk : Option (Vec ℕ)) (halves : List SlaveHalf) → IsSomeAnd disk (λ (b : Vec ℕ). 8 + capacity ≤ length b.items) → IfSome disk (λ (b : Vec ℕ). b.items ≡ whole.disk.bytes)
-    → halves ≡ whole.halves → HasDiskOf disk sites.disk → sites.disk.seen.past ≡ [] → AllPlaced BeginsWith 0 halves sites.slaves.items → is_some sites.cycle ≡ true
+    → halves ≡ whole.halves → HasDiskOf disk sites.disk → sites.disk.seen.past ≡ [] → AllPlaced BeginsWith 0 halves sites.slaves.items
     → IfOk result (λ (same : Sites). (same ≡ sites) × OwnParts (λ (s : SiteValue). s.line) same.disk same.slaves.items same.cycle) → IfOk result (λ (same : Sites). IsServable capacity whole same)
-servable (Ok same) sites capacity whole (Some b) halves long bytes held disk new slaves turning is =
+servable (Ok same) sites capacity whole (Some b) halves long bytes held disk new slaves is =
     let owned : OwnParts (λ (s : SiteValue). s.line) sites.disk sites.slaves.items sites.cycle = subst (λ (x : Sites). OwnParts (λ (s : SiteValue). s.line) x.disk x.slaves.items x.cycle) is.0 is.1 in
     subst (λ (x : Sites). IsServable capacity whole x) (sym is.0) (record {
-      apart = record { disk = disk ∙ ap of_bytes bytes; new = new; slaves = subst (λ (l : List SlaveHalf). AllPlaced BeginsWith 0 l sites.slaves.items) held slaves; turning = turning };
+      apart = record { disk = disk ∙ ap of_bytes bytes; new = new; slaves = subst (λ (l : List SlaveHalf). AllPlaced BeginsWith 0 l sites.slaves.items) held slaves };
       own = record { owned = owned; long = subst (λ (d : Disk). 8 + capacity ≤ length d.bytes) (sym disk) long };
     })
-servable (Ok same) sites capacity whole None halves long bytes held disk new slaves turning is = absurd long
-servable (Err fault) sites capacity whole disk halves long bytes held of new slaves turning is = tt
+servable (Ok same) sites capacity whole None halves long bytes held disk new slaves is = absurd long
+servable (Err fault) sites capacity whole disk halves long bytes held of new slaves is = tt
 
 -- ---- a line that was served at a desk
 
@@ -265,20 +265,22 @@ module _ (opened : Station) (commands : List Command) (book : Book) (seen : Seen
 
   module _ {D : Type 0} (follows : D → Seen → Type 0) where
     -- and the line was put together again
-    pub serves-parts : {T E : Type 0} (well : D → Type 0) (tells : D → T → Type 0) (line : PartTold T) (result : Result (Left SiteValue T) E)
+    pub serves-parts : {T E : Type 0} (well : D → Type 0) (tells : D → T → Type 0) (turns : Bool) (line : PartTold T)
+        (result : Result (Left SiteValue T) E) → is_some sites.cycle ≡ turns
         → IfOk result (λ (left : Left SiteValue T). IsTogether at.ends left.site × (left.ending ≡ at.ending))
         → IfOk result (λ (left : Left SiteValue T). (s : Seen) → IsFollowed (Telling follows well tells line) s
         → IsDeskTold follows well tells s left.told at.ends)
         → IfOk result (λ (left : Left SiteValue T). OnOk left.sound (AreSound left.told × EndsSynced at.ends.flusher.log))
         → IsFollowed (Telling follows well tells line) seen → length opened.line.sizes ≡ length seen.state.halves → AreFollowed follows at.ends
-        → IfOk result (λ (left : Left SiteValue T). ServesFollowed follows well tells opened commands left)
-    serves-parts well tells line (Ok left) is told sound before count all = record {
+        → IfOk result (λ (left : Left SiteValue T). ServesFollowed follows well tells turns opened commands left)
+    serves-parts well tells turns line (Ok left) turning is told sound before count all = record {
       parts = record { desk = desk-serves left.ending is.1; together = is.0 };
+      turning = turning;
       followed = followed_ends follows well tells opened seen sites at.ends left.told left.sound of_seen apart of_sites (told seen before) count sound all;
       told = told opened.seen (subst (IsFollowed (Telling follows well tells line)) of_seen before);
       sound = on_ok left.sound (λ (both : AreSound left.told × EndsSynced at.ends.flusher.log). both.0) sound;
     }
-    serves-parts well tells line (Err fault) is told sound before count all = tt
+    serves-parts well tells turns line (Err fault) turning is told sound before count all = tt
 
     -- or not
     pub ends-apart : {T : Type 0} (well : D → Type 0) (tells : D → T → Type 0) (line : PartTold T) (result : Result (Left SiteValue T) (NotServed T))

@@ -1,6 +1,6 @@
 -- What holds of a line once its desk was closed, or a fault ended the work there.
 use Rattle.std.specs.Prelude.{◌≡◌, ◌⊎◌, ◌<◌, ℕ, Bool, true, false, List, [], ◌∷◌, length, Result, Ok, Err, IfErr, MatchResult}
-use Rattle.std.specs.Prelude.{OnOk}
+use Rattle.std.specs.Prelude.{OnOk, is_some}
 use Rattle.std.specs.List.{AllByRecursion}
 use Rattle.sii_edit.specs.declared.command.Command.{Command}
 use Rattle.jrn_format.specs.declared.journal.Journal.{Journal}
@@ -196,10 +196,12 @@ pub record PartsFollowed {D : Type 0} (follows : D → Seen → Type 0) (opened 
   pub parts : AreFollowed follows ends
   pub synced : ends.flusher.site.seen.state.disk ≡ of_bytes ends.flusher.site.seen.state.disk.bytes
 
--- The parts were served so, devices have kept this of them, and this is told of the devices: each part ended soundly.
+-- The parts were served so, without a site for process data, devices have kept this of them, and this is told of the devices: each part ended
+-- soundly.
 pub record IsServedTold {D T : Type 0} (follows : D → Seen → Type 0) (well : D → Type 0) (tells : D → T → Type 0) (opened : Station)
     (told : DeskTold T) (site : SiteValue) : Type 0 where
   pub served : PartsAreServed opened site
+  pub still : is_some served.sites.cycle ≡ false
   pub followed : PartsFollowed (Soundly follows well) opened served.ends
   pub devices : IsDeskTold follows well tells opened.seen told served.ends
   pub sound : AreSound told
@@ -211,11 +213,12 @@ abbrev pub EndsFollowed : {D : Type 0} → (D → Seen → Type 0) → (D → Ty
 EndsFollowed follows well opened (Ok sound) ends = PartsFollowed (Soundly follows well) opened ends
 EndsFollowed follows well opened (Err fault) ends = AreFollowed follows ends
 
--- The parts were served with this ending, devices have followed them so, and what is told of the devices is told. No part is called sound that
--- wasn't, and none is unsound where no fault is told.
-pub record ServesFollowed {D T : Type 0} (follows : D → Seen → Type 0) (well : D → Type 0) (tells : D → T → Type 0) (opened : Station)
-    (commands : List Command) (left : Left SiteValue T) : Type 0 where
+-- The parts were served with this ending, one for process data among them exactly where `turns` says so, devices have followed them, and what is told
+-- of the devices is told. No part is called sound that wasn't, and none is unsound where no fault is told.
+pub record ServesFollowed {D T : Type 0} (follows : D → Seen → Type 0) (well : D → Type 0) (tells : D → T → Type 0) (turns : Bool)
+    (opened : Station) (commands : List Command) (left : Left SiteValue T) : Type 0 where
   pub parts : ServesParts opened commands left.ending left.site
+  pub turning : is_some parts.desk.sites.cycle ≡ turns
   pub followed : EndsFollowed follows well opened left.sound parts.desk.ends
   pub told : IsDeskTold follows well tells opened.seen left.told parts.desk.ends
   pub sound : OnOk left.sound (AreSound left.told)

@@ -1,5 +1,5 @@
 -- A line that is taken apart into sites, and put together again.
-use Rattle.std.specs.Prelude.{◌≡◌, ◌⊎◌, ◌≤◌, ◌+◌, ℕ, List, [], ◌∷◌, true, length, Ok, IfOk, Option, Some, is_some}
+use Rattle.std.specs.Prelude.{◌≡◌, ◌⊎◌, ◌≤◌, ◌+◌, ℕ, List, [], ◌∷◌, true, length, Ok, IfOk, Option, Some}
 use Rattle.std.specs.Prelude.{slice_get, IsTrue, None, false}
 use Rattle.std.specs.List.{AllByRecursion}
 use Rattle.std.specs.Global.{Vec}
@@ -45,13 +45,11 @@ pub record BeginsWith (slave : ℕ) (half : SlaveHalf) (site : SiteValue) : Type
   pub has : HasHalf slave half site
   pub new : site.seen.past ≡ []
 
--- The sites hold the bytes of the line's disk, all of them synced, and each slave's EEPROM half, and have seen no call. There is a site for
--- process data.
+-- The sites hold the bytes of the line's disk, all of them synced, and each slave's EEPROM half, and have seen no call.
 pub record IsApart (whole : State) (sites : Sites) : Type 0 where
   pub disk : sites.disk.seen.state.disk ≡ of_bytes whole.disk.bytes
   pub new : sites.disk.seen.past ≡ []
   pub slaves : AllPlaced BeginsWith 0 whole.halves sites.slaves.items
-  pub turning : is_some sites.cycle ≡ true
 
 -- Each site owns its part, and the disk reaches at least to this byte of the file.
 pub record OwnUpTo (limit : ℕ) (sites : Sites) : Type 0 where

@@ -151,17 +151,24 @@ fn disk_site(alloc: Global, sizes: &Vec<u16>, disk: Option<Vec<u8>>) -> Result<I
     site_of(alloc, parts, FaultPlan::none())
 }
 
-/// A site that owns the process halves of these slaves, just switched on, and nothing else.
+/// A site that owns the process halves of these slaves, just switched on, and nothing else, if process data are exchanged.
 fn cycle_site(
     alloc: Global,
     sizes: &Vec<u16>,
     halves: &[Option<RomHalf>],
-) -> Result<InMemory, Fault> {
+    turns: bool,
+) -> Result<Option<InMemory>, Fault>
+    ensures { IfOk result (λ site. is_some site ≡ turns) }
+{
+    if !turns {
+        return Ok(None);
+    }
     let processes = processes(alloc, halves)?;
     match nothing(alloc, sizes) {
         Ok(mut parts) => {
             parts.process = Some(processes);
-            site_of(alloc, parts, FaultPlan::none())
+            let site = site_of(alloc, parts, FaultPlan::none())?;
+            Ok(Some(site))
         }
         Err(AllocError) => {
             drop(processes);
@@ -170,17 +177,19 @@ fn cycle_site(
     }
 }
 
-/// A site that owns this disk alone, and one that owns the process halves of these slaves alone.
+/// A site that owns this disk alone, and, if process data are exchanged, one that owns the process halves of these slaves alone.
 fn disk_and_cycle(
     alloc: Global,
     sizes: &Vec<u16>,
     disk: Option<Vec<u8>>,
     halves: &[Option<RomHalf>],
-) -> Result<(InMemory, InMemory), Fault>
+    turns: bool,
+) -> Result<(InMemory, Option<InMemory>), Fault>
     ensures disk { IfOk result (λ sites. HasDiskOf disk sites.0) }
     ensures new { IfOk result (λ sites. sites.0.seen.past ≡ []) }
+    ensures turning { IfOk result (λ sites. is_some sites.1 ≡ turns) }
 {
-    let cycle = cycle_site(alloc, sizes, halves)?;
+    let cycle = cycle_site(alloc, sizes, halves, turns)?;
     match disk_site(alloc, sizes, disk) {
         Ok(disk) => Ok((disk, cycle)),
         Err(fault) => {
@@ -190,12 +199,12 @@ fn disk_and_cycle(
     }
 }
 
-/// The sites of the line's parts. The process halves are just switched on.
-fn sites_of(alloc: Global, line: Parts) -> Result<Sites<InMemory>, Fault>
+/// The sites of the line's parts; one for process data only if they are exchanged. The process halves are just switched on.
+fn sites_of(alloc: Global, line: Parts, turns: bool) -> Result<Sites<InMemory>, Fault>
     ensures disk { IfOk result (λ sites. HasDiskOf line.disk sites.disk) }
     ensures new { IfOk result (λ sites. sites.disk.seen.past ≡ []) }
     ensures slaves { IfOk result (λ sites. AllPlaced BeginsWith 0 (halves_of line.halves.items) sites.slaves.items) }
-    ensures turning { IfOk result (λ sites. is_some sites.cycle ≡ true) }
+    ensures turning { IfOk result (λ sites. is_some sites.cycle ≡ turns) }
 {
     let Parts {
         sizes,
@@ -204,12 +213,12 @@ fn sites_of(alloc: Global, line: Parts) -> Result<Sites<InMemory>, Fault>
         process,
     } = line;
     drop(process);
-    let (disk, cycle) = disk_and_cycle(alloc, &sizes, disk, &halves)?;
+    let (disk, cycle) = disk_and_cycle(alloc, &sizes, disk, &halves, turns)?;
     match slave_sites(alloc, &sizes, halves) {
         Ok(slaves) => Ok(PerDevice {
             disk,
             slaves,
-            cycle: Some(cycle),
+            cycle,
         }),
         Err(fault) => {
             drop(disk);
@@ -242,7 +251,7 @@ fn whole_sites(sites: Sites<InMemory>) -> Result<Sites<InMemory>, Fault>
 }
 
 /// The sites of the line's parts, each of which owns its part, if the disk reaches to the end of a journal's area of `capacity` bytes. The process
-/// halves are just switched on.
+/// halves are just switched on; without process data to exchange there is no site for them.
 ///
 /// # Errors
 ///
@@ -251,15 +260,17 @@ pub(crate) fn servable_sites(
     alloc: Global,
     line: Parts,
     capacity: u32,
+    turns: bool,
 ) -> Result<Sites<InMemory>, Fault>
-    ensures { (state : State) → IfSome line.disk (λ bytes. bytes.items ≡ state.disk.bytes) → halves_of line.halves.items ≡ state.halves
-        → IfOk result (IsServable capacity state) }
+    ensures turning { IfOk result (λ sites. is_some sites.cycle ≡ turns) }
+    ensures servable { (state : State) → IfSome line.disk (λ bytes. bytes.items ≡ state.disk.bytes)
+        → halves_of line.halves.items ≡ state.halves → IfOk result (IsServable capacity state) }
 {
     if !reaches(&line, capacity) {
         drop(line);
         return Err(Fault::Unserved);
     }
-    let sites = sites_of(alloc, line)?;
+    let sites = sites_of(alloc, line, turns)?;
     whole_sites(sites)
 }
 

@@ -23,6 +23,6 @@ pub use redoing::{Redone, redo_by_threads};
 pub use saving::save_told;
 pub use soundness::is_sound;
 pub use station_threads::CloseFault;
-pub use threads::{Left, NotServed, serve_by_threads};
+pub use threads::{Left, NotServed, serve_by_threads, serve_task};
 pub use told::{DeskTold, PartTold, UnservedTold, told_by};
-pub use work::Work;
+pub use work::{Task, Work};

@@ -52,7 +52,8 @@ impl<T: Tickets, R: Refusals> Client<T, R> for NoCommand {
 }
 
 /// Redoes by threads what is live in the journal of this station, which has `slaves` slaves, and puts the line together again. Nothing is
-/// printed. If a thread can't be started, its part is done on this one. The station must just have been opened on its site.
+/// printed, and no process data are exchanged. If a thread can't be started, its part is done on this one. The station must just have been opened on
+/// its site.
 ///
 /// A power cut behind it leaves only what is kept for each machine that the book was to its callers, if so it was before.
 ///
@@ -73,7 +74,7 @@ pub fn redo_by_threads<D: Lends + Send, W: Wait + Threads + Sync>(
 {
     let capacity = alone.core().capacity();
     let (core, site) = alone.into_parts();
-    let Prepared { sites, whole } = match prepare(alloc, site, capacity) {
+    let Prepared { sites, whole } = match prepare(alloc, site, capacity, false) {
         Ok(prepared) => prepared,
         Err(why) => {
             drop(core);

@@ -1,6 +1,6 @@
 //! Serves a line by threads.
 
-ghost use Rattle.std.specs.Prelude.{◌≡◌, ◌+◌, ◌≤◌, [], false, length, vec_capacity, IfErr, IfOk, IfSome, IsTrue, OnOk};
+ghost use Rattle.std.specs.Prelude.{◌≡◌, ◌+◌, ◌≤◌, [], true, false, is_some, length, vec_capacity, IfErr, IfOk, IfSome, IsTrue, OnOk};
 ghost use Rattle.site_core.specs.State.{Seen, State};
 ghost use Rattle.site_shadow.specs.Line.{halves_of};
 ghost use Rattle.script_session.specs.Asking.{no_counts};
@@ -30,7 +30,7 @@ use crate::soundness::{disk_is_synced, judge_ends};
 use crate::submitter::Submitter;
 use crate::together::{OfSlaves, Whole, put_together, told_unserved};
 use crate::told::{DeskTold, PartTold, UnservedTold, told_by};
-use crate::work::Work;
+use crate::work::{Task, Work};
 use book_core::Core;
 use sii_edit::Command;
 use site_core::Site;
@@ -99,6 +99,8 @@ impl<T> NotServed<T> {
 /// answer to each command, what is told of them as it happens, and the totals. If a thread can't be started, no command is submitted. The
 /// station must not have accepted a command yet.
 ///
+/// Meanwhile a thread exchanges process data with process halves in memory, which are just switched on.
+///
 /// # Errors
 ///
 /// `Unserved` where the station's site can't be taken apart, or what is put together in the end isn't a line with its disk and `slaves`
@@ -115,13 +117,39 @@ pub fn serve_by_threads<D: Lends + Send, O: Write, W: Wait + Threads + Sync>(
     requires { alone.book.accepted ≡ [] }
     ensures line { IfOk result (λ left. IsLineOf slaves left.site.line) }
     ensures left { IfOk result (λ left. LeavesSo alone work.commands.items left.ending left.site) }
-    ensures parts { IfOk result (λ left. ServesFollowed D.follows D.well D.tells alone work.commands.items left) }
+    ensures parts { IfOk result (λ left. ServesFollowed D.follows D.well D.tells true alone work.commands.items left) }
     ensures before { IsFollowed D.follows alone.seen }
     ensures failed { IfErr result (λ why. IsUnservedTold D.follows D.well D.tells alone work.commands.items why.told) }
     ensures unserved { IfOk result (λ left. left.ending.is_driven ≡ false → left.unserved.items ≡ work.commands.items) }
 {
+    let task = Task { work, turns: true };
+    serve_task(rt, alloc, alone, slaves, task, output)
+}
+
+/// Serves the commands of this task as `serve_by_threads` does, with a thread for process data only if the task says so.
+///
+/// # Errors
+///
+/// As for `serve_by_threads`.
+pub fn serve_task<D: Lends + Send, O: Write, W: Wait + Threads + Sync>(
+    rt: &W,
+    alloc: Global,
+    alone: Alone<ShadowSite<D>>,
+    slaves: usize,
+    task: Task,
+    output: &mut O,
+) -> Result<Left<ShadowSite<D>, D::Told>, NotServed<D::Told>>
+    requires { alone.book.accepted ≡ [] }
+    ensures line { IfOk result (λ left. IsLineOf slaves left.site.line) }
+    ensures left { IfOk result (λ left. LeavesSo alone task.work.commands.items left.ending left.site) }
+    ensures parts { IfOk result (λ left. ServesFollowed D.follows D.well D.tells task.turns alone task.work.commands.items left) }
+    ensures before { IsFollowed D.follows alone.seen }
+    ensures failed { IfErr result (λ why. IsUnservedTold D.follows D.well D.tells alone task.work.commands.items why.told) }
+    ensures unserved { IfOk result (λ left. left.ending.is_driven ≡ false → left.unserved.items ≡ task.work.commands.items) }
+{
+    let Task { work, turns } = task;
     let (core, site) = alone.into_parts();
-    let Prepared { sites, whole } = match prepare(alloc, site, core.capacity()) {
+    let Prepared { sites, whole } = match prepare(alloc, site, core.capacity(), turns) {
         Ok(prepared) => prepared,
         Err(why) => {
             drop(core);
@@ -153,18 +181,21 @@ struct Apart<D: Device, T> {
     room: OfSlaves<T>,
 }
 
-/// The sites of the line's parts in memory, and room for all that follows. No device has a share in it.
+/// The sites of the line's parts in memory, one for process data only if they are exchanged, and room for all that follows. No device has a share in
+/// it.
 fn taken_apart<D: Device + Drop, T: Drop>(
     alloc: Global,
     line: Parts,
     capacity: u32,
+    turns: bool,
 ) -> Result<Apart<D, T>, Fault>
+    ensures turning { IfOk result (λ apart. is_some apart.sites.cycle ≡ turns) }
     ensures sites { (state : State) → IfSome line.disk (λ bytes. bytes.items ≡ state.disk.bytes) → halves_of line.halves.items ≡ state.halves
         → IfOk result (λ apart. IsServable capacity state apart.sites) }
     ensures lent { IfOk result (λ apart. (apart.lent.items ≡ []) × (length apart.sites.slaves.items ≤ vec_capacity apart.lent)) }
     ensures room { IfOk result (λ apart. IsRoom apart.room × (length apart.sites.slaves.items ≤ vec_capacity apart.room.told)) }
 {
-    let sites = servable_sites(alloc, line, capacity)?;
+    let sites = servable_sites(alloc, line, capacity, turns)?;
     match room_for(alloc, sites.slaves.len()) {
         Ok((lent, room)) => Ok(Apart { sites, lent, room }),
         Err(AllocError) => {
@@ -187,7 +218,8 @@ fn room_for<D: Device + Drop, T: Drop>(
     Ok((lent, room))
 }
 
-/// Takes a line apart, and makes room to put it together again. The line's device lends each part its own once nothing can fail any more.
+/// Takes a line apart, with a part for process data only if `turns` says so, and makes room to put it together again. The line's device lends each part
+/// its own once nothing can fail any more.
 ///
 /// # Errors
 ///
@@ -197,7 +229,9 @@ pub(crate) fn prepare<D: Lends>(
     alloc: Global,
     site: ShadowSite<D>,
     capacity: u32,
+    turns: bool,
 ) -> Result<Prepared<D, D::Told>, NotServed<D::Told>>
+    ensures turning { IfOk result (λ prepared. is_some prepared.sites.cycle ≡ turns) }
     ensures sites { IfOk result (λ prepared. IsServable capacity site.seen.state prepared.sites) }
     ensures room { IfOk result (λ prepared. IsRoom prepared.whole.room) }
     ensures reserved { IfOk result (λ prepared. length prepared.sites.slaves.items ≤ vec_capacity prepared.whole.room.told) }
@@ -211,7 +245,7 @@ pub(crate) fn prepare<D: Lends>(
     let has_stopped = site.has_stopped();
     let (parts, mut device) = site.into_parts();
     let told = told_by(&mut device, has_stopped);
-    match taken_apart(alloc, parts, capacity) {
+    match taken_apart(alloc, parts, capacity, turns) {
         Ok(Apart { sites, lent, room }) => {
             let sites = lent_sites(&mut device, sites, lent);
             Ok(Prepared {

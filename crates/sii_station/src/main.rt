@@ -9,11 +9,14 @@ use std::rt::Clock;
 use std::sync::Wait;
 use std::thread::Threads;
 use std::{env, io};
-use system_files::FileStore;
+use system_files::{FileStore, hold_streams};
 
 fn main(rt: HostRuntime) -> ExitCode {
-    let status = match words(&rt) {
-        Ok(words) => serve_words(&rt, &words, &mut rt.stderr()),
+    let status = match hold_streams(&rt) {
+        Ok(_held) => match words(&rt) {
+            Ok(words) => serve_words(&rt, &words, &mut rt.stderr()),
+            Err(error) => refuse_words(&error, &mut rt.stderr()),
+        },
         Err(error) => refuse_words(&error, &mut rt.stderr()),
     };
     ExitCode::from(status)

@@ -10,22 +10,30 @@ use std::sync::Wait;
 use std::thread::Threads;
 use std::time::SystemTime;
 use std::{env, io};
-use system_files::FileStore;
+use system_files::{FileStore, hold_streams};
 use wire_frames::EthernetWire;
 use wire_serve::{Arguments, Connection, Screen, read_arguments, refuse_text, refuse_words, serve};
 
 fn main(rt: HostRuntime) -> ExitCode {
-    let status = match words(&rt) {
-        Ok(words) => {
-            let connection = Connection {
-                wire: EthernetWire::new(rt.stdin(), rt.stdout()),
-                number: first_number(&rt),
-            };
-            serve_words(&rt, &words, connection, &mut rt.stderr())
-        }
+    let status = match hold_streams(&rt) {
+        Ok(_held) => serve_wire(&rt),
         Err(error) => refuse_words(&error, &mut rt.stderr()),
     };
     ExitCode::from(status)
+}
+
+/// Carries out the arguments over standard input and output.
+fn serve_wire(rt: &HostRuntime) -> u8 {
+    match words(rt) {
+        Ok(words) => {
+            let connection = Connection {
+                wire: EthernetWire::new(rt.stdin(), rt.stdout()),
+                number: first_number(rt),
+            };
+            serve_words(rt, &words, connection, &mut rt.stderr())
+        }
+        Err(error) => refuse_words(&error, &mut rt.stderr()),
+    }
 }
 
 /// The arguments, the program's name first.

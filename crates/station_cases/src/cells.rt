@@ -26,8 +26,10 @@ pub enum Pattern {
 struct Cell {
     now: AtomicU8,
     synced: AtomicU8,
-    /// Whether the byte was written since the last sync.
-    is_written: AtomicBool,
+    /// Whether a power cut may leave something else: the byte was written, and no sync has brought it to the disk.
+    is_loose: AtomicBool,
+    /// Whether the next sync brings it there.
+    is_dirty: AtomicBool,
 }
 
 /// The bytes of an open file, and room behind them in which it grows.
@@ -43,7 +45,8 @@ impl Cell {
         Cell {
             now: AtomicU8::new(byte),
             synced: AtomicU8::new(byte),
-            is_written: AtomicBool::new(false),
+            is_loose: AtomicBool::new(false),
+            is_dirty: AtomicBool::new(false),
         }
     }
 
@@ -53,21 +56,26 @@ impl Cell {
 
     fn write(&self, byte: u8) {
         self.now.store(byte, SeqCst);
-        self.is_written.store(true, SeqCst);
+        self.is_loose.store(true, SeqCst);
+        self.is_dirty.store(true, SeqCst);
     }
 
+    /// Brings the byte to the disk, unless a sync that failed has forgotten it.
     fn sync(&self) {
-        self.synced.store(self.now(), SeqCst);
-        self.is_written.store(false, SeqCst);
+        if self.is_dirty.swap(false, SeqCst) {
+            self.synced.store(self.now(), SeqCst);
+            self.is_loose.store(false, SeqCst);
+        }
     }
 
     /// What a power cut leaves of the byte.
     fn left(&self, pattern: Pattern, is_even: bool) -> u8 {
         match pattern {
+            _ if !self.is_loose.load(SeqCst) => self.synced.load(SeqCst),
             Pattern::New => self.now(),
             Pattern::Torn if is_even => self.now(),
-            Pattern::Fill(byte) if self.is_written.load(SeqCst) => byte,
-            _ => self.synced.load(SeqCst),
+            Pattern::Fill(byte) => byte,
+            Pattern::Old | Pattern::Torn => self.synced.load(SeqCst),
         }
     }
 }
@@ -86,7 +94,8 @@ impl Cells {
         Ok(Cells { cells, len })
     }
 
-    fn len(&self) -> u64 {
+    /// How many bytes the file has.
+    pub fn len(&self) -> u64 {
         self.len.load(SeqCst)
     }
 
@@ -138,6 +147,13 @@ impl Cells {
             cell.sync();
         }
     }
+
+    /// A sync fails: no later one brings to the disk what was written before, although readers see it.
+    fn forget(&self) {
+        for cell in self.cells.iter() {
+            cell.is_dirty.store(false, SeqCst);
+        }
+    }
 }
 
 /// An open file of a shelf. It grows as far as its cells have room.
@@ -183,8 +199,10 @@ impl RandomAccessFile for OpenFile {
 
     fn sync_data(&self) -> io::Result<()> {
         let passing = self.troubles.write();
-        if passing == Passing::Passes {
-            self.cells.sync();
+        match passing {
+            Passing::Passes => self.cells.sync(),
+            Passing::Fails => self.cells.forget(),
+            Passing::Cut => {}
         }
         passing.ended()
     }

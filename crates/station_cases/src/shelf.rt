@@ -1,10 +1,10 @@
 //! A store of files in memory, the shelf.
-ghost use Rattle.std.specs.Prelude.{◌≡◌, ◌≢◌, ℕ, List, IfOk, IfSome, OnOk, Some, option_map};
+ghost use Rattle.std.specs.Prelude.{◌≡◌, ◌≢◌, ℕ, List, IfOk, IfSome, OnOk, Some, length, option_map};
 ghost use Rattle.station_cases.specs.Shelf.{held_at, known_at, whole};
 
 use crate::cells::{Cells, OpenFile, Pattern};
 use crate::troubles::{Passing, Trouble, Troubles};
-use station_files::{Location, LockFault, Store};
+use station_files::{Entry, Location, LockFault, Store};
 use std::alloc::{AllocError, Global};
 use std::io;
 use std::sync::Arc;
@@ -62,6 +62,15 @@ impl Content {
         match self {
             Content::Whole(bytes) => bytes.to_vec(alloc),
             Content::Open(cells) => cells.left(alloc, pattern),
+        }
+    }
+
+    fn length(&self) -> u64
+        ensures { IfSome (whole self.now) (λ held. result ≡ length held) }
+    {
+        match self {
+            Content::Whole(bytes) => bytes.len() as u64,
+            Content::Open(cells) => cells.len(),
         }
     }
 }
@@ -133,7 +142,7 @@ impl Shelf {
         self.files.iter().find(|held| held.name.as_str() == name)
     }
 
-    /// The bytes of a file; `None` where there is no such file.
+    /// The bytes of a file, as a reader sees them; `None` where there is no such file.
     pub fn bytes(&self, alloc: Global, name: &str) -> Result<Option<Vec<u8>>, AllocError>
         ensures { IfOk result (λ found. IfSome (known_at self.now.files.items name.now) (λ held.
             option_map (λ bytes. bytes.items) found ≡ held)) }
@@ -152,34 +161,16 @@ impl Shelf {
         }
     }
 
-    /// Opens a file, with room for so many more bytes, and gives its cells; `None` where there is no such file.
-    fn cells(&mut self, name: &str, room: usize) -> Result<Option<Arc<Cells>>, AllocError>
+    /// Opens a file with these bytes, all of them on the disk, and room for so many more.
+    fn opened(&mut self, name: &str, bytes: &[u8], room: usize) -> io::Result<OpenFile>
         ensures others { (other : List ℕ) → other ≢ name.now → known_at self.new.files.items other ≡ known_at self.old.files.items other }
     {
-        let Some(bytes) = self.bytes(self.alloc, name)? else {
-            return Ok(None);
-        };
-        let cells = Arc::new(self.alloc, Cells::of_bytes(self.alloc, &bytes, room)?)?;
+        let cells = Arc::new(self.alloc, Cells::of_bytes(self.alloc, bytes, room)?)?;
         let held = Held {
             name: String::from_str(self.alloc, name)?,
             content: Content::Open(Arc::try_clone(&cells)?),
         };
         self.files.insert(0, held)?;
-        Ok(Some(cells))
-    }
-}
-
-impl Shelf {
-    /// Opens a file that may grow, and puts an empty one on the shelf before where there is none.
-    fn created(&mut self, name: &str) -> io::Result<OpenFile>
-        ensures others { (other : List ℕ) → other ≢ name.now → known_at self.new.files.items other ≡ known_at self.old.files.items other }
-    {
-        if self.find(name).is_none() {
-            self.put(name, &[])?;
-        }
-        let Some(cells) = self.cells(name, ROOM)? else {
-            return Err(io::Error::from(io::ErrorKind::NotFound));
-        };
         Ok(OpenFile {
             cells,
             troubles: Arc::try_clone(&self.troubles)?,
@@ -213,6 +204,15 @@ impl Store for Shelf {
         Ok(self.bytes(alloc, name)?)
     }
 
+    fn look(&mut self, name: &str) -> io::Result<Entry> {
+        match self.find(name) {
+            Some(held) => Ok(Entry::File {
+                length: held.content.length(),
+            }),
+            None => Ok(Entry::Absent),
+        }
+    }
+
     fn locate(&mut self, alloc: Global, name: &str) -> io::Result<Location> {
         Ok(Location::of_name(alloc, name)?)
     }
@@ -239,20 +239,22 @@ impl Store for Shelf {
         Ok(())
     }
 
-    fn open(&mut self, name: &str) -> io::Result<OpenFile> {
-        self.troubles.write().ended()?;
-        let Some(cells) = self.cells(name, 0)? else {
+    fn open(&mut self, name: &str, bytes: &[u8]) -> io::Result<OpenFile> {
+        if self.find(name).is_none() {
             return Err(io::Error::from(io::ErrorKind::NotFound));
-        };
-        Ok(OpenFile {
-            cells,
-            troubles: Arc::try_clone(&self.troubles)?,
-        })
+        }
+        match self.troubles.write() {
+            Passing::Passes => self.opened(name, bytes, 0),
+            Passing::Cut => Err(self.torn(name, bytes)),
+            Passing::Fails => Err(io::Error::other("the disk is gone")),
+        }
     }
 
     fn create(&mut self, name: &str) -> Result<OpenFile, LockFault> {
         self.troubles.write().ended()?;
-        Ok(self.created(name)?)
+        let found = self.bytes(self.alloc, name).map_err(io::Error::from)?;
+        let bytes = found.unwrap_or(Vec::new(self.alloc));
+        Ok(self.opened(name, &bytes, ROOM)?)
     }
 
     fn lock(&mut self, name: &str) -> Result<Option<ShelfLock>, LockFault> {

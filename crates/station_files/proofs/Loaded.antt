@@ -2,17 +2,16 @@
 use Rattle.std.proofs.Common.{◌≡◌, ℕ, zero, suc, ◌+◌, ◌<◌, List, [], ◌∷◌, ◌++◌, Result, Ok, Err, IfErr, IfSome, IsSomeAnd}
 use Rattle.std.proofs.Common.{Option, Some, None, length, map, take, drop, get_or, String, Global, string_bytes, refl, sym, ap, ◌∙◌, subst, inl}
 use Rattle.std.proofs.Common.{inr, arith}
-use Rattle.std.proofs.lemmas.Grind.{flat_map-append}
-use Rattle.std.proofs.lemmas.List.{append_assoc, append-nil, take_more}
+use Rattle.std.proofs.lemmas.List.{take_more}
 use Rattle.std.specs.List.{AllZip}
-use Rattle.std.specs.Prelude.{IsErrAnd, flat_map}
+use Rattle.std.specs.Prelude.{IsErrAnd}
 use Rattle.station_files.specs.Files.{Known, Holds, HasBytes}
 use Rattle.station_files.specs.LineFiles.{IsNoLine, RefusesLine, RefusesLineText, SpellsWords, RefusesWords, RefusesFirst, RefusesSlaves}
 use Rattle.station_files.specs.LineFiles.{RefusesPlant, RefusesLayout}
 use Rattle.station_files.specs.declared.faults.Fault.{Fault}
 use Rattle.station_files.specs.declared.faults.Fault.TheVariants.{OddLength, BadSize, ImageOverLimit, Memory, Disk, Lost, Stopped, SlaveDead}
 use Rattle.station_files.specs.declared.faults.Fault.TheVariants.{NotAJournal, BadVersion, BadJournal, WrongLine, Unserved, File, BadHex, BadLine}
-use Rattle.station_files.specs.declared.faults.Fault.TheVariants.{BadScript, Exists, Busy, SameFile}
+use Rattle.station_files.specs.declared.faults.Fault.TheVariants.{BadScript, Exists, Busy, SameFile, NotAFile, TooLong}
 use Rattle.sii_words.proofs.Quantifiers.{zip_snoc}
 
 -- one more item is loaded, from unchanged files
@@ -86,15 +85,10 @@ plant_refused files name Unserved refused = refused
 plant_refused files name Exists refused = refused
 plant_refused files name Busy refused = refused
 plant_refused files name SameFile refused = refused
+plant_refused files name NotAFile refused = refused
+plant_refused files name TooLong refused = refused
 
 -- the error of a call that is passed on
 pub handed_on : {A : Type 0} (P : Fault → Type 0) (result : Result A Fault) (fault : Fault) → IsErrAnd result (λ error. error ≡ fault) → P fault → IfErr result P
 handed_on P (Ok x) fault gave holds = absurd gave
 handed_on P (Err error) fault gave holds = subst P (sym gave) holds
-
--- the names of one more item are appended
-pub appended_more : {A B : Type 0} (f : A → List B) (pre : List B) (xs : List A) (i : ℕ) (item : A) (old new : List B) → i < length xs → item ≡ get_or xs i item → old ≡ pre ++ flat_map f (take i xs) → new ≡ old ++ f item → new ≡ pre ++ flat_map f (take (i + 1) xs)
-appended_more {A} {B} f pre xs i item old new inside same before here =
-    let whole : flat_map f (take (i + 1) xs) ≡ flat_map f (take i xs) ++ f (get_or xs i item) =
-    ap (λ (l : List A). flat_map f l) (take_more xs i item inside) ∙ flat_map-append f (take i xs) (get_or xs i item ∷ []) ∙ ap (λ (l : List B). flat_map f (take i xs) ++ l) (append-nil (f (get_or xs i item))) in
-    here ∙ ap (λ (l : List B). l ++ f item) before ∙ append_assoc pre (flat_map f (take i xs)) (f item) ∙ ap (λ (x : A). pre ++ (flat_map f (take i xs) ++ f x)) same ∙ ap (λ (l : List B). pre ++ l) (sym whole)

@@ -1,5 +1,5 @@
 -- Why a script isn't loaded.
-use Rattle.std.proofs.Common.{◌≡◌, ℕ, ◌<◌, List, length, get_or, sym, subst, inl, inr}
+use Rattle.std.proofs.Common.{◌≡◌, ◌≢◌, ℕ, ◌<◌, List, length, get_or, string_bytes, sym, subst, inl, inr}
 use Rattle.station_text.specs.ScriptText.{SpellsScriptFile}
 use Rattle.station_text.specs.declared.script_command.ScriptCommand.{ScriptCommand}
 use Rattle.station_text.specs.declared.script_command.ScriptCommand.TheVariants.{One, Swap, Group}
@@ -7,12 +7,12 @@ use Rattle.station_text.specs.declared.script_command.ScriptEdit.{ScriptEdit}
 use Rattle.station_text.specs.declared.script_command.ScriptEdit.TheVariants.{Alias, Category, Image}
 use Rattle.station_text.specs.declared.script_command.ScriptGroupEdit.{ScriptGroupEdit}
 use Rattle.station_files.specs.Files.{Known, HasBytes}
-use Rattle.station_files.specs.ScriptFiles.{IsNoScript, RefusesCommand, RefusesCommands, RefusesEdit, RefusesGroup, RefusesImages, RefusesOne}
+use Rattle.station_files.specs.ScriptFiles.{IsNoScript, RefusesCommand, RefusesCommands, RefusesEdit, RefusesGroup, RefusesImage, RefusesImages, RefusesOne}
 use Rattle.station_files.specs.ScriptFiles.{RefusesScript, RefusesText}
 use Rattle.station_files.specs.declared.faults.Fault.{Fault}
-use Rattle.station_files.specs.declared.faults.Fault.TheVariants.{OddLength, BadSize, ImageOverLimit, Memory, Disk, Lost, Stopped, SlaveDead}
-use Rattle.station_files.specs.declared.faults.Fault.TheVariants.{NotAJournal, BadVersion, BadJournal, WrongLine, Unserved, File, BadHex, BadLine}
-use Rattle.station_files.specs.declared.faults.Fault.TheVariants.{BadScript, Exists, Busy, SameFile}
+use Rattle.station_files.specs.declared.faults.Fault.TheVariants.{Memory}
+use Rattle.station_files.specs.declared.faults.Fault.TheVariants.{File}
+use Rattle.station_files.specs.declared.faults.Fault.TheVariants.{BadScript, NotAFile, TooLong}
 use Rattle.station_files.proofs.Loaded.{of_held}
 
 -- one of the items is refused
@@ -21,33 +21,46 @@ one_refused {A} Refuses old new xs i item fault inside same still here =
     let P : Known → Type 0 = λ files. Refuses files item fault in
     inr (item, (i, inside, sym same), subst P still here)
 
--- no edit is refused as a bad script
-edit_is_spelt : (files : Known) (edit : ScriptEdit) (command : ℕ) → RefusesEdit files edit (BadScript command) → ⊥
-edit_is_spelt files (Image slave file) command refused = refused
-edit_is_spelt files (Alias slave value) command refused = absurd (cc refused)
-edit_is_spelt files (Category slave kind words) command refused = absurd (cc refused)
+-- a fault that no image of a script has
+record IsOfText (files : Known) (fault : Fault) : Type 0 where
+  image : (name : List ℕ) → ¬ RefusesImage files name fault
+  memory : fault ≢ Memory
 
--- no group is refused as a bad script
-group_is_spelt : (files : Known) (edits : List ScriptGroupEdit) (command : ℕ) → RefusesGroup files edits (BadScript command) → ⊥
-group_is_spelt files edits command (inl memory) = absurd (cc memory)
-group_is_spelt files edits command (inr one) = edit_is_spelt files one.0.edit command one.2
+-- no edit is refused with it
+edit_is_spelt : (files : Known) (edit : ScriptEdit) (fault : Fault) → IsOfText files fault → ¬ RefusesEdit files edit fault
+edit_is_spelt files (Image slave file) fault is refused = is.image (string_bytes file) refused
+edit_is_spelt files (Alias slave value) fault is refused = is.memory refused
+edit_is_spelt files (Category slave kind words) fault is refused = is.memory refused
 
--- no command is refused as a bad script
-command_is_spelt : (files : Known) (spelt : ScriptCommand) (command : ℕ) → RefusesCommand files spelt (BadScript command) → ⊥
-command_is_spelt files (One edit) command refused = edit_is_spelt files edit command refused
-command_is_spelt files (Swap a b) command refused = refused
-command_is_spelt files (Group edits) command refused = group_is_spelt files edits.items command refused
+-- no group is refused with it
+group_is_spelt : (files : Known) (edits : List ScriptGroupEdit) (fault : Fault) → IsOfText files fault → ¬ RefusesGroup files edits fault
+group_is_spelt files edits fault is (inl memory) = is.memory memory
+group_is_spelt files edits fault is (inr one) = edit_is_spelt files one.0.edit fault is one.2
 
--- no images are refused as a bad script
-commands_are_spelt : (files : Known) (script : List ScriptCommand) (command : ℕ) → RefusesCommands files script (BadScript command) → ⊥
-commands_are_spelt files script command (inl memory) = absurd (cc memory)
-commands_are_spelt files script command (inr one) = command_is_spelt files one.0 command one.2
+-- no command is refused with it
+command_is_spelt : (files : Known) (spelt : ScriptCommand) (fault : Fault) → IsOfText files fault → ¬ RefusesCommand files spelt fault
+command_is_spelt files (One edit) fault is refused = edit_is_spelt files edit fault is refused
+command_is_spelt files (Swap a b) fault is refused = refused
+command_is_spelt files (Group edits) fault is refused = group_is_spelt files edits.items fault is refused
+
+-- no images are refused with it
+commands_are_spelt : (files : Known) (script : List ScriptCommand) (fault : Fault) → IsOfText files fault → ¬ RefusesCommands files script fault
+commands_are_spelt files script fault is (inl memory) = is.memory memory
+commands_are_spelt files script fault is (inr one) = command_is_spelt files one.0 fault is one.2
+
+bad_script : (files : Known) (command : ℕ) → IsOfText files (BadScript command)
+bad_script files command = record { image = λ name refused. refused; memory = λ same. absurd (cc same) }
+
+too_long : (files : Known) → IsOfText files TooLong
+too_long files = record { image = λ name refused. refused; memory = λ same. absurd (cc same) }
 
 -- the fault for a script's images is a fault for the script
 images_refused : (files : Known) (name : List ℕ) (fault : Fault) → RefusesImages files name fault → RefusesScript files name fault
 images_refused files name File images = tt
 images_refused files name Memory images = tt
-images_refused files name (BadScript command) images = absurd (commands_are_spelt files images.script command images.refused)
+images_refused files name (BadScript command) images = absurd (commands_are_spelt files images.script (BadScript command) (bad_script files command) images.refused)
+images_refused files name TooLong images = absurd (commands_are_spelt files images.script TooLong (too_long files) images.refused)
+images_refused files name NotAFile images = inr images
 images_refused files name fault images = images
 
 -- the fault for the images of a text that was read is a fault for the script

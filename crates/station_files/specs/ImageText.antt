@@ -1,12 +1,12 @@
 -- An image as the program reads and writes it: as bytes, or with `--hex` as hexadecimal text.
-use Rattle.std.specs.Prelude.{◌≡◌, ◌⊎◌, ◌/◌, ◌%◌, ℕ, Bool, true, List, length, Option, Some, None, Ok, IsErr, MatchBool, IsUtf8}
+use Rattle.std.specs.Prelude.{◌≡◌, ◌⊎◌, ◌<◌, ◌/◌, ◌%◌, ◌^◌, ℕ, Bool, true, List, length, Option, Some, None, Ok, IsErr, MatchBool, IsUtf8}
 use Rattle.std.specs.Prelude.{⊤}
 use Rattle.hex.specs.Hex.{decode_of, encode_lower}
 use Rattle.sii_words.specs.Words.{IsImageSize}
 use Rattle.station_text.specs.Hexadecimal.{without_whitespace}
 use Rattle.station_files.specs.Files.{Known}
 use Rattle.station_files.specs.declared.faults.Fault.{Fault}
-use Rattle.station_files.specs.declared.faults.Fault.TheVariants.{OddLength, BadSize, BadHex, Memory, File}
+use Rattle.station_files.specs.declared.faults.Fault.TheVariants.{OddLength, BadSize, BadHex, Memory, File, TooLong}
 
 -- the bytes of a file that is there, as far as they are known
 abbrev pub held_of : Option (Option (List ℕ)) → Option (List ℕ)
@@ -36,9 +36,17 @@ IsNoImage OddLength bytes = length bytes % 2 ≡ 1
 IsNoImage BadSize bytes = (length bytes % 2 ≡ 0) × ¬ IsImageSize (length bytes / 2)
 IsNoImage _ bytes = ⊥
 
+-- the input isn't read: a read failed, memory was refused, or it is longer than a text
+abbrev pub RefusesReading : List ℕ → Fault → Type 0
+RefusesReading input File = ⊤
+RefusesReading input Memory = ⊤
+RefusesReading input TooLong = 2 ^ 26 < length input
+RefusesReading input _ = ⊥
+
 -- the input may be refused with this fault
 abbrev pub RefusesInput : Bool → List ℕ → Fault → Type 0
 RefusesInput hex input File = ⊤
 RefusesInput hex input Memory = ⊤
+RefusesInput hex input TooLong = 2 ^ 26 < length input
 RefusesInput hex input BadHex = (hex ≡ true) × IsNoHex input
 RefusesInput hex input fault = (bytes : List ℕ) × Spells hex input bytes × IsNoImage fault bytes

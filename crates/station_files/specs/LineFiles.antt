@@ -1,5 +1,5 @@
 -- A line in files: the line file, and the image files that it names.
-use Rattle.std.specs.Prelude.{◌≡◌, ◌⊎◌, ◌/◌, ◌%◌, ℕ, List, ◌∷◌, ◌++◌, length, map, IsSomeAnd, IsUtf8, None}
+use Rattle.std.specs.Prelude.{◌≡◌, ◌⊎◌, ◌/◌, ◌%◌, ◌^◌, ℕ, List, ◌∷◌, ◌++◌, length, map, IsSomeAnd, IsUtf8, None}
 use Rattle.std.specs.Prelude.{string_bytes, ⊤}
 use Rattle.std.specs.List.{AllZip}
 use Rattle.toml.specs.Parse.{parse_document}
@@ -9,9 +9,9 @@ use Rattle.station_text.specs.LineText.{Describes}
 use Rattle.station_text.specs.declared.line_file.LineFile.{LineFile}
 use Rattle.station_listing.specs.LayoutListing.{Lists}
 use Rattle.station_listing.specs.declared.layout_listing.LayoutListing.{LayoutListing}
-use Rattle.station_files.specs.Files.{Known, Holds, HasBytes}
+use Rattle.station_files.specs.Files.{Known, Holds, HasBytes, RefusesFile}
 use Rattle.station_files.specs.declared.faults.Fault.{Fault}
-use Rattle.station_files.specs.declared.faults.Fault.TheVariants.{OddLength, BadSize, ImageOverLimit, BadLine, Memory, File}
+use Rattle.station_files.specs.declared.faults.Fault.TheVariants.{OddLength, BadSize, ImageOverLimit, BadLine, Memory, File, NotAFile}
 
 -- the file of this name has these words, low byte first
 abbrev pub SpellsWords : Known → List ℕ → List ℕ → Type 0
@@ -49,10 +49,11 @@ pub record ListsFiles (files : Known) (name : List ℕ) (listing : LayoutListing
   pub spelt : SpellsPlant files name plant
   pub image : IsSomeAnd (process_image plant) (λ image. Lists image listing)
 
--- the fault for an image file: it can't be read, memory was refused, or its bytes are not the words of a device
+-- the fault for an image file: it can't be read, memory was refused, it is no file, or its bytes are not the words of a device
 abbrev pub RefusesWords : Known → List ℕ → Fault → Type 0
 RefusesWords files name File = ⊤
 RefusesWords files name Memory = ⊤
+RefusesWords files name NotAFile = files name ≡ None
 RefusesWords files name OddLength = Holds files name (λ bytes. length bytes % 2 ≡ 1)
 RefusesWords files name BadSize = Holds files name (λ bytes. (length bytes % 2 ≡ 0) × ¬ IsDeviceSize (length bytes / 2))
 RefusesWords files name _ = ⊥
@@ -78,12 +79,10 @@ RefusesLineText text Memory = ⊤
 RefusesLineText text BadLine = IsNoLine text
 RefusesLineText text _ = ⊥
 
--- the fault for a line file: it can't be read, memory was refused, or its text describes no line
+-- the fault for a line file: it can't be read, memory was refused, it is no file or too long, or its text describes no line
 abbrev pub RefusesLine : Known → List ℕ → Fault → Type 0
-RefusesLine files name File = ⊤
-RefusesLine files name Memory = ⊤
 RefusesLine files name BadLine = Holds files name IsNoLine
-RefusesLine files name _ = ⊥
+RefusesLine files name fault = RefusesFile (2 ^ 26) files name fault
 
 -- the fault for a line: that of its line file, or that of its image files
 abbrev pub RefusesPlant : Known → List ℕ → Fault → Type 0

@@ -1,5 +1,5 @@
 -- The commands that a script file and the image files named in it spell.
-use Rattle.std.specs.Prelude.{◌≡◌, ◌⊎◌, ◌/◌, ◌%◌, ℕ, List, [], ◌∷◌, flat_map, length, All, Contains, IsUtf8, None}
+use Rattle.std.specs.Prelude.{◌≡◌, ◌⊎◌, ◌<◌, ◌/◌, ◌%◌, ◌^◌, ℕ, List, length, All, Contains, IsUtf8, None}
 use Rattle.std.specs.Prelude.{string_bytes, ⊤}
 use Rattle.std.specs.List.{AllZip}
 use Rattle.sii_words.specs.Words.{IsImageSize, bytes_of}
@@ -16,7 +16,7 @@ use Rattle.station_text.specs.declared.script_command.ScriptEdit.TheVariants.{Al
 use Rattle.station_text.specs.declared.script_command.ScriptGroupEdit.{ScriptGroupEdit}
 use Rattle.station_files.specs.Files.{Known, Holds, HasBytes}
 use Rattle.station_files.specs.declared.faults.Fault.{Fault}
-use Rattle.station_files.specs.declared.faults.Fault.TheVariants.{OddLength, BadSize, BadScript, Memory, File}
+use Rattle.station_files.specs.declared.faults.Fault.TheVariants.{OddLength, BadSize, BadScript, Memory, File, NotAFile, TooLong}
 
 -- this is the edit of a script; an image has the words of its file
 abbrev pub LoadsEdit : Known → ScriptEdit → Edit → Type 0
@@ -53,29 +53,13 @@ pub record SpellsCommands (files : Known) (name : List ℕ) (commands : List Com
   pub spelt : Holds files name (λ text. SpellsScriptFile text script)
   pub loaded : AllZip (LoadsCommand files) script commands
 
--- the name of the image of an edit, if it has one
-abbrev pub image_of : ScriptEdit → List (List ℕ)
-image_of (Image slave file) = string_bytes file ∷ []
-image_of edit = []
-
--- the names of the images of a command
-abbrev pub images_of : ScriptCommand → List (List ℕ)
-images_of (One edit) = image_of edit
-images_of (Swap a b) = []
-images_of (Group edits) = flat_map (λ (one : ScriptGroupEdit). image_of one.edit) edits.items
-
--- these are the names of the images of the script in this file, in order
-pub record NamesImages (files : Known) (name : List ℕ) (names : List (List ℕ)) : Type 0 where
-  pub script : List ScriptCommand
-  pub spelt : Holds files name (λ text. SpellsScriptFile text script)
-  pub named : names ≡ flat_map images_of script
-
 -- ---- why a script isn't loaded
 
--- the fault for an image file that a script names: it can't be read, memory was refused, or its bytes are not the words of an image
+-- the fault for an image file that a script names: it can't be read, memory was refused, it is no file, or its bytes are not the words of an image
 abbrev pub RefusesImage : Known → List ℕ → Fault → Type 0
 RefusesImage files name File = ⊤
 RefusesImage files name Memory = ⊤
+RefusesImage files name NotAFile = files name ≡ None
 RefusesImage files name OddLength = Holds files name (λ bytes. length bytes % 2 ≡ 1)
 RefusesImage files name BadSize = Holds files name (λ bytes. (length bytes % 2 ≡ 0) × ¬ IsImageSize (length bytes / 2))
 RefusesImage files name _ = ⊥
@@ -119,9 +103,11 @@ pub record RefusesImages (files : Known) (name : List ℕ) (fault : Fault) : Typ
   pub spelt : Holds files name (λ text. SpellsScriptFile text script)
   pub refused : RefusesCommands files script fault
 
--- the fault for a script: it can't be read, memory was refused, its text is no script, or an image that it names is bad
+-- the fault for a script: it can't be read, memory was refused, it is no file or too long, its text is no script, or an image that it names is bad
 abbrev pub RefusesScript : Known → List ℕ → Fault → Type 0
 RefusesScript files name File = ⊤
 RefusesScript files name Memory = ⊤
+RefusesScript files name TooLong = Holds files name (λ bytes. 2 ^ 26 < length bytes)
+RefusesScript files name NotAFile = (files name ≡ None) ⊎ RefusesImages files name NotAFile
 RefusesScript files name (BadScript command) = Holds files name IsNoScript
 RefusesScript files name fault = RefusesImages files name fault

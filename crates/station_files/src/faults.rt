@@ -54,6 +54,10 @@ pub enum Fault {
     Busy,
     /// Two names lead to the same file, one of which is to be written.
     SameFile,
+    /// The name leads to a pipe, a device or a socket.
+    NotAFile,
+    /// The file is longer than any of its kind.
+    TooLong,
 }
 
 /// A refused command, as it is printed.
@@ -130,6 +134,8 @@ impl Fault {
             Fault::Exists => Code::Exists,
             Fault::Busy => Code::Busy,
             Fault::SameFile => Code::SameFile,
+            Fault::NotAFile => Code::NotAFile,
+            Fault::TooLong => Code::TooLong,
         }
     }
 

@@ -3,12 +3,12 @@ ghost use Rattle.std.specs.Prelude.{◌≡◌, List, ℕ, IfOk, IfErr, IfSome, I
 ghost use Rattle.std.specs.Io.KnownBytes.{Appends};
 ghost use Rattle.sii_words.specs.Words.{bytes_of};
 ghost use Rattle.station_files.specs.Faults.{IsOfStream};
-ghost use Rattle.station_files.specs.ImageText.{RefusesInput, Spells, SpellsLower, text_of};
+ghost use Rattle.station_files.specs.ImageText.{RefusesInput, RefusesReading, Spells, SpellsLower, text_of};
 
 use crate::faults::Fault;
 use crate::printing::write_whole;
 use crate::reading::read_to_end;
-use crate::store::{Store, read_file};
+use crate::store::{MOST_OF_TEXT, Store, read_file};
 use sii_words::ImageFile;
 use station_text::{hex_lines, read_hex};
 use std::alloc::{AllocError, Global};
@@ -19,7 +19,7 @@ use std::io::{Read, Write};
 ///
 /// # Errors
 ///
-/// `File` where the file is absent, or file or input can't be read; with `hex`, `BadHex` where the text is not pairs of hexadecimal digits;
+/// `File` where the file is absent, or file or input can't be read; `NotAFile` and `TooLong` as for `read_file`; with `hex`, `BadHex` where the text is not pairs of hexadecimal digits;
 /// `OddLength` for an odd number of bytes; `BadSize` for a wrong number of words. `Memory` may come at any point.
 pub fn read_image<R: Read, S: Store>(
     alloc: Global,
@@ -48,12 +48,13 @@ fn read_text<R: Read, S: Store>(
 ) -> Result<Vec<u8>, Fault>
     ensures read { IfOk result (λ bytes. IfSome (text_of (option_map (λ name. name.now) file.entry) (R.remaining input.old) (S.files store.old))
         (λ text. bytes.items ≡ text)) }
-    ensures failed { IfErr result IsOfStream }
+    ensures refused { IfErr result (λ fault. IfSome (text_of (option_map (λ name. name.now) file.entry) (R.remaining input.old) (S.files store.old))
+        (λ text. RefusesReading text fault)) }
     ensures same { S.files store.new ≡ S.files store.old }
     ensures unread { IsSome file.entry → R.remaining input.new ≡ R.remaining input.old }
 {
     match file {
-        Some(name) => read_file(alloc, name, store),
+        Some(name) => read_file(alloc, name, MOST_OF_TEXT, store),
         None => Ok(read_to_end(alloc, input)?),
     }
 }

@@ -31,7 +31,8 @@ pub use reading::{read_about, read_to_end};
 pub use reporting::report_fault;
 pub use same_files::{Clash, FileNames, find_clash, keep_apart, keep_line_apart};
 pub use saving::{prepare_files, save_slaves, write_files};
-pub use script::{Script, load_script_files};
-pub use script_images::image_names;
+pub use script::load_script;
 pub use show::show_image;
-pub use store::{LockFault, Store, read_file};
+pub use store::{
+    Entry, LockFault, MOST_OF_JOURNAL, MOST_OF_TEXT, Store, read_file, read_image_file,
+};

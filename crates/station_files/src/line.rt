@@ -4,7 +4,7 @@ ghost use Rattle.station_files.specs.LineFiles.{names_of, DescribesLine, SpellsL
 ghost use Rattle.station_files.specs.LineFiles.{RefusesLine, RefusesLineText, RefusesPlant, RefusesSlaves, RefusesWords};
 
 use crate::faults::Fault;
-use crate::store::{Store, read_file};
+use crate::store::{MOST_OF_TEXT, Store, read_file, read_image_file};
 use sii_words::{Plant, Words};
 use station_text::{LineFile, read_line};
 use std::alloc::Global;
@@ -13,13 +13,13 @@ use std::alloc::Global;
 ///
 /// # Errors
 ///
-/// `File` where it is absent or can't be read; `BadLine` where it is not UTF-8 or not a line file; `Memory` at any point.
+/// As for `read_file`; `BadLine` where it is not UTF-8 or not a line file; `Memory` at any point.
 pub fn load_line<S: Store>(alloc: Global, name: &str, store: &mut S) -> Result<LineFile, Fault>
     ensures line { IfOk result (SpellsLine (S.files store.old) name.now) }
     ensures refused { IfErr result (RefusesLine (S.files store.old) name.now) }
     ensures same { S.files store.new ≡ S.files store.old }
 {
-    let bytes = read_file(alloc, name, store)?;
+    let bytes = read_file(alloc, name, MOST_OF_TEXT, store)?;
     spelt_line(alloc, &bytes)
 }
 
@@ -38,8 +38,8 @@ fn spelt_line(alloc: Global, bytes: &[u8]) -> Result<LineFile, Fault>
 ///
 /// # Errors
 ///
-/// The fault of the first bad file: `File` where it is absent or can't be read; `OddLength`; `BadSize` where its words are not 64 to
-/// 4,096, a multiple of 64. `Memory` may come at any point.
+/// The fault of the first bad file: `File` where it is absent or can't be read; `NotAFile`; `OddLength`; `BadSize` where its words are not
+/// 64 to 4,096, a multiple of 64. `Memory` may come at any point.
 pub fn load_slaves<S: Store>(
     alloc: Global,
     line: &LineFile,
@@ -65,7 +65,7 @@ fn load_slave<S: Store>(alloc: Global, name: &str, store: &mut S) -> Result<Word
     ensures refused { IfErr result (RefusesWords (S.files store.old) name.now) }
     ensures same { S.files store.new ≡ S.files store.old }
 {
-    let bytes = read_file(alloc, name, store)?;
+    let bytes = read_image_file(alloc, name, store)?;
     Ok(Words::from_bytes(alloc, &bytes)?)
 }
 

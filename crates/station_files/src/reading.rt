@@ -2,6 +2,7 @@
 ghost use Rattle.std.specs.Prelude.{◌≡◌, IfOk, IfSome, OnOk};
 ghost use Rattle.std.specs.Io.KnownBytes.{IsAtEnd};
 
+use crate::store::MOST_OF_TEXT;
 use std::alloc::Global;
 use std::io;
 use std::io::Read;
@@ -23,7 +24,8 @@ pub fn read_to_end<R: Read>(alloc: Global, input: &mut R) -> io::Result<Vec<u8>>
 ///
 /// # Errors
 ///
-/// The error of the reader; or memory was refused; or the reader reported no end within 1,048,576 reads. What was read is lost.
+/// The error of the reader; or memory was refused; or the reader reported no end within 1,048,576 reads, or 67,108,864 bytes. What was read is
+/// lost.
 pub fn read_about<R: Read>(alloc: Global, length: usize, input: &mut R) -> io::Result<Vec<u8>>
     ensures all { IfOk result (λ bytes. IfSome (R.remaining input.old) (λ rest. bytes.items ≡ rest)) }
     ensures end { OnOk result (IsAtEnd (R.remaining input.new)) }
@@ -33,6 +35,9 @@ pub fn read_about<R: Read>(alloc: Global, length: usize, input: &mut R) -> io::R
     for _read in 0..1_048_576u32 {
         match input.read(&mut buffer) {
             Ok(0) => return Ok(bytes),
+            Ok(_) if bytes.len() as u64 >= MOST_OF_TEXT => {
+                return Err(io::Error::from(io::ErrorKind::FileTooLarge));
+            }
             Ok(count) => bytes.extend_from_slice(&buffer[..count])?,
             Err(error) if error.kind() == io::ErrorKind::Interrupted => {}
             Err(error) => return Err(error),

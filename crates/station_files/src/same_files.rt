@@ -24,8 +24,7 @@ pub struct Clash {
 /// The files of a subcommand on a line, by their names: first those that it may write, and then those that it only reads.
 #[derive(Drop)]
 pub struct FileNames {
-    /// The names: the capture, if there is one, the journal, the slaves' image files in order, the line file, and then, if a script is read,
-    /// the script and the images that it names.
+    /// The names: the capture, if there is one, the journal, the slaves' image files in order, the line file, and then the script, if one is read.
     pub names: Vec<String>,
     /// How many of them may be written.
     pub written: usize,
@@ -63,18 +62,13 @@ impl FileNames {
         })
     }
 
-    /// The same files, with a script and the images that it names.
+    /// The same files, with a script. The images that it names are read before anything is written, so each may be any file.
     ///
     /// # Errors
     ///
     /// Memory was refused.
-    pub fn with_script(
-        self,
-        alloc: Global,
-        script: &str,
-        images: &[String],
-    ) -> Result<FileNames, AllocError>
-        ensures names { IfOk result (λ files. spelt files.names.items ≡ spelt self.names.items ++ script.now ∷ spelt images.now) }
+    pub fn with_script(self, alloc: Global, script: &str) -> Result<FileNames, AllocError>
+        ensures names { IfOk result (λ files. spelt files.names.items ≡ spelt self.names.items ++ script.now ∷ []) }
         ensures written { IfOk result (λ files. files.written ≡ self.written) }
         ensures capture { IfOk result (λ files. files.has_capture ≡ self.has_capture) }
     {
@@ -84,7 +78,6 @@ impl FileNames {
             has_capture,
         } = self;
         push_name(alloc, script, &mut names)?;
-        push_names(alloc, images, &mut names)?;
         Ok(FileNames {
             names,
             written,
@@ -105,11 +98,7 @@ fn captured(alloc: Global, capture: Option<&str>) -> Result<Vec<String>, AllocEr
 }
 
 /// Appends a name.
-pub(crate) fn push_name(
-    alloc: Global,
-    name: &str,
-    names: &mut Vec<String>,
-) -> Result<(), AllocError>
+fn push_name(alloc: Global, name: &str, names: &mut Vec<String>) -> Result<(), AllocError>
     ensures { OnOk result (spelt names.new.items ≡ spelt names.old.items ++ name.now ∷ []) }
 {
     names.push(String::from_str(alloc, name)?)?;

@@ -1,24 +1,23 @@
 //! Loads the images that the commands of a script name.
-ghost use Rattle.std.specs.Prelude.{◌≡◌, ◌↔◌, ◌++◌, flat_map, map, string_bytes, All, IfErr, IfOk, IsTrue, OnOk};
+ghost use Rattle.std.specs.Prelude.{◌≡◌, ◌↔◌, All, IfErr, IfOk, IsTrue};
 ghost use Rattle.std.specs.List.{AllZip};
-ghost use Rattle.station_files.specs.ScriptFiles.{image_of, images_of, IsPlain, LoadsCommand, LoadsEdit, LoadsGroup, LoadsGuarded};
+ghost use Rattle.station_files.specs.ScriptFiles.{IsPlain, LoadsCommand, LoadsEdit, LoadsGroup, LoadsGuarded};
 ghost use Rattle.station_files.specs.ScriptFiles.{RefusesCommand, RefusesCommands, RefusesEdit, RefusesGroup};
 
 use crate::faults::Fault;
-use crate::same_files::push_name;
-use crate::store::{Store, read_file};
+use crate::store::{Store, read_image_file};
 use sii_edit::{Command, Edit, EditList, GuardedEdit, GuardedEditList};
 use sii_words::ImageFile;
 use station_text::{ScriptCommand, ScriptEdit, ScriptGroupEdit};
-use std::alloc::{AllocError, Global};
+use std::alloc::Global;
 
 /// Turns the commands of a script into commands with the words of their images. The files are read in the order of the commands, each
 /// judged before the next one is read.
 ///
 /// # Errors
 ///
-/// The fault of the first bad image: `File` where it is absent or can't be read; `OddLength`; `BadSize` where its words are not 64 to
-/// 4,096. `Memory` may come at any point.
+/// The fault of the first bad image: `File` where it is absent or can't be read; `NotAFile`; `OddLength`; `BadSize` where its words are not
+/// 64 to 4,096. `Memory` may come at any point.
 pub fn load_commands<S: Store>(
     alloc: Global,
     script: &[ScriptCommand],
@@ -33,59 +32,6 @@ pub fn load_commands<S: Store>(
         commands.push(load_command(alloc, command, store)?)?;
     }
     Ok(commands)
-}
-
-/// The names of the images of a script, in the order in which they are read.
-pub fn image_names(alloc: Global, script: &[ScriptCommand]) -> Result<Vec<String>, AllocError>
-    ensures { IfOk result (λ names. map (λ name. string_bytes name) names.items ≡ flat_map images_of script.now) }
-{
-    let mut names = Vec::new(alloc);
-    for command in script {
-        push_images(alloc, command, &mut names)?;
-    }
-    Ok(names)
-}
-
-/// Appends the names of the images of a command.
-fn push_images(
-    alloc: Global,
-    command: &ScriptCommand,
-    names: &mut Vec<String>,
-) -> Result<(), AllocError>
-    ensures { OnOk result (map (λ name. string_bytes name) names.new.items
-        ≡ map (λ name. string_bytes name) names.old.items ++ images_of command.now) }
-{
-    match command {
-        ScriptCommand::One(edit) => push_image(alloc, edit, names),
-        ScriptCommand::Swap { .. } => Ok(()),
-        ScriptCommand::Group(edits) => push_group_images(alloc, edits, names),
-    }
-}
-
-/// Appends the names of the images of a group.
-fn push_group_images(
-    alloc: Global,
-    edits: &[ScriptGroupEdit],
-    names: &mut Vec<String>,
-) -> Result<(), AllocError>
-    ensures { OnOk result (map (λ name. string_bytes name) names.new.items
-        ≡ map (λ name. string_bytes name) names.old.items ++ flat_map (λ one. image_of one.edit) edits.now) }
-{
-    for one in edits {
-        push_image(alloc, &one.edit, names)?;
-    }
-    Ok(())
-}
-
-/// Appends the name of the image of an edit, if it has one.
-fn push_image(alloc: Global, edit: &ScriptEdit, names: &mut Vec<String>) -> Result<(), AllocError>
-    ensures { OnOk result (map (λ name. string_bytes name) names.new.items
-        ≡ map (λ name. string_bytes name) names.old.items ++ image_of edit.now) }
-{
-    if let ScriptEdit::Image { file, .. } = edit {
-        push_name(alloc, file.as_str(), names)?;
-    }
-    Ok(())
 }
 
 fn load_command<S: Store>(
@@ -191,7 +137,7 @@ fn load_edit<S: Store>(alloc: Global, edit: &ScriptEdit, store: &mut S) -> Resul
             words: words.try_copy()?,
         }),
         ScriptEdit::Image { slave, file } => {
-            let bytes = read_file(alloc, file.as_str(), store)?;
+            let bytes = read_image_file(alloc, file.as_str(), store)?;
             let image = ImageFile::from_bytes(alloc, &bytes)?;
             Ok(Edit::Image {
                 slave: *slave,

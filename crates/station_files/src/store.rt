@@ -1,7 +1,7 @@
 //! What the program asks of a store of named files.
-ghost use Rattle.std.specs.Prelude.{◌≡◌, ℕ, ⊤, List, Option, None, option_map, IfOk, IfErr, IfSome, OnOk};
+ghost use Rattle.std.specs.Prelude.{◌≡◌, ◌⊎◌, ℕ, ⊤, List, Option, None, option_map, IfOk, IfErr, IfSome, OnOk};
 ghost use Rattle.station_files.specs.Faults.{IsOfLock, IsOfStream};
-ghost use Rattle.station_files.specs.Files.{HasBytes, ChangesOnly};
+ghost use Rattle.station_files.specs.Files.{HasBytes, ChangesOnly, IsEntryOf, IsNoFile, RefusesFile, RefusesImageFile};
 ghost use Rattle.station_files.specs.Locations.{Leads, LeadsTo};
 
 use crate::faults::Fault;
@@ -24,8 +24,17 @@ pub trait Store {
     // Where each name leads, as far as that is known and stays so. None: nothing is known.
     ghost leads: { Leads } = { λ _. None };
 
-    // The open file was opened under this name.
-    ghost opened: { Self.File → List ℕ → Type 0 } = { λ _ _. ⊤ };
+    // The file was opened under this name, and had these bytes then, which a power cut leaves.
+    ghost opened: { Self.File → (name bytes : List ℕ) → Type 0 } = { λ _ _ _. ⊤ };
+
+    /// Looks what this name leads to. Nothing of a file is read, and no file changes.
+    ///
+    /// # Errors
+    ///
+    /// It leads to a folder, or the system can't tell.
+    fn look(&mut self, name: &str) -> io::Result<Entry>
+        ensures entry { IfOk result (λ entry. IfSome (files self.old name.now) (λ held. IsEntryOf held entry)) }
+        ensures same { files self.new ≡ files self.old };
 
     /// Reads a whole file; `None` where there is no such file.
     ///
@@ -56,9 +65,8 @@ pub trait Store {
         ensures found { IfOk result (LeadsTo leads name.now) }
         ensures same { files self.new ≡ files self.old };
 
-    /// Makes `bytes` the contents of the file `name`, which is created where it is absent. A file that has these bytes already stays.
-    /// Any other is replaced as a whole: a power cut during the call leaves the old file or the new one. Once the call succeeds, the new
-    /// contents survive a power cut.
+    /// Makes `bytes` the contents of the file `name`, which is created where it is absent. It is replaced as a whole: a power cut during the
+    /// call leaves the old file or the new one. Once the call succeeds, the new contents survive a power cut.
     ///
     /// # Errors
     ///
@@ -68,14 +76,16 @@ pub trait Store {
         ensures written { OnOk result (HasBytes (files self.new) name.now bytes.now) }
         ensures others { ChangesOnly (files self.old) (files self.new) name.now };
 
-    /// Opens an existing file for access at byte offsets, and syncs it and its name, so that what was read of it before survives a power
-    /// cut from then on, also if another process wrote it. Contracts know nothing of its contents until it is written as a whole.
+    /// Opens an existing file, of which `bytes` were read, for access at byte offsets. It is replaced as a whole first, as `write` does, by a
+    /// file with these bytes: what was read of the old one may be in the system's memory alone, where a write to the disk failed before,
+    /// and a sync that succeeds doesn't show it. So these bytes survive a power cut from then on. A power cut during the call leaves the
+    /// old file or the new one. The clauses of other calls know nothing of its contents until it is written as a whole.
     ///
     /// # Errors
     ///
-    /// The file is absent, or can't be opened for reading and writing, or can't be synced.
-    fn open(&mut self, name: &str) -> io::Result<Self::File>
-        ensures opened { IfOk result (λ file. opened file name.now) }
+    /// The file is absent, or can't be written, or can't be replaced or synced; or memory was refused.
+    fn open(&mut self, name: &str, bytes: &[u8]) -> io::Result<Self::File>
+        ensures opened { IfOk result (λ file. opened file name.now bytes.now) }
         ensures others { ChangesOnly (files self.old) (files self.new) name.now };
 
     /// Opens a file for access at byte offsets, and locks it without waiting until it is closed. An absent file is created, empty. Any
@@ -95,6 +105,20 @@ pub trait Store {
     /// `Busy` where another station has the lock; `Io` where the system can't lock the file.
     fn lock(&mut self, name: &str) -> Result<Option<Self::Lock>, LockFault>
         ensures same { files self.new ≡ files self.old };
+}
+
+/// What a name leads to.
+#[derive(Clone, Copy)]
+pub enum Entry {
+    /// Nothing.
+    Absent,
+    /// A file.
+    File {
+        /// Its length, in bytes.
+        length: u64,
+    },
+    /// A pipe, a device or a socket.
+    Other,
 }
 
 /// Why the lock of a journal was not taken.
@@ -123,18 +147,74 @@ impl From<LockFault> for Fault {
     }
 }
 
-/// Reads a whole file that must exist.
+/// The most bytes of a text: a line file, a script.
+pub const MOST_OF_TEXT: u64 = 1 << 26;
+
+/// The most bytes of a journal: its header, and the longest area.
+pub const MOST_OF_JOURNAL: u64 = 8 + (1 << 22);
+
+/// The most bytes of an image: 65,536 words, all that an EEPROM's addresses reach.
+const MOST_OF_IMAGE: u64 = 1 << 17;
+
+/// Reads a whole file that must exist, and has no more than `most` bytes. Of one that is longer nothing is read.
 ///
 /// # Errors
 ///
-/// `File` where it is absent or can't be read; `Memory`.
-pub fn read_file<S: Store>(alloc: Global, name: &str, store: &mut S) -> Result<Vec<u8>, Fault>
+/// `File` where it is absent or can't be read; `NotAFile`; `TooLong`; `Memory`.
+pub fn read_file<S: Store>(
+    alloc: Global,
+    name: &str,
+    most: u64,
+    store: &mut S,
+) -> Result<Vec<u8>, Fault>
     ensures bytes { IfOk result (λ bytes. HasBytes (S.files store.old) name.now bytes.items) }
-    ensures refused { IfErr result IsOfStream }
+    ensures refused { IfErr result (RefusesFile most (S.files store.old) name.now) }
     ensures same { S.files store.new ≡ S.files store.old }
 {
-    match store.read(alloc, name)? {
-        Some(bytes) => Ok(bytes),
-        None => Err(Fault::File),
+    match store.look(name)? {
+        Entry::File { length } if length > most => Err(Fault::TooLong),
+        entry => read_entry(alloc, name, entry, store),
+    }
+}
+
+/// Reads a whole image file that must exist. Of one that is longer than any image nothing is read.
+///
+/// # Errors
+///
+/// `File` where it is absent or can't be read; `NotAFile`; of one of more than 131,072 bytes `OddLength` or, where they are whole words,
+/// `BadSize`; `Memory`.
+pub fn read_image_file<S: Store>(alloc: Global, name: &str, store: &mut S) -> Result<Vec<u8>, Fault>
+    ensures bytes { IfOk result (λ bytes. HasBytes (S.files store.old) name.now bytes.items) }
+    ensures refused { IfErr result (RefusesImageFile (S.files store.old) name.now) }
+    ensures same { S.files store.new ≡ S.files store.old }
+{
+    match store.look(name)? {
+        Entry::File { length } if length > MOST_OF_IMAGE && length % 2 == 1 => {
+            Err(Fault::OddLength)
+        }
+        Entry::File { length } if length > MOST_OF_IMAGE => Err(Fault::BadSize),
+        entry => read_entry(alloc, name, entry, store),
+    }
+}
+
+/// Reads the whole file that this name leads to, as `entry` tells.
+fn read_entry<S: Store>(
+    alloc: Global,
+    name: &str,
+    entry: Entry,
+    store: &mut S,
+) -> Result<Vec<u8>, Fault>
+    requires { IfSome (S.files store.old name.now) (λ held. IsEntryOf held entry) }
+    ensures bytes { IfOk result (λ bytes. HasBytes (S.files store.old) name.now bytes.items) }
+    ensures refused { IfErr result (λ fault. IsOfStream fault ⊎ IsNoFile (S.files store.old) name.now fault) }
+    ensures same { S.files store.new ≡ S.files store.old }
+{
+    match entry {
+        Entry::Absent => Err(Fault::File),
+        Entry::Other => Err(Fault::NotAFile),
+        Entry::File { .. } => match store.read(alloc, name)? {
+            Some(bytes) => Ok(bytes),
+            None => Err(Fault::File),
+        },
     }
 }

@@ -6,4 +6,5 @@ pub mod CallLaws
 pub mod TakingLaws
 pub mod CycleLaws
 pub mod NoteLaws
+pub mod RunLaws
 pub mod CyclesLaws

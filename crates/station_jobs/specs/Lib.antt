@@ -8,3 +8,4 @@ pub mod Setting
 pub mod Cycling
 pub mod Ends
 pub mod Noted
+pub mod Runs

@@ -5,9 +5,9 @@ ghost use Rattle.station_jobs.specs.Cycling.{Cycles};
 ghost use Rattle.station_jobs.specs.Setting.{SetsLine, TakesJob};
 
 use crate::cycle::{CycleJob, CycleOutcome};
+use crate::cycle_notes::CycleLog;
 use crate::dispatch::{Dispatch, Turn};
 use crate::end::End;
-use crate::log::CycleLog;
 use arrayvec::ArrayVec;
 use cyclic::{CycleFault, configure, reconfigure, turn};
 use sii_image::{IMAGE_BYTES, Plan};

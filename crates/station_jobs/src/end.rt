@@ -6,7 +6,8 @@ ghost use Rattle.station_jobs.specs.Cycling.{IsCycled};
 ghost use Rattle.station_jobs.specs.Flushing.{IsFlushed};
 ghost use Rattle.station_jobs.specs.Working.{IsWorked};
 
-use crate::log::{CycleLog, DiskLog, SlaveLog};
+use crate::cycle_notes::CycleLog;
+use crate::log::{DiskLog, SlaveLog};
 use site_core::Site;
 use std::marker::Model;
 use std::snapshot::Snapshot;

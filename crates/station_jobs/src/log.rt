@@ -3,7 +3,8 @@
 ghost use Rattle.std.specs.Prelude.{◌≡◌, ◌+◌, ◌++◌, ◌∷◌, [], None};
 ghost use Rattle.station_jobs.specs.Dispatch.{with_outcome};
 
-use crate::cycle::{CycleJob, CycleNote, CycleOutcome};
+use crate::cycle::{CycleJob, CycleOutcome};
+use crate::cycle_notes::CycleLog;
 use book_model::{DiskNext, RomNext, RomOutcome};
 use sii_words::ItemList;
 use site_core::DeviceFault;
@@ -57,9 +58,6 @@ impl Log for RomLog {
 
     ghost told = { with_outcome };
 }
-
-/// The process data cycles: of each, the prefix of its plan and the size of its image. Outcomes aren't kept.
-pub type CycleLog = ItemList<CycleNote>;
 
 impl Log for CycleLog {
     type Job = CycleJob;

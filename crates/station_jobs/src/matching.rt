@@ -2,7 +2,7 @@
 
 ghost use Rattle.std.specs.Prelude.{◌≡◌, ◌↔◌, IsTrue};
 
-use crate::{Assignment, CycleNote};
+use crate::Assignment;
 use book_model::{DiskNext, RomNext, RomOutcome};
 use site_core::DeviceFault;
 
@@ -69,21 +69,6 @@ pub fn are_same_calls(ones: &[RomEntry], others: &[RomEntry]) -> bool
     }
     for i in 0..ones.len() {
         if !is_same_call(&ones[i], &others[i]) {
-            return false;
-        }
-    }
-    true
-}
-
-/// Whether two logs have the same process data cycles, in the same order.
-pub fn are_same_turns(ones: &[CycleNote], others: &[CycleNote]) -> bool
-    ensures { IsTrue result ↔ (ones.now ≡ others.now) }
-{
-    if ones.len() != others.len() {
-        return false;
-    }
-    for i in 0..ones.len() {
-        if ones[i] != others[i] {
             return false;
         }
     }

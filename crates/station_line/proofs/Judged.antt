@@ -1,5 +1,5 @@
 -- What was judged of a line's journal and of its files.
-use Rattle.std.proofs.Common.{◌≡◌, ℕ, Bool, List, ◌∷◌, ◌++◌, Option, Some, None, length, map, refl, sym, subst, inl, inr}
+use Rattle.std.proofs.Common.{◌≡◌, ℕ, Bool, List, [], ◌∷◌, ◌++◌, Option, Some, None, length, map, refl, sym, subst, inl, inr}
 use Rattle.std.specs.Prelude.{MatchOption, is_some, option_map}
 use Rattle.site_core.specs.State.{Seen}
 use Rattle.site_shadow.specs.Site.{SiteValue}
@@ -9,11 +9,10 @@ use Rattle.station_text.specs.declared.line_file.LineFile.{LineFile}
 use Rattle.station_files.specs.Files.{Known}
 use Rattle.station_files.specs.FileNames.{files_with, written_of, RefusesNames}
 use Rattle.station_files.specs.Locations.{AreApart, Leads}
-use Rattle.station_files.specs.ScriptFiles.{NamesImages}
 use Rattle.station_files.specs.declared.faults.Fault.{Fault}
 use Rattle.station_line.specs.Faults.{of_journal}
-use Rattle.station_line.specs.Judging.{AreRunApart, HasJournal, IsJudged, IsRunApart}
-use Rattle.station_line.specs.Refusals.{RefusesApart, RefusesCommandFiles, RefusesJournal, RefusesRun}
+use Rattle.station_line.specs.Judging.{HasJournal, IsJudged, IsRunApart}
+use Rattle.station_line.specs.Refusals.{RefusesCommandFiles, RefusesJournal, RefusesRun}
 use Rattle.station_line.specs.Opened.{Loads}
 use Rattle.station_line.specs.Site.{IsSiteOf}
 
@@ -45,21 +44,14 @@ journal_refused files name line site refusal why fault given judged some is =
 
 -- ---- the files of a run
 
--- the script and its images were listed behind the others
-pub joined_apart : (files : Known) (leads : Leads) (count counted : ℕ) (names all : List (List ℕ)) (script : List ℕ) (images : List (List ℕ)) → NamesImages files script images → counted ≡ count → all ≡ names ++ script ∷ images → AreApart leads counted all
-    → AreRunApart files leads count names script
-joined_apart files leads count counted names all script images named same listed apart =
-    let P : ℕ → Type 0 = λ n. AreApart leads n (names ++ script ∷ images) in
-    let Q : List (List ℕ) → Type 0 = λ l. AreApart leads counted l in
-    record { images = images; named = named; apart = subst P same (subst Q listed apart) }
+-- the script was listed behind the others
+pub joined_apart : (leads : Leads) (count counted : ℕ) (names all : List (List ℕ)) → counted ≡ count → all ≡ names → AreApart leads counted all → AreApart leads count names
+joined_apart leads count counted names all same listed apart = subst (λ n. AreApart leads n names) same (subst (λ l. AreApart leads counted l) listed apart)
 
-pub joined_refused : (files : Known) (leads : Leads) (captures has_capture : Bool) (count counted : ℕ) (names all : List (List ℕ)) (script : List ℕ) (images : List (List ℕ)) (fault : Fault) → NamesImages files script images → has_capture ≡ captures → counted ≡ count
-    → all ≡ names ++ script ∷ images → RefusesNames leads has_capture counted all fault → RefusesApart files leads captures count names script fault
-joined_refused files leads captures has_capture count counted names all script images fault named kept same listed refused =
-    let P : ℕ → Type 0 = λ n. RefusesNames leads captures n (names ++ script ∷ images) fault in
-    let Q : List (List ℕ) → Type 0 = λ l. RefusesNames leads captures counted l fault in
-    let R : Bool → Type 0 = λ b. RefusesNames leads b counted all fault in
-    record { images = images; named = named; refused = subst P same (subst Q listed (subst R kept refused)) }
+pub joined_refused : (leads : Leads) (captures has_capture : Bool) (count counted : ℕ) (names all : List (List ℕ)) (fault : Fault) → has_capture ≡ captures → counted ≡ count → all ≡ names
+    → RefusesNames leads has_capture counted all fault → RefusesNames leads captures count names fault
+joined_refused leads captures has_capture count counted names all fault kept same listed refused =
+    subst (λ n. RefusesNames leads captures n names fault) same (subst (λ l. RefusesNames leads captures counted l fault) listed (subst (λ b. RefusesNames leads b counted all fault) kept refused))
 
 -- a name that is there is there as bytes
 pub some_mapped : {A B : Type 0} (f : A → B) (given : Option A) → is_some (option_map f given) ≡ is_some given
@@ -67,13 +59,12 @@ some_mapped f (Some x) = refl
 some_mapped f None = refl
 
 -- the names that were listed are those of the line
-pub run_apart : (old new : Known) (leads : Leads) (capture : Option (List ℕ)) (line : LineFile) (name script : List ℕ) (count : ℕ) (names : List (List ℕ)) → new ≡ old → count ≡ length (written_of capture line) → names ≡ files_with capture line name
-    → AreRunApart new leads count names script → IsRunApart old leads capture line name script
-run_apart old new leads capture line name script count names same counted listed apart =
-    let P : Known → Type 0 = λ files. AreRunApart files leads (length (written_of capture line)) (files_with capture line name) script in
-    let Q : ℕ → Type 0 = λ n. AreRunApart new leads n (files_with capture line name) script in
-    let R : List (List ℕ) → Type 0 = λ l. AreRunApart new leads count l script in
-    subst P same (subst Q counted (subst R listed apart))
+pub run_apart : (leads : Leads) (capture : Option (List ℕ)) (line : LineFile) (name script : List ℕ) (count : ℕ) (names : List (List ℕ)) → count ≡ length (written_of capture line) → names ≡ files_with capture line name
+    → AreApart leads count (names ++ script ∷ []) → IsRunApart leads capture line name script
+run_apart leads capture line name script count names counted listed apart =
+    let Q : ℕ → Type 0 = λ n. AreApart leads n (files_with capture line name ++ script ∷ []) in
+    let R : List (List ℕ) → Type 0 = λ l. AreApart leads count (l ++ script ∷ []) in
+    subst Q counted (subst R listed apart)
 
 pub script_refused : (old new : Known) (leads : Leads) (capture : Option (List ℕ)) (line : LineFile) (name script : List ℕ) (site : SiteValue) (has_capture : Bool) (count : ℕ) (names : List (List ℕ)) (fault : Fault) → Loads old name line site → new ≡ old → has_capture ≡ is_some capture
     → count ≡ length (written_of capture line) → names ≡ files_with capture line name → RefusesCommandFiles new leads has_capture count names script fault → RefusesRun old leads capture name script fault

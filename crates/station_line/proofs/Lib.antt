@@ -9,3 +9,4 @@ pub mod Going
 pub mod RoundLaws
 pub mod RoundServing
 pub mod RoundSubmitting
+pub mod OneOpened

@@ -1,15 +1,13 @@
 -- What is judged of a line and a script before a file is opened for writing.
-use Rattle.std.specs.Prelude.{ℕ, List, ◌∷◌, ◌++◌, Option, length, MatchOption}
+use Rattle.std.specs.Prelude.{ℕ, List, [], ◌∷◌, ◌++◌, Option, length, MatchOption}
 use Rattle.site_shadow.specs.Site.{SiteValue}
 use Rattle.jrn_format.specs.declared.fault.JournalFault.{JournalFault}
 use Rattle.jrn_format.specs.declared.journal.Journal.{Journal}
 use Rattle.jrn_format.specs.Fault.{IsFaultOf}
 use Rattle.jrn_format.specs.Journal.{IsJournal}
 use Rattle.station_text.specs.declared.line_file.LineFile.{LineFile}
-use Rattle.station_files.specs.Files.{Known}
 use Rattle.station_files.specs.FileNames.{files_with, written_of}
 use Rattle.station_files.specs.Locations.{AreApart, Leads}
-use Rattle.station_files.specs.ScriptFiles.{NamesImages}
 
 -- the bytes are a journal of a line whose slaves have `sizes` words
 abbrev pub HasJournal : (sizes bytes : List ℕ) → Type 0
@@ -20,13 +18,8 @@ abbrev pub IsJudged : SiteValue → Option JournalFault → Type 0
 IsJudged site refusal =
     MatchOption refusal (HasJournal site.line.sizes site.seen.state.disk.bytes) (IsFaultOf site.seen.state.disk.bytes site.line.sizes)
 
--- The files of these names, of which the first `count` are written, stand apart from each other and from the script and its images.
-pub record AreRunApart (files : Known) (leads : Leads) (count : ℕ) (names : List (List ℕ)) (script : List ℕ) : Type 0 where
-  pub images : List (List ℕ)
-  pub named : NamesImages files script images
-  pub apart : AreApart leads count (names ++ script ∷ images)
-
--- The capture, if there is one, the journal and the image files stand apart from each other, and from the line file, the script and its images.
-abbrev pub IsRunApart : Known → Leads → (capture : Option (List ℕ)) → LineFile → (line_file script : List ℕ) → Type 0
-IsRunApart files leads capture line line_file script =
-    AreRunApart files leads (length (written_of capture line)) (files_with capture line line_file) script
+-- The capture, if there is one, the journal and the image files stand apart from each other, and from the line file and the script. An image that the
+-- script names may be any file: it is read before one is written.
+abbrev pub IsRunApart : Leads → (capture : Option (List ℕ)) → LineFile → (line_file script : List ℕ) → Type 0
+IsRunApart leads capture line line_file script =
+    AreApart leads (length (written_of capture line)) (files_with capture line line_file ++ script ∷ [])

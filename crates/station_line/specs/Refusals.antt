@@ -1,15 +1,15 @@
 -- Why `run` and `recover` are refused before anything is written.
-use Rattle.std.specs.Prelude.{◌≡◌, ◌⊎◌, ℕ, Bool, List, ◌∷◌, ◌++◌, Option, length, map, is_some, ⊤}
+use Rattle.std.specs.Prelude.{◌≡◌, ◌⊎◌, ℕ, ◌+◌, ◌^◌, Bool, List, [], ◌∷◌, ◌++◌, Option, length, map, is_some, string_bytes, ⊤}
 use Rattle.jrn_format.specs.declared.fault.JournalFault.{JournalFault}
 use Rattle.jrn_format.specs.Fault.{IsFaultOf}
 use Rattle.station_text.specs.declared.line_file.LineFile.{LineFile}
-use Rattle.station_files.specs.Files.{Known}
+use Rattle.station_files.specs.Files.{Known, RefusesFile}
 use Rattle.station_files.specs.FileNames.{files_with, written_of, RefusesLineNames, RefusesNames}
 use Rattle.station_files.specs.LineFiles.{SpellsLine, RefusesPlant}
 use Rattle.station_files.specs.Locations.{Leads}
-use Rattle.station_files.specs.ScriptFiles.{NamesImages, RefusesScript}
+use Rattle.station_files.specs.ScriptFiles.{RefusesScript}
 use Rattle.station_files.specs.declared.faults.Fault.{Fault}
-use Rattle.station_files.specs.declared.faults.Fault.TheVariants.{Memory, File, Busy, SameFile}
+use Rattle.station_files.specs.declared.faults.Fault.TheVariants.{Memory, File, Busy, SameFile, NotAFile, TooLong}
 use Rattle.station_line.specs.Faults.{of_journal}
 use Rattle.station_line.specs.Opened.{IsLine}
 
@@ -27,11 +27,19 @@ pub record RefusesJournal (files : Known) (name : List ℕ) (fault : Fault) : Ty
 
 -- ---- the line's files
 
+-- the fault for the journal's file of a line: it can't be read, memory was refused, or it is no file or too long
+pub record RefusesJournalFile (files : Known) (name : List ℕ) (fault : Fault) : Type 0 where
+  pub line : LineFile
+  pub described : SpellsLine files name line
+  pub refused : RefusesFile (8 + 2 ^ 22) files (string_bytes line.journal) fault
+
 -- the fault for the files of a line: one can't be read or memory was refused; the line file describes no line; another station has the
--- journal; an image file has no words of a device; or two of the files are one
+-- journal; an image file has no words of a device; one is no file or too long; or two of the files are one
 abbrev pub RefusesSession : Known → Leads → List ℕ → Fault → Type 0
 RefusesSession files leads name File = ⊤
 RefusesSession files leads name Memory = ⊤
+RefusesSession files leads name NotAFile = RefusesPlant files name NotAFile ⊎ RefusesJournalFile files name NotAFile
+RefusesSession files leads name TooLong = RefusesPlant files name TooLong ⊎ RefusesJournalFile files name TooLong
 RefusesSession files leads name Busy = (line : LineFile) × SpellsLine files name line
 RefusesSession files leads name SameFile = (line : LineFile) × SpellsLine files name line × RefusesLineNames leads line name SameFile
 RefusesSession files leads name fault = RefusesPlant files name fault
@@ -42,17 +50,10 @@ RefusesRecovery files leads name fault = RefusesSession files leads name fault �
 
 -- ---- the script's files
 
--- The script and its images were read, and the files are refused with this fault.
-pub record RefusesApart (files : Known) (leads : Leads) (has_capture : Bool) (count : ℕ) (names : List (List ℕ)) (script : List ℕ)
-    (fault : Fault) : Type 0 where
-  pub images : List (List ℕ)
-  pub named : NamesImages files script images
-  pub refused : RefusesNames leads has_capture count (names ++ script ∷ images) fault
-
--- the fault for a script on a line of these files: that of the script or of an image that it names, or two of all these files clash
+-- the fault for a script on a line of these files: that of the script or of an image that it names, or two of the files and the script clash
 abbrev pub RefusesCommandFiles : Known → Leads → Bool → ℕ → List (List ℕ) → List ℕ → Fault → Type 0
 RefusesCommandFiles files leads has_capture count names script fault =
-    RefusesScript files script fault ⊎ RefusesApart files leads has_capture count names script fault
+    RefusesScript files script fault ⊎ RefusesNames leads has_capture count (names ++ script ∷ []) fault
 
 -- The line file was read, and the script's files are refused with this fault.
 pub record RefusesScriptFiles (files : Known) (leads : Leads) (capture : Option (List ℕ)) (name script : List ℕ) (fault : Fault) : Type 0 where

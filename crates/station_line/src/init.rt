@@ -11,7 +11,7 @@ use crate::site::{save_site, site_of};
 use sii_words::Words;
 use site_journal::format;
 use site_mem::FaultPlan;
-use station_files::{Fault, Store, keep_line_apart, load_line, load_slaves};
+use station_files::{Entry, Fault, Store, keep_line_apart, load_line, load_slaves};
 use station_text::LineFile;
 use std::alloc::Global;
 use std::io::Write;
@@ -70,9 +70,9 @@ fn load_unformatted<S: Store>(
     let line = load_line(alloc, name, store)?;
     let slaves = load_slaves(alloc, &line, store)?;
     keep_line_apart(alloc, &line, name, store)?;
-    match store.read(alloc, line.journal.as_str())? {
-        Some(_) => Err(Fault::Exists),
-        None => Ok(Unformatted { line, slaves }),
+    match store.look(line.journal.as_str())? {
+        Entry::Absent => Ok(Unformatted { line, slaves }),
+        _ => Err(Fault::Exists),
     }
 }
 

@@ -1,15 +1,16 @@
 //! What is read for a run: the line, and the commands of a script.
-ghost use Rattle.std.specs.Prelude.{◌≡◌, option_map, IfErr, IfOk, OnOk};
+ghost use Rattle.std.specs.Prelude.{◌≡◌, ◌∷◌, ◌++◌, [], option_map, IfErr, IfOk, OnOk};
 ghost use Rattle.station_files.specs.ScriptFiles.{SpellsCommands};
 ghost use Rattle.station_files.specs.FileNames.{spelt};
-ghost use Rattle.station_line.specs.Judging.{AreRunApart, HasJournal, IsRunApart};
+ghost use Rattle.station_files.specs.Locations.{AreApart};
+ghost use Rattle.station_line.specs.Judging.{HasJournal, IsRunApart};
 ghost use Rattle.station_line.specs.Opened.{is_old, Loads};
 ghost use Rattle.station_line.specs.Refusals.{RefusesCommandFiles, RefusesRun};
 
 use crate::faults::of_journal;
 use crate::session::{Session, load_session};
 use sii_edit::Command;
-use station_files::{Fault, FileNames, Store, keep_apart, load_script_files};
+use station_files::{Fault, FileNames, Store, keep_apart, load_script};
 use std::alloc::Global;
 
 /// What was read for a run.
@@ -22,11 +23,11 @@ pub struct Given<L> {
 }
 
 /// Reads the files in this order: line file, images of the slaves, journal, script, images that the script names. None of those that a run
-/// writes, its capture among them, may be another one. Then the journal's content is judged.
+/// writes, its capture among them, may be another one of them, the line file or the script. Then the journal's content is judged.
 ///
 /// # Errors
 ///
-/// As for `load_session`, then as for `load_script_files` and `keep_apart`; then `NotAJournal`, `BadVersion`, `WrongLine` or `BadJournal`
+/// As for `load_session`, then as for `load_script` and `keep_apart`; then `NotAJournal`, `BadVersion`, `WrongLine` or `BadJournal`
 /// where the journal is refused.
 pub fn load<S: Store>(
     alloc: Global,
@@ -39,7 +40,7 @@ pub fn load<S: Store>(
     ensures old { IfOk result (λ given. given.session.is_old ≡ is_old given.session.site.seen.state.disk.bytes) }
     ensures journal { IfOk result (λ given. HasJournal given.session.site.line.sizes given.session.site.seen.state.disk.bytes) }
     ensures spelt { IfOk result (λ given. SpellsCommands (S.files store.old) script.now given.commands.items) }
-    ensures apart { IfOk result (λ given. IsRunApart (S.files store.old) S.leads (option_map (λ given. given.now) capture.entry) given.session.line
+    ensures apart { IfOk result (λ given. IsRunApart S.leads (option_map (λ given. given.now) capture.entry) given.session.line
         name.now script.now) }
     ensures refused { IfErr result (RefusesRun (S.files store.old) S.leads (option_map (λ given. given.now) capture.entry) name.now script.now) }
     ensures same { S.files store.new ≡ S.files store.old }
@@ -66,11 +67,11 @@ pub fn load<S: Store>(
     }
 }
 
-/// Reads a script and the images that it names. None of them may be one of these files that the run writes.
+/// Reads a script and the images that it names. The script may be none of these files that the run writes.
 ///
 /// # Errors
 ///
-/// As for `load_script_files`, then as for `keep_apart`.
+/// As for `load_script`, then as for `keep_apart`.
 fn load_commands<S: Store>(
     alloc: Global,
     script: &str,
@@ -78,17 +79,17 @@ fn load_commands<S: Store>(
     store: &mut S,
 ) -> Result<Vec<Command>, Fault>
     ensures spelt { IfOk result (λ commands. SpellsCommands (S.files store.old) script.now commands.items) }
-    ensures apart { OnOk result (AreRunApart (S.files store.old) S.leads files.written (spelt files.names.items) script.now) }
+    ensures apart { OnOk result (AreApart S.leads files.written (spelt files.names.items ++ script.now ∷ [])) }
     ensures refused { IfErr result (RefusesCommandFiles (S.files store.old) S.leads files.has_capture files.written (spelt files.names.items)
         script.now) }
     ensures same { S.files store.new ≡ S.files store.old }
 {
-    let loaded = load_script_files(alloc, script, store)?;
-    let all = files.with_script(alloc, script, &loaded.images)?;
+    let commands = load_script(alloc, script, store)?;
+    let all = files.with_script(alloc, script)?;
     match keep_apart(alloc, &all, store) {
-        Ok(()) => Ok(loaded.commands),
+        Ok(()) => Ok(commands),
         Err(fault) => {
-            drop(loaded);
+            drop(commands);
             Err(fault)
         }
     }

@@ -10,7 +10,9 @@ use crate::site::site_of;
 use jrn_format::{JournalFault, version};
 use site_mem::FaultPlan;
 use site_shadow::ShadowSite;
-use station_files::{Fault, Store, keep_line_apart, load_line, load_slaves, read_file};
+use station_files::{
+    Fault, MOST_OF_JOURNAL, Store, keep_line_apart, load_line, load_slaves, read_file,
+};
 use station_text::LineFile;
 use std::alloc::Global;
 
@@ -35,7 +37,7 @@ pub struct Session<L> {
 /// # Errors
 ///
 /// As for `load_line`; `Busy` where another station has locked the journal, `File` where the system can't lock it; as for `load_slaves`;
-/// `File` where the journal is absent or can't be read; then as for `keep_line_apart`. `Memory` may come at any point.
+/// as for `read_file` of the journal; then as for `keep_line_apart`. `Memory` may come at any point.
 pub fn load_session<S: Store>(
     alloc: Global,
     name: &str,
@@ -51,7 +53,7 @@ pub fn load_session<S: Store>(
     let line = load_line(alloc, name, store)?;
     let lock = store.lock(line.journal.as_str())?;
     let slaves = load_slaves(alloc, &line, store)?;
-    let journal = read_file(alloc, line.journal.as_str(), store)?;
+    let journal = read_file(alloc, line.journal.as_str(), MOST_OF_JOURNAL, store)?;
     let Some(lock) = lock else {
         return Err(Fault::File);
     };

@@ -146,7 +146,10 @@ fn write_line<S: Store>(
 }
 
 /// The bytes of each slave's words.
-fn spell_halves(alloc: Global, halves: &[Option<RomHalf>]) -> Result<Vec<Vec<u8>>, AllocError>
+pub(crate) fn spell_halves(
+    alloc: Global,
+    halves: &[Option<RomHalf>],
+) -> Result<Vec<Vec<u8>>, AllocError>
     ensures { IfOk result (λ files. map (λ file. file.items) files.items ≡ map (λ half. bytes_of half.words) (halves_of halves.now)) }
 {
     let mut files = Vec::new(alloc);

@@ -49,6 +49,8 @@ pub enum Code {
     Exists = 94,
     Busy = 95,
     SameFile = 96,
+    NotAFile = 97,
+    TooLong = 98,
 }
 
 /// The entry of a code in the table.
@@ -61,7 +63,7 @@ pub struct CodeEntry {
 }
 
 /// All codes, in the order of their numbers.
-pub const CODES: [Code; 42] = [
+pub const CODES: [Code; 44] = [
     Code::OddLength,
     Code::BadSize,
     Code::RunsOut,
@@ -104,6 +106,8 @@ pub const CODES: [Code; 42] = [
     Code::Exists,
     Code::Busy,
     Code::SameFile,
+    Code::NotAFile,
+    Code::TooLong,
 ];
 
 /// Law: each code stands in the table `CODES`.
@@ -171,6 +175,8 @@ impl Code {
             Code::Exists => &explanations::EXISTS,
             Code::Busy => &explanations::BUSY,
             Code::SameFile => &explanations::SAME_FILE,
+            Code::NotAFile => &explanations::NOT_A_FILE,
+            Code::TooLong => &explanations::TOO_LONG,
         }
     }
 }

@@ -161,8 +161,10 @@ pub(crate) const BAD_JOURNAL: CodeEntry = CodeEntry {
 
 pub(crate) const WRONG_LINE: CodeEntry = CodeEntry {
     name: "WrongLine",
-    explanation: "The journal belongs to another line. The number of slaves, or the size of one, isn't the one that it was written for. \
-        Check the journal's name and the slaves in the line file.",
+    explanation: "The journal belongs to another line. It tells the number of slaves, and its live batches tell which words they \
+        write. Here the line has another number of slaves, or a slave has no such word. It tells nothing else of the slaves: not which \
+        devices they are, nor of words that no live batch writes. Check the journal's name, and the slaves in the line file. Nothing \
+        was written.",
 };
 
 pub(crate) const TOO_LARGE: CodeEntry = CodeEntry {
@@ -238,8 +240,9 @@ pub(crate) const BAD_SCRIPT: CodeEntry = CodeEntry {
 
 pub(crate) const EXISTS: CodeEntry = CodeEntry {
     name: "Exists",
-    explanation: "The journal's file is there already. A new journal would lose what it holds. Recover the line. Remove the file only \
-        if nothing of it is needed.",
+    explanation: "A file is there already where a new one is to be made, and what it holds would be lost: the journal of init, a file \
+        of a backup, or in place of a capture a file that is none. Of a journal recover the line first. Name another file, or remove \
+        this one if nothing of it is needed.",
 };
 
 pub(crate) const BUSY: CodeEntry = CodeEntry {
@@ -251,7 +254,20 @@ pub(crate) const BUSY: CodeEntry = CodeEntry {
 pub(crate) const SAME_FILE: CodeEntry = CodeEntry {
     name: "SameFile",
     explanation: "Two names lead to the same file. The journal and the images of the slaves are written, so each has to be a file of \
-        its own: under no other name, and under no link, the file of another slave, the line file, the script or an image of the \
-        script. While NAME is replaced, the new file is called .NAME.new, so no other file may have that name. Give each slave a file \
-        of its own, and copy a file that a script is to write to a slave. Nothing was written.",
+        its own: under no other name, and under no link, the file of another slave, the line file or the script. An image that a \
+        script names is read before, so it may be any file. While NAME is replaced, the new file is called .NAME.new, so no other \
+        file may have that name. Give each slave a file of its own. Nothing was written.",
+};
+
+pub(crate) const NOT_A_FILE: CodeEntry = CodeEntry {
+    name: "NotAFile",
+    explanation: "The name leads to a pipe, a device or a socket. A line file, a script, a journal and an image each have to be a \
+        file: it is read to its end, and a journal or an image is written at places too. Copy what it gives into a file, and name \
+        that. Nothing was read or written.",
+};
+
+pub(crate) const TOO_LONG: CodeEntry = CodeEntry {
+    name: "TooLong",
+    explanation: "The file is longer than any of its kind: a journal has at most 4194312 bytes, a line file or a script at most \
+        67108864. Check the name. Nothing was written.",
 };

@@ -182,7 +182,7 @@ ends-uncaptured is_cut capture old new line site commands status begins bad =
 
 -- ---- the whole
 
-pub runs : (leads : Leads) (is_cut : Bool) (capture : Option (List ℕ)) (old loaded new : Known) (name script : List ℕ) (line : LineFile) (site : SiteValue) (commands : List Command) (status : ExitStatus) → Loads old name line site → IsRunApart old leads capture line name script
+pub runs : (leads : Leads) (is_cut : Bool) (capture : Option (List ℕ)) (old loaded new : Known) (name script : List ℕ) (line : LineFile) (site : SiteValue) (commands : List Command) (status : ExitStatus) → Loads old name line site → IsRunApart leads capture line name script
     → HasJournal site.line.sizes site.seen.state.disk.bytes → SpellsCommands old script commands → loaded ≡ old → EndsCaptured is_cut capture loaded new line site commands status → RunsFiles leads is_cut capture old new name script status
 runs leads is_cut capture old loaded new name script line site commands status given apart journal spelt same ends =
     let P : Known → Type 0 = λ files. EndsCaptured is_cut capture files new line site commands status in

@@ -94,7 +94,7 @@ pub record RunsFiles (leads : Leads) (is_cut : Bool) (capture : Option (List ℕ
   pub line : LineFile
   pub site : SiteValue
   pub loaded : Loads old name line site
-  pub apart : IsRunApart old leads capture line name script
+  pub apart : IsRunApart leads capture line name script
   pub journal : HasJournal site.line.sizes site.seen.state.disk.bytes
   pub commands : List Command
   pub spelt : SpellsCommands old script commands

@@ -82,7 +82,7 @@ fn recover_session<S: Store, W: Write, T: Write, R: Wait + Clock + AllocGlobal>(
         refusal: _,
         lock: _lock,
     } = session;
-    match open_files(rt.alloc(), &line, store) {
+    match open_files(rt.alloc(), &line, &site, store) {
         Ok(files) => {
             let device = Watched::new(FileDevice::new(files), progress, rt);
             let site = site.with_device(device);

@@ -197,7 +197,12 @@ fn run_given<S: Store, W: Write, T: Write + Send, R: Wait + Threads + Clock + Al
             let status = run_fused(watch.rt, given, fuse, capture, store, answers);
             Ran::without_files(true, status)
         }
-        None => match open_files(watch.rt.alloc(), &given.session.line, store) {
+        None => match open_files(
+            watch.rt.alloc(),
+            &given.session.line,
+            &given.session.site,
+            store,
+        ) {
             Ok(files) => {
                 let served = run_opened(watch, given, files, capture, store, answers);
                 Ran {

@@ -70,8 +70,8 @@ fn turns_match<T: Tickets, R: Refusals, S: Site>(
     ensures { IsTrue result ↔ IsCycleOf book.now.calls cycle.now }
 {
     match cycle {
-        Some(end) => book.cycle_matches(end.log().as_slice()),
-        None => book.cycle_matches(&[]),
+        Some(end) => book.cycle_matches(end.log()),
+        None => book.has_no_turns(),
     }
 }
 

@@ -20,7 +20,7 @@ use jrn_format::AREA_START;
 use sii_edit::Command;
 use sii_image::Plan;
 use site_core::DeviceFault;
-use station_jobs::{Notes, Turn};
+use station_jobs::{CycleNotes, Notes, Turn};
 use std::alloc::{AllocError, Global};
 use std::marker::Model;
 use std::sync::{Mutex, Wait};
@@ -322,6 +322,15 @@ impl<T: Tickets, R: Refusals> Desk<T, R> {
         }
     }
 
+    /// Waits until the next process data cycle is due: at once where its image is another one than the last had, or there are no more
+    /// cycles to do, and otherwise `CYCLE_TIME` behind the last one.
+    pub(crate) fn await_cycle<W: Wait>(&self, rt: &W) {
+        let served = self.served.lock(rt);
+        if served.repeats_turn() {
+            self.sleepers.pause_cycle(rt, served);
+        }
+    }
+
     /// Reports the outcome of the disk's action, and wakes those to whom it gives work.
     pub(crate) fn disk_done<W: Wait>(&self, rt: &W, outcome: Result<(), DeviceFault>) {
         let wakes = disk_told(&mut *self.served.lock(rt), outcome);
@@ -395,7 +404,7 @@ impl<T: Tickets, R: Refusals> Desk<T, R> {
     {
         CycleSide {
             desk: self,
-            turns: Vec::new(self.alloc),
+            turns: CycleNotes::new(self.alloc),
             has_job: false,
             patience: Patience::new(),
         }

@@ -8,10 +8,10 @@ use crate::patience::Patience;
 use book_model::{DiskNext, RomNext, RomOutcome};
 use desk_book::{Refusals, Tickets, note_of};
 use sii_image::Plan;
-use sii_words::ItemList;
 use site_core::DeviceFault;
 use station_jobs::{
-    CycleJob, CycleLog, CycleNote, CycleOutcome, DiskLog, Dispatch, Notes, RomLog, Turn, zero_bytes,
+    CycleJob, CycleLog, CycleNotes, CycleOutcome, DiskLog, Dispatch, Notes, RomLog, Turn,
+    zero_bytes,
 };
 use std::marker::Model;
 use std::sync::Wait;
@@ -56,7 +56,7 @@ impl<'a, T: Tickets, R: Refusals> Model for RomSide<'a, T, R> {
 #[derive(Drop)]
 pub struct CycleSide<'a, T: Tickets, R: Refusals> {
     pub(crate) desk: &'a Desk<T, R>,
-    pub(crate) turns: Vec<CycleNote>,
+    pub(crate) turns: CycleNotes,
     pub(crate) has_job: bool,
     pub(crate) patience: Patience,
 }
@@ -66,7 +66,7 @@ impl<'a, T: Tickets, R: Refusals> Model for CycleSide<'a, T, R> {
 
     ghost Value = { CycleHands };
 
-    ghost view = { λ side. record { log = side.turns.items; has_job = side.has_job } };
+    ghost view = { λ side. record { log = side.turns.entries; has_job = side.has_job } };
 }
 
 /// Whether this is an action, and not a write that begins behind byte `limit` of the file.
@@ -207,13 +207,13 @@ impl<'a, T: Tickets, R: Refusals> Dispatch<CycleLog> for CycleSide<'a, T, R> {
         if desk.stops_for_memory(rt, &self.patience) {
             return Turn::Stop;
         }
-        let Ok(()) = self.turns.reserve(1) else {
+        let Ok(()) = self.turns.reserve() else {
             self.patience.refused();
             return Turn::Again;
         };
         match desk.ask_cycle(rt, &mut self.patience) {
             Turn::Work(plan) => {
-                self.turns.push_reserved(note_of(&plan));
+                self.turns.hand_out(note_of(&plan));
                 self.has_job = true;
                 Turn::Work(blank_turn(plan))
             }
@@ -222,11 +222,14 @@ impl<'a, T: Tickets, R: Refusals> Dispatch<CycleLog> for CycleSide<'a, T, R> {
         }
     }
 
-    fn done<W: Wait>(&mut self, _rt: &W, _outcome: CycleOutcome) {
+    /// It waits until the next cycle is due.
+    fn done<W: Wait>(&mut self, rt: &W, _outcome: CycleOutcome) {
+        let desk = self.desk;
         self.has_job = false;
+        desk.await_cycle(rt);
     }
 
     fn into_log(self) -> CycleLog {
-        ItemList::from_vec(self.turns)
+        self.turns.into_log()
     }
 }

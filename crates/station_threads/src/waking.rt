@@ -8,6 +8,7 @@
 //! | a slave's worker, with nothing to write | a live batch names it | the sync of a gate whose commands name the slave |
 //! | the same in a finished book | all commands are durable | the sync of a gate |
 //! | the cycle, without an image or with an empty one | more commands are settled | a written word, the sync of a gate (1) |
+//! | the cycle, behind one of the same image | 10 milliseconds are over; more commands are settled | the same |
 //! | who waits for a receipt | the command is durable | the sync of a gate |
 //! | who watches `changed` | the status differs | each outcome and each accepted command that changes it |
 //! | all of these | a fault, `finish`, want of memory | the outcome that is a fault, `finish`, `stop_for_memory` |
@@ -23,6 +24,10 @@ use sii_edit::Command;
 use site_core::DeviceFault;
 use std::alloc::{AllocError, Global};
 use std::sync::{Condvar, MutexGuard, Wait};
+use std::time::Duration;
+
+/// The time from one process data cycle to the next of the same image, in milliseconds.
+const CYCLE_TIME: u64 = 10;
 
 /// The condition variables of a desk: one for each kind of sleeper, and for each slave its own.
 #[derive(Drop)]
@@ -113,6 +118,14 @@ impl Sleepers {
         if let Some(own) = self.slaves.get(usize::from(slave)) {
             own.wait(rt, guard);
         }
+    }
+
+    /// Sleeps as the cycle, until it is woken or `CYCLE_TIME` is over.
+    pub(crate) fn pause_cycle<W: Wait, T>(&self, rt: &W, guard: MutexGuard<'_, T>) {
+        let seen = self.cycle.notifications();
+        drop(guard);
+        self.cycle
+            .sleep(rt, seen, Duration::from_millis(CYCLE_TIME));
     }
 
     /// Wakes those who sleep.

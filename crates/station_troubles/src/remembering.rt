@@ -1,7 +1,7 @@
 //! A store that remembers what was read of it, and the last call if it failed.
 ghost use Rattle.std.specs.Prelude.{◌≡◌};
 
-use station_files::{Location, LockFault, Store};
+use station_files::{Entry, Location, LockFault, Store};
 use std::alloc::{AllocError, Global};
 use std::io;
 
@@ -21,6 +21,8 @@ pub(crate) struct Memory {
     pub is_kept: bool,
     /// The files that were read, in order.
     pub reads: Vec<FileRead>,
+    /// The name that was looked at last, if it led somewhere.
+    pub looked: Option<Looked>,
     /// The lock that was taken last, or tried.
     pub locked: Option<Locked>,
     /// The last call, if it failed.
@@ -32,6 +34,16 @@ pub(crate) struct Memory {
 pub(crate) struct FileRead {
     pub name: String,
     pub bytes: Vec<u8>,
+}
+
+/// A name that was looked at.
+#[derive(Drop)]
+pub(crate) struct Looked {
+    pub name: String,
+    /// How many bytes the file has; 0 where the name leads to no file.
+    pub length: u64,
+    /// How many files had been read before.
+    pub behind: usize,
 }
 
 /// The lock of a journal's file.
@@ -69,6 +81,7 @@ impl Memory {
             alloc,
             is_kept,
             reads: Vec::new(alloc),
+            looked: None,
             locked: None,
             failed: None,
         }
@@ -90,6 +103,43 @@ impl Memory {
                 self.is_kept = false;
                 None
             }
+        }
+    }
+
+    /// Remembers what a name leads to.
+    fn note_look(&mut self, name: &str, found: &io::Result<Entry>) {
+        match found {
+            Ok(Entry::Absent) => self.note(name, Some(Why::Absent)),
+            Ok(Entry::File { length }) => self.keep_look(name, *length),
+            Ok(Entry::Other) => self.keep_look(name, 0),
+            Err(error) => self.note(name, Some(Why::System(*error))),
+        }
+    }
+
+    /// Remembers a name that led to so many bytes.
+    fn keep_look(&mut self, name: &str, length: u64) {
+        self.failed = None;
+        if !self.is_kept {
+            return;
+        }
+        match String::from_str(self.alloc, name) {
+            Ok(name) => {
+                let behind = self.reads.len();
+                self.looked = Some(Looked {
+                    name,
+                    length,
+                    behind,
+                });
+            }
+            Err(AllocError) => self.is_kept = false,
+        }
+    }
+
+    /// The name that was looked at last, if nothing was read since.
+    pub(crate) fn unread(&self) -> Option<&Looked> {
+        match &self.looked {
+            Some(looked) if looked.behind == self.reads.len() => Some(looked),
+            _ => None,
         }
     }
 
@@ -232,6 +282,12 @@ impl<S: Store> Store for Remembering<'_, S> {
         found
     }
 
+    fn look(&mut self, name: &str) -> io::Result<Entry> {
+        let found = self.store.look(name);
+        self.memory.note_look(name, &found);
+        found
+    }
+
     fn prepare(&mut self, name: &str) -> io::Result<()> {
         let done = self.store.prepare(name);
         self.memory.note(name, reason_of(&done));
@@ -250,8 +306,8 @@ impl<S: Store> Store for Remembering<'_, S> {
         done
     }
 
-    fn open(&mut self, name: &str) -> io::Result<S::File> {
-        let opened = self.store.open(name);
+    fn open(&mut self, name: &str, bytes: &[u8]) -> io::Result<S::File> {
+        let opened = self.store.open(name, bytes);
         self.memory.note(name, reason_of(&opened));
         opened
     }

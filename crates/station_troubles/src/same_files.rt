@@ -4,11 +4,11 @@ ghost use Rattle.std.specs.Prelude.{◌≡◌};
 use crate::remembering::{Memory, Remembering};
 use crate::shown::Shown;
 use crate::telling::{LineNames, file_told};
-use station_files::{Clash, FileNames, Store, find_clash, image_names};
+use station_files::{Clash, FileNames, Store, find_clash};
 use station_listing::Code;
-use station_text::{LineFault, LineFile, ScriptCommand, ScriptFault, read_line, read_script};
+use station_text::{LineFault, LineFile, read_line};
 use std::alloc::{AllocError, Global};
-use std::{fmt, slice};
+use std::fmt;
 
 /// What is said of the file of a capture that is there, and is none of the others.
 const TAKEN: &str = "the file is there, and is no capture of this program";
@@ -22,8 +22,6 @@ enum Role {
     Slave(usize),
     LineFile,
     Script,
-    /// An image that a script names, by the place of its command, from 0.
-    Image(usize),
 }
 
 /// The files of a subcommand on a line.
@@ -31,8 +29,6 @@ enum Role {
 struct FilesOfLine<'a> {
     names: LineNames<'a>,
     line: &'a LineFile,
-    /// The commands of the script; none where it wasn't read.
-    commands: &'a [ScriptCommand],
 }
 
 /// A file, as it is told: what it is, and its name.
@@ -42,7 +38,7 @@ struct Told<'a> {
     name: &'a str,
 }
 
-/// Which two of the files of a line are one, or that the file is there which is to be made: the capture, or else the journal, which was read last.
+/// Which two of the files of a line are one, or that the file is there which is to be made: the capture, or else the one that was looked at last.
 pub(crate) fn clash_text<S: Store>(
     alloc: Global,
     code: Code,
@@ -52,14 +48,13 @@ pub(crate) fn clash_text<S: Store>(
     ensures same { S.files store.new.store.now ≡ S.files store.old.store.now }
 {
     let Some(line) = line_read(alloc, names.line, &store.memory)? else {
-        return Ok(None);
+        return match (code, names.capture) {
+            // The line file of a backup isn't there before.
+            (Code::Exists, None) => taken(alloc, None, &store.memory),
+            _ => Ok(None),
+        };
     };
-    let commands = commands_read(alloc, names.script, &store.memory)?;
-    let files = FilesOfLine {
-        names,
-        line: &line,
-        commands: &commands,
-    };
+    let files = FilesOfLine { names, line: &line };
     let listed = files.names(alloc)?;
     let found = match find_clash(alloc, &listed, store.store) {
         Ok(found) => found,
@@ -78,9 +73,11 @@ fn taken(
     capture: Option<&str>,
     memory: &Memory,
 ) -> Result<Option<String>, AllocError> {
-    match (capture, memory.reads.last()) {
+    match (capture, &memory.looked) {
         (Some(name), _) => file_told(alloc, name, &TAKEN),
-        (None, Some(last)) => file_told(alloc, last.name.as_str(), &"the file is there already"),
+        (None, Some(looked)) => {
+            file_told(alloc, looked.name.as_str(), &"the file is there already")
+        }
         (None, None) => Ok(None),
     }
 }
@@ -101,26 +98,6 @@ pub(crate) fn line_read(
     }
 }
 
-/// The commands of the script; none where it wasn't read.
-fn commands_read(
-    alloc: Global,
-    script: Option<&str>,
-    memory: &Memory,
-) -> Result<Vec<ScriptCommand>, AllocError> {
-    let place = match script {
-        Some(script) => memory.script_place(script),
-        None => None,
-    };
-    let Some(text) = text_at(place, memory) else {
-        return Ok(Vec::new(alloc));
-    };
-    match read_script(alloc, text) {
-        Ok(commands) => Ok(commands),
-        Err(ScriptFault::BadScript { .. }) => Ok(Vec::new(alloc)),
-        Err(ScriptFault::Memory) => Err(AllocError),
-    }
-}
-
 /// The text of the file that was read at this place, if one was.
 fn text_at(place: Option<usize>, memory: &Memory) -> Option<&str> {
     let read = memory.reads.get(place?)?;
@@ -137,8 +114,8 @@ fn meeting_of<S: Store>(
 ) -> Result<Option<String>, AllocError>
     ensures same { S.files store.new ≡ S.files store.old }
 {
-    let one = files.told(alloc, names, clash.one)?;
-    let other = files.told(alloc, names, clash.other)?;
+    let one = files.told(names, clash.one);
+    let other = files.told(names, clash.other);
     let how = if is_same_file(alloc, one.name, other.name, store) {
         " are the same file"
     } else {
@@ -163,63 +140,39 @@ impl FilesOfLine<'_> {
         let names = self.names;
         let files = FileNames::of_line(alloc, self.line, names.line, names.capture)?;
         match names.script {
-            Some(script) => {
-                let images = image_names(alloc, self.commands)?;
-                files.with_script(alloc, script, &images)
-            }
+            Some(script) => files.with_script(alloc, script),
             None => Ok(files),
         }
     }
 
     /// The file at this place of their names.
-    fn told<'n>(
-        self,
-        alloc: Global,
-        names: &'n FileNames,
-        place: usize,
-    ) -> Result<Told<'n>, AllocError> {
+    fn told(self, names: &FileNames, place: usize) -> Told<'_> {
         let name = match names.names.get(place) {
             Some(name) => name.as_str(),
             None => "",
         };
-        let role = self.role(alloc, place)?;
-        Ok(Told { role, name })
+        Told {
+            role: self.role(place),
+            name,
+        }
     }
 
     /// What the file at this place of their names is.
-    fn role(self, alloc: Global, place: usize) -> Result<Role, AllocError> {
+    fn role(self, place: usize) -> Role {
         let slaves = self.line.images.len();
         let captures = usize::from(self.names.capture.is_some());
         let Some(place) = place.checked_sub(captures) else {
-            return Ok(Role::Capture);
+            return Role::Capture;
         };
         if place > 0 && place <= slaves {
-            return Ok(Role::Slave(place - 1));
+            return Role::Slave(place - 1);
         }
         match place.saturating_sub(slaves) {
-            0 => Ok(Role::Journal),
-            1 => Ok(Role::LineFile),
-            2 => Ok(Role::Script),
-            behind => Ok(Role::Image(command_of(alloc, self.commands, behind - 3)?)),
+            0 => Role::Journal,
+            1 => Role::LineFile,
+            _ => Role::Script,
         }
     }
-}
-
-/// The place of the command that names the image of this place, both from 0.
-fn command_of(
-    alloc: Global,
-    commands: &[ScriptCommand],
-    image: usize,
-) -> Result<usize, AllocError> {
-    let mut left = image;
-    for (command, spelt) in commands.iter().enumerate() {
-        let count = image_names(alloc, slice::from_ref(spelt))?.len();
-        if left < count {
-            return Ok(command);
-        }
-        left -= count;
-    }
-    Ok(commands.len())
 }
 
 impl fmt::Display for Role {
@@ -230,7 +183,6 @@ impl fmt::Display for Role {
             Role::Slave(slave) => write!(f, "slave {slave}'s image"),
             Role::LineFile => f.write_str("line file"),
             Role::Script => f.write_str("script"),
-            Role::Image(command) => write!(f, "image of command {command}"),
         }
     }
 }

@@ -83,6 +83,11 @@ pub fn reason_of<S: Store>(
         return None;
     }
     let told = match (code, files) {
+        (Code::NotAFile | Code::TooLong, _) => told_of_look(alloc, code, &store.memory),
+        (Code::OddLength | Code::BadSize, _) if store.memory.unread().is_some() => {
+            told_of_look(alloc, code, &store.memory)
+        }
+        (Code::Stopped, _) => told_of_unsaved(alloc, &store.memory),
         (Code::File | Code::Busy, _) => told_of_call(alloc, code, files, &store.memory),
         (Code::Exists | Code::SameFile, Files::Line(names)) => {
             clash_text(alloc, code, names, store)
@@ -159,6 +164,32 @@ fn failure_told(alloc: Global, failed: &FailedCall) -> Result<Option<String>, Al
         Why::Unopened => file_told(alloc, name, &"it isn't there, or can't be opened"),
         Why::Busy => file_told(alloc, name, &"another station has locked it"),
         Why::System(error) => file_told(alloc, name, &error),
+    }
+}
+
+/// What is wrong with a file that was looked at and not read.
+fn told_of_look(alloc: Global, code: Code, memory: &Memory) -> Result<Option<String>, AllocError> {
+    let Some(looked) = memory.unread() else {
+        return Ok(None);
+    };
+    let name = looked.name.as_str();
+    match code {
+        Code::NotAFile => file_told(alloc, name, &"it is a pipe, a device or a socket"),
+        _ => {
+            let what = format!(in alloc; "it has {} bytes, which are too many", looked.length)?;
+            file_told(alloc, name, &what)
+        }
+    }
+}
+
+/// Which file a planned power cut has left as it was, since it couldn't be written.
+fn told_of_unsaved(alloc: Global, memory: &Memory) -> Result<Option<String>, AllocError> {
+    match &memory.failed {
+        Some(failed) => match failure_told(alloc, failed)? {
+            Some(told) => Ok(Some(format!(in alloc; "not saved: {told}")?)),
+            None => Ok(None),
+        },
+        None => Ok(None),
     }
 }
 

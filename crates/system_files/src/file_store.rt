@@ -1,15 +1,12 @@
 //! The files of the operating system as a store.
 
-use crate::replacing::{Place, folder_of, holds, locate, place_of, replace, sync_folder};
+use crate::replacing::{Place, folder_of, holds, locate, look_at, place_of, replace, sync_folder};
 use site_file::RandomAccessFile;
-use station_files::{Location, LockFault, Store, read_about};
+use station_files::{Entry, Location, LockFault, MOST_OF_TEXT, Store, read_about};
 use std::alloc::Global;
 use std::fs::{File, Files, OpenOptions, TryLockError};
 use std::os::unix::fs::{FileExt, MetadataExt};
 use std::{fs, io};
-
-/// How many bytes of a file can be read: 1,048,576 reads of 4,096 bytes.
-const MOST_BYTES: u64 = 1 << 32;
 
 /// The files of the operating system. A name without a leading slash is relative to the current folder.
 #[derive(Drop)]
@@ -22,6 +19,8 @@ pub struct FileStore<'r, R> {
     replaced: Vec<File>,
     /// The folders whose names were synced.
     synced: Vec<String>,
+    /// The names of the files that were opened. This process wrote all that they hold.
+    opened: Vec<String>,
 }
 
 /// Where the file of a name is replaced.
@@ -62,6 +61,7 @@ impl<'r, R> FileStore<'r, R> {
             prepared: Vec::new(alloc),
             replaced: Vec::new(alloc),
             synced: Vec::new(alloc),
+            opened: Vec::new(alloc),
         }
     }
 }
@@ -101,8 +101,21 @@ impl<R: Files<File = File>> Store for FileStore<'_, R> {
         }
     }
 
+    fn look(&mut self, name: &str) -> io::Result<Entry> {
+        match fs::metadata(self.files, name) {
+            Ok(found) if found.is_file() => Ok(Entry::File {
+                length: found.len(),
+            }),
+            Ok(found) if found.is_dir() => Err(io::Error::from(io::ErrorKind::IsADirectory)),
+            Ok(_) => Ok(Entry::Other),
+            Err(error) if error.kind() == io::ErrorKind::NotFound => Ok(Entry::Absent),
+            Err(error) => Err(error),
+        }
+    }
+
     fn prepare(&mut self, name: &str) -> io::Result<()> {
         let place = place_of(self.files, self.alloc, name)?;
+        look_at(self.files, &place)?;
         let name = String::from_str(self.alloc, name)?;
         self.prepared.push(Prepared { name, place })?;
         self.replaced.reserve(self.prepared.len())?;
@@ -114,8 +127,11 @@ impl<R: Files<File = File>> Store for FileStore<'_, R> {
     }
 
     fn write(&mut self, name: &str, bytes: &[u8]) -> io::Result<()> {
-        if let Some(file) = holds(self.files, name, bytes) {
-            return file.sync_all();
+        // Of another file these bytes may be in the system's memory alone, though a sync succeeds.
+        if self.opened.iter().any(|opened| opened.as_str() == name) {
+            if let Some(file) = holds(self.files, name, bytes) {
+                return file.sync_all();
+            }
         }
         self.replaced.reserve(1)?;
         let file = match prepared_for(&self.prepared, name) {
@@ -126,13 +142,14 @@ impl<R: Files<File = File>> Store for FileStore<'_, R> {
         Ok(())
     }
 
-    fn open(&mut self, name: &str) -> io::Result<SystemFile> {
-        let file = OpenOptions::new()
-            .read(true)
-            .write(true)
-            .open(self.files, name)?;
-        file.sync_all()?;
-        self.sync_names(name)?;
+    fn open(&mut self, name: &str, bytes: &[u8]) -> io::Result<SystemFile> {
+        let _found = fs::metadata(self.files, name)?;
+        let place = place_of(self.files, self.alloc, name)?;
+        self.opened.push(String::from_str(self.alloc, name)?)?;
+        self.replaced.reserve(1)?;
+        let file = replace(self.files, &place, bytes)?;
+        self.replaced.push(file.try_clone()?)?;
+        self.sync_once(name)?;
         Ok(SystemFile { file })
     }
 
@@ -147,6 +164,10 @@ impl<R: Files<File = File>> Store for FileStore<'_, R> {
     }
 
     fn lock(&mut self, name: &str) -> Result<Option<SystemLock>, LockFault> {
+        // To open a pipe would wait for who writes it.
+        if !matches!(self.look(name), Ok(Entry::File { .. })) {
+            return Ok(None);
+        }
         let Ok(file) = File::open(self.files, name) else {
             return Ok(None);
         };
@@ -168,10 +189,10 @@ fn take_lock(file: &File) -> Result<(), LockFault> {
     }
 }
 
-/// Reads a file to its end. Takes memory for as many bytes as the system says that it has, and no more than can be read.
+/// Reads a file to its end. Takes memory for as many bytes as the system says that it has, and no more than a text has.
 fn read_whole(alloc: Global, mut file: File) -> io::Result<Vec<u8>> {
     let length = file.metadata()?.len();
-    read_about(alloc, length.min(MOST_BYTES) as usize, &mut file)
+    read_about(alloc, length.min(MOST_OF_TEXT) as usize, &mut file)
 }
 
 /// Whether `name` still names the open file: another station may have replaced it in the meantime.

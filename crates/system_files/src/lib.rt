@@ -1,7 +1,9 @@
-//! The files of the operating system as a store: read and replaced as a whole, opened, locked and synced.
+//! The files of the operating system as a store: read and replaced as a whole, opened, locked and synced. Standard streams that are closed.
 #![tactic(auto)]
 
 mod file_store;
 mod replacing;
+mod streams;
 
 pub use file_store::{FileStore, SystemFile, SystemLock};
+pub use streams::{HeldStreams, hold_streams};

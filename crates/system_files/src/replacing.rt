@@ -3,9 +3,10 @@ ghost use Rattle.std.specs.Prelude.{◌≡◌, string_bytes, IfOk};
 
 use station_files::{FileId, Location, name_beside};
 use std::alloc::{AllocError, Global};
-use std::fs::{File, Files, Permissions};
+use std::fs::{File, Files, Metadata, OpenOptions, Permissions};
 use std::io::Read;
-use std::os::unix::fs::MetadataExt;
+use std::os::fd::AsFd;
+use std::os::unix::fs::{MetadataExt, OpenOptionsExt, PermissionsExt, fchown};
 use std::{fs, io};
 
 /// The number of bytes of a file that are compared at a time.
@@ -13,6 +14,15 @@ const PIECE: usize = 512;
 
 /// How many symbolic links lead from one to the next at most.
 const MOST_LINKS: u32 = 40;
+
+/// The mark of a file that this program makes, until it is in its place: the sticky bit, which means nothing for a file.
+const MARK: u32 = 0o1000;
+
+/// The bits of a mode that can be set.
+const ALL_BITS: u32 = 0o7777;
+
+/// The mode of a new file, of which the process takes away those of its mask.
+const NEW_MODE: u32 = 0o666;
 
 /// Where a file is replaced. Once this is made, replacing the file takes no memory.
 #[derive(Drop)]
@@ -172,8 +182,14 @@ fn id_of<R: Files<File = File>>(files: &R, name: &str) -> Option<FileId> {
     })
 }
 
-/// Replaces the file at this place by a new file with these bytes, or creates it. The new file has the permissions of the old one, and is
-/// returned locked where the system can lock it. Takes no memory.
+/// Replaces the file at this place by a new file with these bytes, or creates it. The new file has the group and the mode of the old one, and
+/// its owner where the system lets the caller give it away; it is returned open for reading and writing, locked where the system can lock it.
+/// Takes no memory.
+///
+/// # Errors
+///
+/// The old file can't be written, or is no file; beside it lies a file that this program didn't make; or the new one can't be made so, written,
+/// synced or renamed.
 pub(crate) fn replace<R: Files<File = File>>(
     files: &R,
     place: &Place,
@@ -181,37 +197,89 @@ pub(crate) fn replace<R: Files<File = File>>(
 ) -> io::Result<File> {
     let name = place.path.as_str();
     let beside = place.beside.as_str();
-    let permissions = fs::metadata(files, name).map(|found| found.permissions());
-    let file = write_new(files, beside, permissions.ok(), bytes)?;
-    if let Err(error) = fs::rename(files, beside, name) {
+    let old = old_file(files, name)?;
+    let mut file = create_beside(files, beside)?;
+    let placed = match fill(&mut file, old.as_ref(), bytes) {
+        Ok(()) => fs::rename(files, beside, name),
+        Err(error) => Err(error),
+    };
+    if let Err(error) = placed {
         let _ = fs::remove_file(files, beside);
         return Err(error);
     }
+    let mode = file.metadata()?.mode();
+    file.set_permissions(Permissions::from_mode(mode & ALL_BITS & !MARK))?;
     sync_folder(files, name)?;
     Ok(file)
 }
 
-/// Creates a file with these bytes and syncs it. A file of this name from an earlier run is removed first. If writing fails, the new
-/// file is removed.
-fn write_new<R: Files<File = File>>(
-    files: &R,
-    name: &str,
-    permissions: Option<Permissions>,
-    bytes: &[u8],
-) -> io::Result<File> {
-    let _ = fs::remove_file(files, name);
-    let mut file = File::create_new(files, name)?;
-    if let Err(error) = fill(&mut file, permissions, bytes) {
-        let _ = fs::remove_file(files, name);
-        return Err(error);
+/// The file of this name, which is to be replaced; `None` where there is none.
+///
+/// # Errors
+///
+/// It can't be read and written, or is no file.
+fn old_file<R: Files<File = File>>(files: &R, name: &str) -> io::Result<Option<Metadata>> {
+    match fs::metadata(files, name) {
+        Ok(found) if !found.is_file() => return Err(io::Error::other("it is no file")),
+        Ok(_) => {}
+        Err(error) if error.kind() == io::ErrorKind::NotFound => return Ok(None),
+        Err(error) => return Err(error),
     }
-    Ok(file)
+    let file = OpenOptions::new().read(true).write(true).open(files, name)?;
+    Ok(Some(file.metadata()?))
 }
 
-/// Sets the permissions of a new file, locks it where the system can, writes these bytes and syncs it.
-fn fill(file: &mut File, permissions: Option<Permissions>, bytes: &[u8]) -> io::Result<()> {
-    if let Some(permissions) = permissions {
-        file.set_permissions(permissions)?;
+/// Looks whether the file at this place can be replaced. Nothing changes.
+///
+/// # Errors
+///
+/// The file can't be written, or is no file; or beside it lies a file that this program didn't make.
+pub(crate) fn look_at<R: Files<File = File>>(files: &R, place: &Place) -> io::Result<()> {
+    let _old = old_file(files, place.path.as_str())?;
+    let _left = is_left(files, place.beside.as_str())?;
+    Ok(())
+}
+
+/// Whether a file of this name is left over from a run that was cut: it has the mark.
+///
+/// # Errors
+///
+/// There is one without the mark.
+fn is_left<R: Files<File = File>>(files: &R, name: &str) -> io::Result<bool> {
+    match fs::symlink_metadata(files, name) {
+        Ok(found) if found.is_file() && found.mode() & MARK != 0 => Ok(true),
+        Ok(_) => Err(io::Error::other(
+            "beside it lies .NAME.new, which this program didn't make; move it away",
+        )),
+        Err(_) => Ok(false),
+    }
+}
+
+/// Creates the file of this name, with the mark. One that is left over is removed first. Any other stays.
+fn create_beside<R: Files<File = File>>(files: &R, name: &str) -> io::Result<File> {
+    if is_left(files, name)? {
+        fs::remove_file(files, name)?;
+    }
+    OpenOptions::new()
+        .read(true)
+        .write(true)
+        .create_new(true)
+        .mode(NEW_MODE | MARK)
+        .open(files, name)
+}
+
+/// Gives a new file the owner, where the system allows it, the group and the mode of the old one, with the mark, locks it where the system can, writes these bytes and
+/// syncs it.
+fn fill(file: &mut File, old: Option<&Metadata>, bytes: &[u8]) -> io::Result<()> {
+    if let Some(old) = old {
+        let made = file.metadata()?;
+        if (made.uid(), made.gid()) != (old.uid(), old.gid())
+            && fchown(file.as_fd(), Some(old.uid()), Some(old.gid())).is_err()
+        {
+            // Only root gives files away. By group and mode the same users may write it as before.
+            fchown(file.as_fd(), None, Some(old.gid()))?;
+        }
+        file.set_permissions(Permissions::from_mode(old.mode() & ALL_BITS | MARK))?;
     }
     let _ = file.try_lock();
     io::Write::write_all(file, bytes)?;

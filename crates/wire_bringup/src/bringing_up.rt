@@ -13,30 +13,26 @@ use std::alloc::Global;
 use std::rt::Clock;
 use wire_frames::{LineFault, NumberedWire, SlaveFault, Stations, Wire, sight};
 use wire_words::{
-    Ahead, Hitch, Reader, Readers, SizeFound, clear, judge_size, kept_of, measure, nothing_ahead,
-    put, read_in_step, words_at,
+    Ahead, Hitch, Reader, Readers, SizeFound, judge_size, measure, nothing_ahead, put,
+    read_in_step, words_at,
 };
 
 /// Takes the EEPROM from the PDI by force.
-fn force<W: Wire, C: Clock>(wire: &mut NumberedWire<W>, clock: &C, slave: u16) -> Result<(), Hitch>
+fn force<W: Wire>(wire: &mut NumberedWire<W>, slave: u16) -> Result<(), Hitch>
     requires slave { slave < 64 }
     requires allowed { wire.old.is_lent ≡ true → wire.old.is_forced ≡ true }
     ensures { wire.new.stations ≡ wire.old.stations }
 {
-    put(wire, clock, slave, ACCESS, &[0x02])?;
-    put(wire, clock, slave, ACCESS, &[0x00])
+    put(wire, slave, ACCESS, &[0x02])?;
+    put(wire, slave, ACCESS, &[0x00])
 }
 
 /// Takes the EEPROM back that was offered to the PDI, unless that one has it and isn't to lose it.
-fn ask_for<W: Wire, C: Clock>(
-    wire: &mut NumberedWire<W>,
-    clock: &C,
-    slave: u16,
-) -> Result<(), Hitch>
+fn ask_for<W: Wire>(wire: &mut NumberedWire<W>, slave: u16) -> Result<(), Hitch>
     requires { slave < 64 }
     ensures { wire.new.stations ≡ wire.old.stations }
 {
-    put(wire, clock, slave, ACCESS, &[0x00])?;
+    put(wire, slave, ACCESS, &[0x00])?;
     let access = read_access(wire, slave)?;
     let left = SlaveState {
         al_status: None,
@@ -48,23 +44,18 @@ fn ask_for<W: Wire, C: Clock>(
     Ok(())
 }
 
-/// Takes the EEPROM, waits until the slave is idle, and clears its errors. On a wire that is lent nothing is done to take an EEPROM that
-/// isn't the PDI's.
-fn open<W: Wire, C: Clock>(
-    wire: &mut NumberedWire<W>,
-    clock: &C,
-    slave: u16,
-    state: SlaveState,
-) -> Result<(), Hitch>
+/// Takes the EEPROM, whether the slave is busy or not. On a wire that is lent nothing is done to take one that isn't the PDI's.
+fn take<W: Wire>(wire: &mut NumberedWire<W>, slave: u16, state: SlaveState) -> Result<(), Hitch>
     requires { slave < 64 }
     ensures { wire.new.stations ≡ wire.old.stations }
 {
     if !wire.is_lent() || (wire.is_forced() && !state.is_ours()) {
-        force(wire, clock, slave)?;
+        force(wire, slave)
     } else if !state.is_ours() {
-        ask_for(wire, clock, slave)?;
+        ask_for(wire, slave)
+    } else {
+        Ok(())
     }
-    clear(wire, clock, slave)
 }
 
 /// What is known of the slaves of a line before the turn of each comes.
@@ -73,14 +64,24 @@ struct OpenedLine {
     states: [SlaveState; 64],
     /// Why an EEPROM can't be taken.
     hitches: [Option<Hitch>; 64],
-    /// The words that were read of those that were.
+    /// The readers, as they ended.
+    readers: Readers,
+    /// The words that they read.
     ahead: Ahead,
 }
 
+impl OpenedLine {
+    /// Why a slave can't be worked on, as far as is known.
+    fn hitch(&self, slave: u16) -> Option<Hitch>
+        requires { slave < 64 }
+    {
+        self.hitches[usize::from(slave)].or(self.readers[usize::from(slave)].hitch())
+    }
+}
+
 /// Takes the EEPROMs of so many slaves. Gives for each why that can't be done, if so.
-fn open_all<W: Wire, C: Clock>(
+fn take_all<W: Wire>(
     wire: &mut NumberedWire<W>,
-    clock: &C,
     slaves: u16,
     states: &[SlaveState; 64],
 ) -> Result<[Option<Hitch>; 64], LineFault>
@@ -89,7 +90,7 @@ fn open_all<W: Wire, C: Clock>(
 {
     let mut hitches = [None; 64];
     for slave in 0..slaves {
-        match open(wire, clock, slave, states[usize::from(slave)]) {
+        match take(wire, slave, states[usize::from(slave)]) {
             Ok(()) => {}
             Err(Hitch::Silent) => return Err(LineFault::Silent),
             Err(hitch) => hitches[usize::from(slave)] = Some(hitch),
@@ -98,80 +99,39 @@ fn open_all<W: Wire, C: Clock>(
     Ok(hitches)
 }
 
-/// Readers of the first words of so many slaves whose EEPROMs were taken.
-fn readers_of_first(stations: &Stations, slaves: u16, hitches: &[Option<Hitch>; 64]) -> Readers
-    requires { slaves ≤ 64 }
-    ensures { All NothingTold result }
-{
-    let mut readers = [Reader::ended(); 64];
-    for slave in 0..slaves {
-        let hitch = hitches[usize::from(slave)];
-        readers[usize::from(slave)] = first_reader(stations.of_slave(slave), hitch);
-    }
-    readers
-}
-
-/// The reader of the first words of a slave, if its EEPROM was taken.
-fn first_reader(station: u16, hitch: Option<Hitch>) -> Reader
-    ensures { NothingTold result }
-{
-    match hitch {
-        Some(_) => Reader::ended(),
-        None => Reader::of_first(station),
-    }
-}
-
-/// Readers of what is behind the first words of so many slaves, where those were read.
-fn readers_of_others<W: Wire>(
+/// Readers of so many slaves whose EEPROMs were taken.
+fn readers_of(
     stations: &Stations,
     slaves: u16,
+    hitches: &[Option<Hitch>; 64],
     sizes: &Sizes,
-    ahead: &Ahead,
 ) -> Readers
     requires { slaves ≤ 64 }
     ensures { All NothingTold result }
 {
     let mut readers = [Reader::ended(); 64];
     for slave in 0..slaves {
-        let station = stations.of_slave(slave);
-        let says = kept_of::<W>(ahead, slave, station, 0x3e);
-        readers[usize::from(slave)] = other_reader(station, says, sizes.of_slave(slave));
+        let hitch = hitches[usize::from(slave)];
+        readers[usize::from(slave)] = reader_of(
+            stations.of_slave(slave),
+            hitch,
+            sizes.of_slave(slave),
+        );
     }
     readers
 }
 
-/// The reader of what is behind the first words of a slave, if what it says of its size was read.
-fn other_reader(station: u16, says: Option<[u8; 4]>, given: Option<u16>) -> Reader
+/// The reader of a slave, if its EEPROM was taken.
+fn reader_of(station: u16, hitch: Option<Hitch>, given: Option<u16>) -> Reader
     ensures { NothingTold result }
 {
-    match says {
-        Some(pair) => Reader::of_others(station, pair, given),
-        None => Reader::ended(),
+    match hitch {
+        Some(_) => Reader::ended(),
+        None => Reader::of_slave(station, given),
     }
 }
 
-/// Reads the words of so many slaves side by side, as far as each gives them at once.
-fn read_ahead<W: Wire, C: Clock>(
-    alloc: Global,
-    wire: &mut NumberedWire<W>,
-    clock: &C,
-    slaves: u16,
-    hitches: &[Option<Hitch>; 64],
-    sizes: &Sizes,
-) -> Result<Ahead, LineFault>
-    requires { slaves ≤ 64 }
-    ensures same { OnOk result (wire.new.stations ≡ wire.old.stations) }
-    ensures kept { IfOk result (AllKept W.gives) }
-{
-    let mut ahead = nothing_ahead::<W>(alloc, slaves)?;
-    let first = readers_of_first(wire.stations(), slaves, hitches);
-    read_in_step(wire, clock, first, &mut ahead)?;
-    let others = readers_of_others::<W>(wire.stations(), slaves, sizes, &ahead);
-    read_in_step(wire, clock, others, &mut ahead)?;
-    Ok(ahead)
-}
-
-/// Takes the EEPROMs of so many slaves, and reads ahead. On a wire that is lent nothing is read ahead.
+/// Takes the EEPROMs of so many slaves, and reads their words side by side, as far as each gives them.
 fn open_line<W: Wire, C: Clock>(
     alloc: Global,
     wire: &mut NumberedWire<W>,
@@ -184,12 +144,14 @@ fn open_line<W: Wire, C: Clock>(
     ensures same { OnOk result (wire.new.stations ≡ wire.old.stations) }
     ensures kept { IfOk result (λ opened. AllKept W.gives opened.ahead) }
 {
-    let hitches = open_all(wire, clock, slaves, states)?;
-    let read = if wire.is_lent() { 0 } else { slaves };
-    let ahead = read_ahead(alloc, wire, clock, read, &hitches, sizes)?;
+    let hitches = take_all(wire, slaves, states)?;
+    let mut ahead = nothing_ahead::<W>(alloc, slaves)?;
+    let readers = readers_of(wire.stations(), slaves, &hitches, sizes);
+    let readers = read_in_step(wire, clock, readers, &mut ahead)?;
     Ok(OpenedLine {
         states: *states,
         hitches,
+        readers,
         ahead,
     })
 }
@@ -264,7 +226,7 @@ fn find_slave<W: Wire, C: Clock>(
     ensures words { IfOk result (FoundCame W.gives (slice_index wire.old.stations.by_slave slave)) }
 {
     let state = opened.states[usize::from(slave)];
-    if let Some(hitch) = opened.hitches[usize::from(slave)] {
+    if let Some(hitch) = opened.hitch(slave) {
         return given_up(wire, slave, state, None, hitch);
     }
     let measured = match measure(wire, clock, slave, &opened.ahead) {
@@ -316,15 +278,15 @@ fn find_slaves<W: Wire, C: Clock>(
 /// Brings up a line (ETG.1000.4): counts its slaves, ends addressing by alias, gives each its station address, looks what it is in, takes
 /// its EEPROM from the PDI, finds how large that is, and reads its words. The words of all slaves are read side by side, by frames with a
 /// datagram for each slave. What a slave doesn't give so is read by frames of one datagram. A read gives two words, and four where the slave
-/// shows that it loads eight bytes (bit 6 of control and status). Gives the slaves in the order of the line. Each whose words were read is
-/// idle then, with bits 13 and 14 of control and status clear.
+/// shows that it loads eight bytes (bit 6 of control and status); its words count once none of their first four bytes is the one that was put
+/// there before. Gives the slaves in the order of the line. Each whose words were read is idle then, with bits 13 and 14 of control and status
+/// clear.
 ///
 /// On a wire that is lent the slaves keep their addresses, also those by alias, their AL states aren't read, and each frame has one
-/// datagram for slaves. An EEPROM that its PDI has is
-/// taken by force only where that is allowed, and else it is one that can't be worked on.
+/// datagram for slaves. An EEPROM that its PDI has is taken by force only where that is allowed, and else it is one that can't be worked on.
 ///
-/// A command that a slave doesn't acknowledge is tried again for half a second, its error cleared before. Polls of a busy slave have
-/// pauses. Nothing is written to an EEPROM.
+/// A command that a slave doesn't acknowledge is tried again for half a second, its error cleared before. Polls of busy slaves have pauses.
+/// Slaves that are busy yet once no slave has got further in 10,000 frames are given up, all at once. Nothing is written to an EEPROM.
 ///
 /// # Errors
 ///

@@ -9,6 +9,7 @@ mod numbered;
 mod pace;
 mod registers;
 mod stations;
+mod timed;
 mod wire;
 
 pub use asking::{Last, Reply, ask, count_answers, read_station, reply_at, sight};
@@ -19,4 +20,5 @@ pub use numbered::{Carried, NumberedWire, Returned, number_of};
 pub use pace::{ATTEMPTS, Pace, UNCOUNTED};
 pub use registers::{AL_STATUS, APRD, APWR, BRD, BWR, DL_ALIAS, FPRD, FPWR, STATION, register_of};
 pub use stations::Stations;
+pub use timed::TimedWire;
 pub use wire::Wire;

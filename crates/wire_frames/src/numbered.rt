@@ -15,9 +15,6 @@ use std::io;
 /// How often a frame is sent at most.
 const SENDINGS: u32 = 3;
 
-/// How many other frames are passed over while one is waited for.
-const OTHERS: u32 = 256;
-
 /// A datagram that no slave takes, code 0 (ETG.1000.4).
 const NOP: Command = Command::Other(0);
 
@@ -229,7 +226,7 @@ impl<W: Wire> NumberedWire<W> {
         let _ = self.wire.send(numbered.as_bytes());
     }
 
-    /// Waits for the frame of this number, which has so many datagrams.
+    /// Waits for the frame of this number, which has so many datagrams. Others are passed over, until the wire's time-out is over.
     fn receive(&mut self, count: usize) -> Option<Frame>
         ensures numbered { IfSome result (λ frame. HasNumber frame self.new.number) }
         ensures count { IfSome result (λ frame. length frame ≡ count) }
@@ -237,7 +234,7 @@ impl<W: Wire> NumberedWire<W> {
         ensures same { self.new.stations ≡ self.old.stations }
         ensures came { IfSome result (CameOver W.gives) }
     {
-        for _other in 0..OTHERS {
+        for _other in 0..u32::MAX {
             match listen(&mut self.wire) {
                 Ok(Some(frame)) => {
                     if frame.count() == count && number_of(&frame) == Some(self.number) {

@@ -31,8 +31,8 @@ impl Pace {
         self.pauses
     }
 
-    /// Pauses before a busy slave is polled again: eight polls follow at once, then come 50 microseconds to one millisecond. 10,000 polls take
-    /// nine seconds.
+    /// Pauses before a busy slave is polled again: eight polls follow at once, then come 50 microseconds to one millisecond. The pauses of 10,000
+    /// polls take ten seconds.
     pub fn poll<C: Clock>(&mut self, clock: &C) {
         if let Some(times) = self.pauses.checked_sub(QUICK_POLLS) {
             thread::sleep(clock, doubled(50, times, 1_000));

@@ -22,7 +22,8 @@ pub trait Wire {
     ///
     /// # Errors
     ///
-    /// Where no frame comes within the wire's time-out, which is some milliseconds. `Interrupted` where the wait was cut short.
+    /// Where no frame comes within the wire's time-out, which is some milliseconds from the last sending on. `Interrupted` where the wait was cut
+    /// short.
     fn receive(&mut self, bytes: &mut [u8]) -> io::Result<usize>
         ensures { IfOk result (λ length. gives (take length bytes.new)) };
 }

@@ -37,6 +37,8 @@ enum End {
 /// A command that the controller is busy with.
 #[derive(Clone, Copy)]
 struct Job {
+    /// How many datagrams came since it was told.
+    since: u32,
     /// How many datagrams find it busy yet.
     left: u32,
     /// The moment until which it is busy in any case.
@@ -130,6 +132,14 @@ impl Eeprom {
         self.job.is_some()
     }
 
+    /// Whether it shows that.
+    fn is_shown_busy(&self) -> bool {
+        match self.job {
+            Some(job) => job.since > self.quirks.shown_late,
+            None => false,
+        }
+    }
+
     /// Time passes. A word that the chip has programmed is there.
     pub(crate) fn pass_time(&mut self, now: u64) {
         if let Some(Programming { write, until }) = self.programming {
@@ -145,21 +155,22 @@ impl Eeprom {
         let Some(job) = self.job else {
             return;
         };
-        if job.left > 0 {
-            self.job = Some(Job {
-                left: job.left - 1,
-                ..job
-            });
-        } else if now >= job.until {
+        if job.left == 0 && now >= job.until {
             self.job = None;
             self.finish(job.end, now);
+        } else {
+            self.job = Some(Job {
+                since: job.since.saturating_add(1),
+                left: job.left.saturating_sub(1),
+                ..job
+            });
         }
     }
 
     /// The command is at an end.
     fn finish(&mut self, end: End, now: u64) {
         match end {
-            End::Read => {}
+            End::Read => self.fetch(),
             End::Missed => self.errors |= MISSED,
             End::Write(write) => {
                 let until = now.saturating_add(self.quirks.programs_on);
@@ -173,7 +184,7 @@ impl Eeprom {
     pub(crate) fn shown(&self) -> [u8; 16] {
         let mut shown = self.registers;
         let wrong = if self.is_loaded_wrong { WRONG } else { 0 };
-        let busy = if self.is_busy() { BUSY } else { 0 };
+        let busy = if self.is_shown_busy() { BUSY } else { 0 };
         let size = if self.quirks.is_wide { READS_EIGHT } else { 0 };
         shown[2] = shown[2] & !READS_EIGHT | size;
         shown[3] |= wrong | self.errors | busy;
@@ -273,10 +284,8 @@ impl Eeprom {
             (End::Write(self.word_named()), self.quirks.write_time)
         };
         let is_missed = self.is_missed();
-        if !is_missed && command == READ {
-            self.fetch();
-        }
         self.job = Some(Job {
+            since: 0,
             left: self.quirks.delay,
             until: now.saturating_add(time),
             end: if is_missed { End::Missed } else { end },

@@ -18,8 +18,10 @@ pub struct Quirks {
     /// How many words the chip has. Word addresses behind its end roll over, in reads and in writes. None: as many as the image, and a
     /// command for a word behind them ends in error.
     pub chip: Option<u32>,
-    /// For how many datagrams the controller is busy with a command.
+    /// For how many datagrams the controller is busy with a command. Words that were read are in its registers behind them.
     pub delay: u32,
+    /// How many of them don't show it as busy yet.
+    pub shown_late: u32,
     /// For how long it is busy with a read, besides.
     pub read_time: u64,
     /// For how long it is busy with a write, besides.
@@ -54,6 +56,7 @@ pub struct Quirks {
 pub const NO_QUIRKS: Quirks = Quirks {
     chip: None,
     delay: 0,
+    shown_late: 0,
     read_time: 0,
     write_time: 0,
     programs_on: 0,

@@ -8,7 +8,7 @@ use std::io;
 use wire_frames::{Wire, number_of};
 
 /// The most bytes of a frame that this wire carries: one with a datagram for each of six slaves.
-const LONGEST: usize = 144;
+const LONGEST: usize = 146;
 
 /// How long a frame is on its way, in microseconds.
 const ROUND_TRIP: u64 = 10;
@@ -59,7 +59,7 @@ struct Cut {
     left: Pattern,
 }
 
-/// A wire in memory, with slaves to practise on. A frame comes back as it is sent, unless a mishap is planned. Frames have 144 bytes at most.
+/// A wire in memory, with slaves to practise on. A frame comes back as it is sent, unless a mishap is planned. Frames have 146 bytes at most.
 #[derive(Drop)]
 pub struct PracticeWire<'c> {
     clock: &'c PracticeClock,

@@ -1,14 +1,23 @@
--- Files that are there keep their bytes.
-use Rattle.std.proofs.Common.{◌≡◌, ◌≢◌, ℕ, List, Option, Some, None, Result, Ok, Err, IfSome, ◌+◌, ◌<◌, length, take, get_or}
-use Rattle.std.proofs.Common.{Contains, map, String, Global, string_bytes, refl, sym, subst, ◌∙◌, inl, inr}
-use Rattle.std.specs.List.{All}
-use Rattle.std.proofs.lemmas.List.Elements.{All-map, All-more}
+-- What a backup does to files, as they are judged and written.
+use Rattle.std.proofs.Common.{◌≡◌, ◌≢◌, ◌⊎◌, ℕ, ◌+◌, ◌<◌, List, Option, Some, None, Result, Ok, Err, IfNone, IfSome, IsSome, IsSomeAnd, length, map, take}
+use Rattle.std.proofs.Common.{get_or, String, Global, string_bytes, refl, sym, ap, subst, ◌∙◌, inl, inr}
+use Rattle.std.specs.List.{AllZip}
+use Rattle.std.proofs.lemmas.List.{map_more, take_more}
+use Rattle.sii_words.proofs.Quantifiers.{zip_snoc}
 use Rattle.station_files.specs.Faults as station
-use Rattle.station_files.specs.Files.{Known, IsAbsent, ChangesOnly, ChangesAmong}
+use Rattle.station_files.specs.FileNames.{IsLineApart, spelt}
+use Rattle.station_files.specs.Files.{Known, HasBytes, IsAbsent, ChangesAmong, ChangesOnly}
+use Rattle.station_files.specs.LineFiles.{DescribesLine, SpellsLine, SpellsWords, names_of}
+use Rattle.station_files.specs.Locations.{Leads}
 use Rattle.station_files.specs.declared.faults.Fault.{Fault}
-use Rattle.wire_scan.specs.Backup.{Backs, ComesBeforeWrites, KeepsAll}
+use Rattle.station_files.proofs.Loaded.{of_held}
+use Rattle.station_text.specs.declared.line_file.LineFile.{LineFile}
 use Rattle.wire_faults.specs.declared.faults.WireFault.{WireFault}
 use Rattle.wire_faults.specs.declared.faults.WireFault.TheVariants.{Station}
+use Rattle.wire_scan.specs.Backup.{Backs, ComesBeforeWrites, HasNoPast, IsBackedUp, IsPlanned, IsWithoutPast, KeepsAll, MayStay}
+use Rattle.wire_scan.proofs.Writing.{journal_is_other, line_file_is_other, not_named, stays, words_stay}
+
+-- ---- files that are there keep their bytes
 
 -- a file that is there isn't absent
 not_absent : (held : Option (Option (List ℕ))) (bytes : List ℕ) → held ≡ Some (Some bytes) → IfSome held (λ h. h ≡ None) → ⊥
@@ -23,60 +32,96 @@ kept_by_one old new name absent changes = λ other bytes is.
     let apart : other ≢ name = λ same. not_absent (old other) bytes is (subst P (sym same) absent) in
     changes other apart ∙ is
 
--- then files that weren't there at first are written
-pub kept_by_names : (old mid new : Known) (names : List (String Global)) → KeepsAll old mid → All (λ name. IsAbsent old (string_bytes name)) names
-    → ChangesAmong mid new (map (λ name. string_bytes name) names) → KeepsAll old new
-kept_by_names old mid new names before absent changes = λ other bytes is.
-    let spelt : List (List ℕ) = map (λ (name : String Global). string_bytes name) names in
-    let all : All (λ n. IsAbsent old n) spelt = All-map (λ n. IsAbsent old n) (λ (name : String Global). string_bytes name) names absent in
-    let P : List ℕ → Type 0 = λ n. IsAbsent old n in
-    let missing : ¬ Contains spelt other = λ found. not_absent (old other) bytes is (subst P found.2 (all found.0 other found.1)) in
-    changes other missing ∙ before other bytes is
+-- a file that is there has the bytes that it may stay with
+pub held_there : (files : Known) (name bytes : List ℕ) → IfSome (files name) (λ held. IsSome held) → IsAbsent files name ⊎ HasBytes files name bytes → HasBytes files name bytes
+held_there files name bytes there may = of_found (files name) there may where
+  of_found : (found : Option (Option (List ℕ))) → IfSome found (λ held. IsSome held) → IfSome found (λ held. held ≡ None) ⊎ IfSome found (λ held. IsSomeAnd held (λ there. bytes ≡ there))
+      → IfSome found (λ held. IsSomeAnd held (λ there. bytes ≡ there))
+  of_found None there may = tt
+  of_found (Some None) there may = absurd cc
+  of_found (Some (Some held)) there (inl none) = absurd cc
+  of_found (Some (Some held)) there (inr has) = has
 
 -- nothing is written
 pub kept_same : (files : Known) → KeepsAll files files
 kept_same files = λ name bytes is. is
 
+-- ---- how a backup ends
+
 -- nothing is written
-pub unchanged : (result : Result (Unit {0}) WireFault) (old new : Known) → new ≡ old → Backs result old new
-unchanged result old new same =
-    let P : Known → Type 0 = λ files. Backs result old files in subst P (sym same) (at_rest result) where
-      at_rest : (result : Result (Unit {0}) WireFault) → Backs result old old
-      at_rest (Ok done) = record { kept = λ name bytes is. is; unwritten = tt }
-      at_rest (Err fault) = record { kept = λ name bytes is. is; unwritten = λ early. refl }
+pub unchanged : (fault : WireFault) (old new : Known) (name : List ℕ) → new ≡ old → Backs (Err fault) old new name
+unchanged fault old new name same =
+    let P : Known → Type 0 = λ files. Backs (Err fault) old files name in
+    subst P (sym same) (record { kept = λ n bytes is. is; unwritten = λ early. refl; done = tt })
 
 -- nothing was written before
-pub backs_behind : (result : Result (Unit {0}) WireFault) (old mid new : Known) → mid ≡ old → Backs result mid new → Backs result old new
-backs_behind result old mid new same backs = let P : Known → Type 0 = λ files. Backs result files new in subst P same backs
+pub backs_behind : (result : Result (Unit {0}) WireFault) (old mid new : Known) (name : List ℕ) → mid ≡ old → Backs result mid new name → Backs result old new name
+backs_behind result old mid new name same backs = let P : Known → Type 0 = λ files. Backs result files new name in subst P same backs
 
 -- a fault of a file, or want of memory, may come once something is written
-pub failed_late : (fault : Fault) (old mid new : Known) → mid ≡ old → station.IsOfStream fault → KeepsAll mid new → Backs (Err (Station fault)) old new
-failed_late fault old mid new same (inl file) kept =
+pub failed_late : (fault : Fault) (old new : Known) (name : List ℕ) → station.IsOfStream fault → KeepsAll old new → Backs (Err (Station fault)) old new name
+failed_late fault old new name (inl file) kept =
     let P : Fault → Type 0 = λ f. ComesBeforeWrites (Station f) in
-    backs_behind (Err (Station fault)) old mid new same (record { kept = kept; unwritten = λ early. absurd (subst P file early) })
-failed_late fault old mid new same (inr memory) kept =
+    record { kept = kept; unwritten = λ early. absurd (subst P file early); done = tt }
+failed_late fault old new name (inr memory) kept =
     let P : Fault → Type 0 = λ f. ComesBeforeWrites (Station f) in
-    backs_behind (Err (Station fault)) old mid new same (record { kept = kept; unwritten = λ early. absurd (subst P memory early) })
+    record { kept = kept; unwritten = λ early. absurd (subst P memory early); done = tt }
 
 -- nothing failed
-pub went_well : (old mid new : Known) → mid ≡ old → KeepsAll mid new → Backs (Ok tt) old new
-went_well old mid new same kept = backs_behind (Ok tt) old mid new same (record { kept = kept; unwritten = tt })
+pub went_well : (old new : Known) (name : List ℕ) → KeepsAll old new → IsBackedUp new name → Backs (Ok tt) old new name
+went_well old new name kept done = record { kept = kept; unwritten = tt; done = done }
 
--- what is absent stays so while nothing is written
-pub no_text : (old mid : Known) (name : List ℕ) (text : Option (String Global)) → mid ≡ old → IfSome text (λ _. IsAbsent old name) → IfSome text (λ _. IsAbsent mid name)
-no_text old mid name text same absent =
-    let P : Known → Type 0 = λ files. IfSome text (λ _. IsAbsent files name) in subst P (sym same) absent
+-- ---- what is judged
 
-pub no_names : (old mid : Known) (names : List (String Global)) → mid ≡ old → All (λ name. IsAbsent old (string_bytes name)) names → All (λ name. IsAbsent mid (string_bytes name)) names
-no_names old mid names same absent =
-    let P : Known → Type 0 = λ files. All (λ name. IsAbsent files (string_bytes name)) names in subst P (sym same) absent
+-- nothing is written as it is judged
+pub still_planned : (old mid : Known) (name : List ℕ) (line : LineFile) (text : Option (String Global)) → mid ≡ old → IsPlanned old name line text → IsPlanned mid name line text
+still_planned old mid name line text same planned = let P : Known → Type 0 = λ files. IsPlanned files name line text in subst P (sym same) planned
 
--- one more file is absent
-pub one_more : (old now : Known) (names : List (String Global)) (i : ℕ) (image : String Global) (name : List ℕ) → i < length names → now ≡ old
-    → image ≡ get_or names i image → name ≡ string_bytes image
-    → All (λ n. IsAbsent old (string_bytes n)) (take i names) → IsAbsent now name → All (λ n. IsAbsent old (string_bytes n)) (take (i + 1) names)
-one_more old now names i image name inside same is_image named before absent =
-    let P : Known → Type 0 = λ files. IsAbsent files name in
-    let Q : List ℕ → Type 0 = λ n. IsAbsent old n in
-    let R : String Global → Type 0 = λ s. IsAbsent old (string_bytes s) in
-    All-more (λ n. IsAbsent old (string_bytes n)) names i image inside before (subst R is_image (subst Q named (subst P same absent)))
+pub still_stay : (old mid : Known) (line : LineFile) (plant : List (List ℕ)) → mid ≡ old → AllZip (MayStay old) (names_of line) plant → AllZip (MayStay mid) (names_of line) plant
+still_stay old mid line plant same judged = let P : Known → Type 0 = λ files. AllZip (MayStay files) (names_of line) plant in subst P (sym same) judged
+
+pub still_past : (old mid : Known) (name sizes : List ℕ) → mid ≡ old → HasNoPast old name sizes → HasNoPast mid name sizes
+still_past old mid name sizes same judged = let P : Known → Type 0 = λ files. HasNoPast files name sizes in subst P (sym same) judged
+
+-- one more image file may stay
+pub one_more_stays : (old now : Known) (names : List (String Global)) (plant : List (List ℕ)) (i : ℕ) (image : String Global) (name words : List ℕ) → i < length names → i < length plant → now ≡ old
+    → image ≡ get_or names i image → name ≡ string_bytes image → words ≡ get_or plant i words
+    → AllZip (MayStay old) (spelt (take i names)) (take i plant) → MayStay now name words → AllZip (MayStay old) (spelt (take (i + 1) names)) (take (i + 1) plant)
+one_more_stays old now names plant i image name words in_names in_plant same is_image named is_words before stays_here =
+    let P : List ℕ → Type 0 = λ n. MayStay old n words in
+    let Q : List ℕ → Type 0 = λ w. MayStay old (string_bytes (get_or names i image)) w in
+    let R : Known → Type 0 = λ files. MayStay files name words in
+    rw (map_more (λ (n : String Global). string_bytes n) names i image in_names, take_more plant i words in_plant)
+    (zip_snoc (MayStay old) (spelt (take i names)) (take i plant) (string_bytes (get_or names i image)) (get_or plant i words) before
+    (subst Q is_words (subst P (named ∙ ap (λ (n : String Global). string_bytes n) is_image) (subst R same stays_here))))
+
+-- ---- what is written
+
+-- the line file is as planned
+describes : (old mid new : Known) (name : List ℕ) (line : LineFile) (text : Option (String Global)) → mid name ≡ old name → IsPlanned old name line text
+    → IfSome text (λ text. IsAbsent mid name → HasBytes new name (string_bytes text)) → IfNone text (new ≡ mid) → SpellsLine new name line
+describes old mid new name line None still planned text_written same =
+    let P : Option (Option (List ℕ)) → Type 0 = λ found. IfSome found (λ held. IsSomeAnd held (λ bytes. DescribesLine bytes line)) in
+    let Q : Known → Type 0 = λ files. SpellsLine files name line in
+    subst Q (sym same) (subst P (sym still) planned)
+describes old mid new name line (Some text) still planned text_written same =
+    let P : Option (Option (List ℕ)) → Type 0 = λ found. IfSome found (λ held. held ≡ None) in
+    of_held (λ bytes. DescribesLine bytes line) new name (string_bytes text) (text_written (subst P (sym still) planned.0)) planned.1
+
+-- the files behind the images and the text
+pub backed_up : (leads : Leads) (old mid new : Known) (name : List ℕ) (line : LineFile) (text : Option (String Global)) (plant : List (List ℕ)) → IsLineApart leads line name → IsPlanned old name line text
+    → HasNoPast old (string_bytes line.journal) (map length plant) → ChangesAmong old mid (names_of line) → AllZip (SpellsWords mid) (names_of line) plant → ChangesOnly mid new name
+    → IfSome text (λ text. IsAbsent mid name → HasBytes new name (string_bytes text)) → IfNone text (new ≡ mid) → IsBackedUp new name
+backed_up leads old mid new name line text plant apart planned past among written only text_written same =
+    let images : List (String Global) = line.images.items in
+    let journal : List ℕ = string_bytes line.journal in
+    let other = line_file_is_other leads line name apart in
+    let of_journal = journal_is_other leads line name apart in
+    let P : Option (Option (List ℕ)) → Type 0 = λ found. IfSome found (λ held. held ≡ None) ⊎ IfSome found (λ held. IsSomeAnd held (λ bytes. IsWithoutPast bytes (map length plant))) in
+    record {
+      line = line;
+      plant = plant;
+      described = describes old mid new name line text (among name (not_named images name other)) planned text_written same;
+      slaves = words_stay mid new images plant name only other written;
+      journal = stays P mid new name journal only of_journal.1 (subst P (sym (among journal (not_named images journal of_journal.0))) past);
+    }

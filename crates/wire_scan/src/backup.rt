@@ -1,14 +1,17 @@
 //! The subcommand `backup`.
-ghost use Rattle.std.specs.Prelude.{◌≡◌, ◌<◌, length, map, string_bytes, vec_len, IfErr, IfSome, OnOk};
-ghost use Rattle.std.specs.List.{All};
+ghost use Rattle.std.specs.Prelude.{◌≡◌, ◌⊎◌, length, map, string_bytes, vec_len, IfErr, IfNone, IfSome, OnOk};
+ghost use Rattle.std.specs.List.{AllZip};
 ghost use Rattle.station_files.specs.Faults.{IsOfStream};
-ghost use Rattle.station_files.specs.Files.{IsAbsent};
-ghost use Rattle.wire_scan.specs.Backup.{Backs, KeepsAll};
+ghost use Rattle.station_files.specs.FileNames.{IsLineApart, spelt};
+ghost use Rattle.station_files.specs.Files.{ChangesAmong, ChangesOnly, HasBytes, IsAbsent};
+ghost use Rattle.station_files.specs.LineFiles.{SpellsWords, names_of};
+ghost use Rattle.wire_scan.specs.Backup.{AreDistinct, Backs, HasNoPast, IsBackedUp, IsPlanned, KeepsAll, MayStay};
 
+use crate::beginning::judge_files;
 use crate::measures::{judge_measures, print_measures};
 use crate::plan::{Plan, is_there, plan_backup};
-use sii_words::Plant;
-use station_files::{Fault, Store, save_slaves};
+use sii_words::Words;
+use station_files::{Fault, Store};
 use std::alloc::Global;
 use std::io::Write;
 use std::rt::Clock;
@@ -17,17 +20,20 @@ use wire_faults::WireFault;
 use wire_frames::{NumberedWire, Wire};
 
 /// Brings up the line on this wire, and writes the words of each slave to its image file. The line file `name` says which that is. Where
-/// it isn't there it is written too, and then names `STEM-s0.bin`, `STEM-s1.bin` and so on, and `STEM-journal.bin`, where `STEM` is its
-/// name without `.toml`. No word of a slave is written, and the EEPROMs are handed back. Prints a line for each slave whose word 0x3E tells
-/// another size than the one that it is backed up with.
+/// it isn't there it is written too, behind the image files, and then names `STEM-s0.bin`, `STEM-s1.bin` and so on, and `STEM-journal.bin`,
+/// where `STEM` is its name without `.toml`. An image file that is there with its slave's words counts as written. So a backup that failed, or
+/// was cut, can be repeated while the slaves keep their words. No word of a slave is written, and the EEPROMs are handed back. Prints a line
+/// for each slave whose word 0x3E tells another size than the one that it is backed up with.
 ///
-/// No file that is there already changes, whatever happens.
+/// No file that is there already changes, whatever happens. No journal is written. One that is there is of this line, and has nothing left to
+/// do.
 ///
 /// # Errors
 ///
 /// As for `bring_up`; for the first slave, `Line` where it can't be worked on, and `UnknownSize` where its size can't be told and isn't among
-/// the given ones; then as for `load_line`, or `OtherCount` where the line file names another number of slaves; then `Exists` where an
-/// image file is there already. Nothing is written up to there. Then `File` or `Memory`, as the store answers.
+/// the given ones; as for `load_line` and `keep_line_apart`; `OtherCount` where the line file names another number of slaves; `Exists` for the
+/// first image file that is there with other words, and then for a journal that is there and is that of another number of slaves, or damaged,
+/// or has live batches. Nothing is written up to there. Then `File` or `Memory`, as the store answers.
 #[tactic(auto, using(crate::proofs::Kept::unchanged))]
 pub fn backup_line<R: Clock + AllocGlobal, W: Wire, S: Store, O: Write>(
     rt: &R,
@@ -37,151 +43,151 @@ pub fn backup_line<R: Clock + AllocGlobal, W: Wire, S: Store, O: Write>(
     store: &mut S,
     output: &mut O,
 ) -> Result<(), WireFault>
-    ensures { Backs result (S.files store.old) (S.files store.new) }
+    ensures { Backs result (S.files store.old) (S.files store.new) name.now }
 {
-    match measured_plant(rt, wire, sizes, output) {
-        Ok(plant) => save_backup(rt.alloc(), name, &plant, store),
+    match measured_slaves(rt, wire, sizes, output) {
+        Ok(slaves) => save_backup(rt.alloc(), name, &slaves, store),
         Err(fault) => Err(fault),
     }
 }
 
 /// Brings up the line, looks at the sizes that were found, and gives the words of the slaves.
-fn measured_plant<R: Clock + AllocGlobal, W: Wire, O: Write>(
+fn measured_slaves<R: Clock + AllocGlobal, W: Wire, O: Write>(
     rt: &R,
     wire: &mut NumberedWire<W>,
     sizes: &Sizes,
     output: &mut O,
-) -> Result<Plant, WireFault> {
+) -> Result<Vec<Words>, WireFault> {
     let found = bring_up(rt.alloc(), wire, rt, sizes)?;
     hand_back(wire, &found.states());
     judge_measures(&found, sizes)?;
     print_measures(&found, output)?;
-    Ok(Plant::of(found.into_words(rt.alloc())?))
+    Ok(found.into_words(rt.alloc())?)
 }
 
 /// Writes the files of a backup.
-#[tactic(auto, using(crate::proofs::Kept::unchanged, crate::proofs::Kept::backs_behind, crate::proofs::Kept::no_text))]
+#[tactic(auto, using(crate::proofs::Kept::unchanged, crate::proofs::Kept::backs_behind, crate::proofs::Kept::still_planned))]
 fn save_backup<S: Store>(
     alloc: Global,
     name: &str,
-    plant: &Plant,
+    slaves: &[Words],
     store: &mut S,
 ) -> Result<(), WireFault>
-    ensures { Backs result (S.files store.old) (S.files store.new) }
+    ensures { Backs result (S.files store.old) (S.files store.new) name.now }
 {
-    match plan_backup(alloc, name, plant.len(), store) {
-        Ok(plan) => save_plan(alloc, name, &plan, plant, store),
+    match plan_backup(alloc, name, slaves.len(), store) {
+        Ok(plan) => save_plan(alloc, name, &plan, slaves, store),
         Err(fault) => Err(fault),
     }
 }
 
-/// Writes the files of a plan, if none of the image files is there.
-#[tactic(auto, using(crate::proofs::Kept::unchanged, crate::proofs::Kept::backs_behind, crate::proofs::Kept::no_text, crate::proofs::Kept::no_names))]
+/// Writes the files of a plan, if what is there of them may stay.
+#[tactic(auto, using(crate::proofs::Kept::unchanged, crate::proofs::Kept::backs_behind, crate::proofs::Kept::still_planned, crate::proofs::Kept::still_stay, crate::proofs::Kept::still_past))]
 fn save_plan<S: Store>(
     alloc: Global,
     name: &str,
     plan: &Plan,
-    plant: &Plant,
+    slaves: &[Words],
     store: &mut S,
 ) -> Result<(), WireFault>
-    requires count { vec_len plan.now.line.images ≡ length plant.now }
-    requires absent { IfSome plan.now.text (λ _. IsAbsent (S.files store.old) name.now) }
-    ensures { Backs result (S.files store.old) (S.files store.new) }
+    requires count { vec_len plan.now.line.images ≡ length slaves.now }
+    requires planned { IsPlanned (S.files store.old) name.now plan.now.line plan.now.text }
+    requires apart { IsLineApart S.leads plan.now.line name.now }
+    ensures { Backs result (S.files store.old) (S.files store.new) name.now }
 {
-    match require_absent(alloc, &plan.line.images, store) {
-        Ok(()) => save_absent(alloc, name, plan, plant, store),
+    match judge_files(alloc, &plan.line, slaves, store) {
+        Ok(()) => save_judged(name, plan, slaves, store),
         Err(fault) => Err(WireFault::Station(fault)),
     }
 }
 
-/// Writes the files of a plan, none of which is there.
+/// Writes the files of a plan. What is there of them may stay.
 #[tactic(auto, using(crate::proofs::Kept::failed_late, crate::proofs::Kept::went_well))]
-fn save_absent<S: Store>(
-    alloc: Global,
+fn save_judged<S: Store>(
     name: &str,
     plan: &Plan,
-    plant: &Plant,
+    slaves: &[Words],
     store: &mut S,
 ) -> Result<(), WireFault>
-    requires count { vec_len plan.now.line.images ≡ length plant.now }
-    requires absent { IfSome plan.now.text (λ _. IsAbsent (S.files store.old) name.now) }
-    requires images { All (λ image. IsAbsent (S.files store.old) (string_bytes image)) plan.now.line.images.items }
-    ensures { Backs result (S.files store.old) (S.files store.new) }
+    requires count { vec_len plan.now.line.images ≡ length slaves.now }
+    requires planned { IsPlanned (S.files store.old) name.now plan.now.line plan.now.text }
+    requires apart { IsLineApart S.leads plan.now.line name.now }
+    requires images { AllZip (MayStay (S.files store.old)) (names_of plan.now.line) slaves.now }
+    requires journal { HasNoPast (S.files store.old) (string_bytes plan.now.line.journal) (map length slaves.now) }
+    ensures { Backs result (S.files store.old) (S.files store.new) name.now }
 {
-    match write_plan(alloc, name, plan, plant, store) {
+    match write_plan(name, plan, slaves, store) {
         Ok(()) => Ok(()),
         Err(fault) => Err(WireFault::Station(fault)),
     }
 }
 
-/// Writes the files of a plan: the line file, if it has a text, and then the image files.
+/// Writes the files of a plan that aren't there: the image files, and then the line file.
 fn write_plan<S: Store>(
-    alloc: Global,
     name: &str,
     plan: &Plan,
-    plant: &Plant,
+    slaves: &[Words],
     store: &mut S,
 ) -> Result<(), Fault>
-    requires count { vec_len plan.now.line.images ≡ length plant.now }
-    requires absent { IfSome plan.now.text (λ _. IsAbsent (S.files store.old) name.now) }
-    requires images { All (λ image. IsAbsent (S.files store.old) (string_bytes image)) plan.now.line.images.items }
-    ensures keeps { KeepsAll (S.files store.old) (S.files store.new) }
+    requires count { vec_len plan.now.line.images ≡ length slaves.now }
+    requires planned { IsPlanned (S.files store.old) name.now plan.now.line plan.now.text }
+    requires apart { IsLineApart S.leads plan.now.line name.now }
+    requires images { AllZip (MayStay (S.files store.old)) (names_of plan.now.line) slaves.now }
+    requires journal { HasNoPast (S.files store.old) (string_bytes plan.now.line.journal) (map length slaves.now) }
+    ensures kept { KeepsAll (S.files store.old) (S.files store.new) }
+    ensures done { OnOk result (IsBackedUp (S.files store.new) name.now) }
     ensures failed { IfErr result IsOfStream }
 {
-    match save_text(name, &plan.text, store) {
-        Ok(()) => save_slaves(alloc, &plan.line.images, plant, store),
+    match write_images(&plan.line.images, slaves, store) {
+        Ok(()) => write_text(name, &plan.text, store),
         Err(fault) => Err(fault),
     }
 }
 
-/// Writes the line file, if it has a text.
-#[tactic(auto, using(crate::proofs::Kept::kept_same))]
-fn save_text<S: Store>(name: &str, text: &Option<String>, store: &mut S) -> Result<(), Fault>
-    requires { IfSome text.now (λ _. IsAbsent (S.files store.old) name.now) }
-    ensures keeps { KeepsAll (S.files store.old) (S.files store.new) }
+/// Writes the words of each slave to its image file, where it isn't there.
+fn write_images<S: Store>(images: &[String], slaves: &[Words], store: &mut S) -> Result<(), Fault>
+    requires count { length images.now ≡ length slaves.now }
+    requires distinct { AreDistinct images.now }
+    requires may_stay { AllZip (MayStay (S.files store.old)) (spelt images.now) slaves.now }
+    ensures kept { KeepsAll (S.files store.old) (S.files store.new) }
+    ensures written { OnOk result (AllZip (SpellsWords (S.files store.new)) (spelt images.now) slaves.now) }
+    ensures others { ChangesAmong (S.files store.old) (S.files store.new) (spelt images.now) }
     ensures failed { IfErr result IsOfStream }
 {
-    match text {
-        Some(text) => save_new(name, text.as_str(), store),
-        None => Ok(()),
-    }
-}
-
-/// Writes a file that isn't there.
-#[tactic(auto, using(crate::proofs::Kept::kept_by_one))]
-fn save_new<S: Store>(name: &str, text: &str, store: &mut S) -> Result<(), Fault>
-    requires { IsAbsent (S.files store.old) name.now }
-    ensures keeps { KeepsAll (S.files store.old) (S.files store.new) }
-    ensures failed { IfErr result IsOfStream }
-{
-    match store.write(name, text.as_bytes()) {
-        Ok(()) => Ok(()),
-        Err(error) => Err(Fault::from(error)),
-    }
-}
-
-/// Looks whether none of these files is there.
-///
-/// # Errors
-///
-/// `Exists` where one is there; `File` where one can't be read; `Memory`.
-fn require_absent<S: Store>(alloc: Global, names: &[String], store: &mut S) -> Result<(), Fault>
-    ensures absent { OnOk result (All (λ name. IsAbsent (S.files store.old) (string_bytes name)) names.now) }
-    ensures same { S.files store.new ≡ S.files store.old }
-{
-    for slave in 0..names.len() {
-        judge_absent(alloc, names[slave].as_str(), store)?;
+    for slave in 0..images.len() {
+        let bytes = slaves[slave].to_bytes()?;
+        write_missing(images[slave].as_str(), &bytes, store)?;
     }
     Ok(())
 }
 
-/// Looks whether this file isn't there.
-fn judge_absent<S: Store>(alloc: Global, name: &str, store: &mut S) -> Result<(), Fault>
-    ensures absent { OnOk result (IsAbsent (S.files store.old) name.now) }
-    ensures same { S.files store.new ≡ S.files store.old }
+/// Writes the line file, if it has a text.
+#[tactic(auto, using(crate::proofs::Kept::kept_same))]
+fn write_text<S: Store>(name: &str, text: &Option<String>, store: &mut S) -> Result<(), Fault>
+    ensures kept { KeepsAll (S.files store.old) (S.files store.new) }
+    ensures written { OnOk result (IfSome text.now (λ text.
+        IsAbsent (S.files store.old) name.now → HasBytes (S.files store.new) name.now (string_bytes text))) }
+    ensures unwritten { IfNone text.now (S.files store.new ≡ S.files store.old) }
+    ensures others { ChangesOnly (S.files store.old) (S.files store.new) name.now }
+    ensures failed { IfErr result IsOfStream }
 {
-    match is_there(alloc, name, store)? {
-        true => Err(Fault::Exists),
-        false => Ok(()),
+    match text {
+        Some(text) => write_missing(name, text.as_bytes(), store),
+        None => Ok(()),
     }
+}
+
+/// Writes a file, where it isn't there.
+#[tactic(auto, using(crate::proofs::Kept::kept_by_one, crate::proofs::Kept::kept_same))]
+fn write_missing<S: Store>(name: &str, bytes: &[u8], store: &mut S) -> Result<(), Fault>
+    ensures kept { KeepsAll (S.files store.old) (S.files store.new) }
+    ensures written { OnOk result (IsAbsent (S.files store.old) name.now ⊎ HasBytes (S.files store.old) name.now bytes.now
+        → HasBytes (S.files store.new) name.now bytes.now) }
+    ensures others { ChangesOnly (S.files store.old) (S.files store.new) name.now }
+    ensures failed { IfErr result IsOfStream }
+{
+    if !is_there(name, store)? {
+        store.write(name, bytes)?;
+    }
+    Ok(())
 }

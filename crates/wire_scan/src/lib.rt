@@ -3,6 +3,8 @@
 
 mod asked;
 mod backup;
+mod beginning;
+mod journals;
 mod judging;
 mod measures;
 mod naming;
@@ -14,6 +16,7 @@ mod sizes;
 
 pub use asked::{Asked, Tells};
 pub use backup::backup_line;
+pub use journals::require_empty;
 pub use judging::{judge_commands, judge_slaves};
 pub use naming::{CaptureNames, Named, keep_capture_apart, keep_script_apart};
 pub use opening::{Found, find_line, open_journal};

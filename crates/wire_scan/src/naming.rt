@@ -1,6 +1,6 @@
 //! Keeps the files of a call apart: none may be lost where another one is written.
-ghost use Rattle.std.specs.Prelude.{◌≡◌, ◌∷◌, ◌++◌, length, None, OnOk};
-ghost use Rattle.station_files.specs.FileNames.{files_with, spelt, written_of};
+ghost use Rattle.std.specs.Prelude.{◌≡◌, [], ◌∷◌, ◌++◌, length, None, OnOk};
+ghost use Rattle.station_files.specs.FileNames.{files_with, written_of};
 ghost use Rattle.station_files.specs.Locations.{AreApart};
 
 use crate::plan::{is_there, new_line};
@@ -20,7 +20,7 @@ pub struct Named<'a> {
     pub script: &'a str,
 }
 
-/// Refuses a script that is a file of the line, as `keep_apart` does, or that names an image that is one. Nothing is written.
+/// Refuses a script that is a file of the line, as `keep_apart` does. Nothing is written.
 ///
 /// # Errors
 ///
@@ -29,15 +29,14 @@ pub fn keep_script_apart<S: Store>(
     alloc: Global,
     line: &LineFile,
     named: Named<'_>,
-    images: &[String],
     store: &mut S,
 ) -> Result<(), Fault>
     ensures apart { OnOk result (AreApart S.leads (length (written_of None line.now))
-        (files_with None line.now named.entry.line.now ++ named.entry.script.now ∷ spelt images.now)) }
+        (files_with None line.now named.entry.line.now ++ named.entry.script.now ∷ [])) }
     ensures same { S.files store.new ≡ S.files store.old }
 {
     let files = FileNames::of_line(alloc, line, named.line, None)?;
-    let all = files.with_script(alloc, named.script, images)?;
+    let all = files.with_script(alloc, named.script)?;
     keep_apart(alloc, &all, store)
 }
 
@@ -83,7 +82,7 @@ fn files_around(
 ) -> Result<FileNames, AllocError> {
     let files = FileNames::of_line(alloc, line, names.line, Some(names.capture))?;
     match names.script {
-        Some(script) => files.with_script(alloc, script, &[]),
+        Some(script) => files.with_script(alloc, script),
         None => Ok(files),
     }
 }
@@ -92,7 +91,7 @@ fn files_around(
 fn line_named<S: Store>(alloc: Global, name: &str, store: &mut S) -> Result<Option<LineFile>, Fault>
     ensures { S.files store.new ≡ S.files store.old }
 {
-    if !is_there(alloc, name, store)? {
+    if !is_there(name, store)? {
         return described(new_line(alloc, name, MOST_SLAVES));
     }
     described(load_line(alloc, name, store))

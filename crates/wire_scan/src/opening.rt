@@ -1,17 +1,19 @@
 //! Finds a line on a wire and its journal in a file, and makes the site of both.
-ghost use Rattle.std.specs.Prelude.{◌≡◌, ◌≤◌, length, string_bytes, IfErr, IfOk, OnOk};
+ghost use Rattle.std.specs.Prelude.{◌≡◌, ◌≤◌, length, map, string_bytes, IfErr, IfOk, OnOk};
 ghost use Rattle.station_files.specs.Files.{ChangesOnly, HasBytes};
 ghost use Rattle.station_files.specs.FileNames.{IsLineApart};
 ghost use Rattle.station_files.specs.LineFiles.{SpellsLine};
 ghost use Rattle.station_files.specs.Faults as station;
+ghost use Rattle.station_line.specs.Judging.{HasJournal};
 ghost use Rattle.wire_scan.specs.Opening.{IsFound};
 
 use crate::asked::{Asked, Tells};
+use crate::journals::judge_journal;
 use crate::judging::{judge_slaves, judge_states};
 use crate::sizes::sizes_of_images;
 use sii_words::Words;
 use site_file::OpenFiles;
-use station_files::{Fault, Store, keep_line_apart, load_line, read_file};
+use station_files::{Entry, Fault, MOST_OF_JOURNAL, Store, keep_line_apart, load_line, read_file};
 use station_text::LineFile;
 use std::alloc::Global;
 use std::rt::Clock;
@@ -36,14 +38,15 @@ pub struct Found<L> {
     pub tells: Tells,
 }
 
-/// Reads the line file `name`, locks the journal, brings up the line on this wire, and reads the journal. No file changes, and no word of
-/// a slave is written. Each slave has the size of its image file, where there is one. After a fault the EEPROMs are handed back.
+/// Reads the line file `name`, locks the journal, brings up the line on this wire, and reads and judges the journal. No file changes, and no
+/// word of a slave is written. Each slave has the size of its image file, where there is one. After a fault the EEPROMs are handed back.
 ///
 /// # Errors
 ///
-/// As for `load_line`; `Busy` where another station has locked the journal, `File` where it is absent or the system can't lock it; as for
-/// `keep_line_apart`; as for `sizes_of_images`; unless slaves in any state are allowed or the wire is lent, as for `judge_states`, before an
-/// EEPROM is taken; as for `bring_up`; as for `judge_slaves`; `File` where the journal can't be read. `Memory` may come at any point.
+/// As for `load_line`; `Busy` where another station has locked the journal, `File` where it is absent or the system can't lock it, `NotAFile`;
+/// as for `keep_line_apart`; as for `sizes_of_images`; unless slaves in any state are allowed or the wire is lent, as for `judge_states`, before an
+/// EEPROM is taken; as for `bring_up`; as for `judge_slaves`; as for `read_file` of the journal; `NotAJournal`, `BadVersion`, `WrongLine` or
+/// `BadJournal` where it isn't a journal of these slaves. `Memory` may come at any point.
 pub fn find_line<R: Clock + AllocGlobal, W: Wire, S: Store>(
     rt: &R,
     wire: &mut NumberedWire<W>,
@@ -52,6 +55,7 @@ pub fn find_line<R: Clock + AllocGlobal, W: Wire, S: Store>(
     store: &mut S,
 ) -> Result<Found<S::Lock>, WireFault>
     ensures found { IfOk result (λ found. IsFound (S.files store.old) name.now found.line found.slaves.items found.journal.items) }
+    ensures judged { IfOk result (λ found. HasJournal (map length found.slaves.items) found.journal.items) }
     ensures apart { IfOk result (λ found. IsLineApart S.leads found.line name.now) }
     ensures some { IfOk result (λ found. 1 ≤ length found.slaves.items) }
     ensures most { IfOk result (λ found. length found.slaves.items ≤ 64) }
@@ -95,6 +99,7 @@ fn read_line<R: Clock + AllocGlobal, W: Wire, S: Store>(
 ) -> Result<LineRead, WireFault>
     ensures count { IfOk result (λ read. length read.slaves.items ≡ length line.now.images.items) }
     ensures journal { IfOk result (λ read. HasBytes (S.files store.old) (string_bytes line.now.journal) read.journal.items) }
+    ensures judged { IfOk result (λ read. HasJournal (map length read.slaves.items) read.journal.items) }
     ensures some { IfOk result (λ read. 1 ≤ length read.slaves.items) }
     ensures most { IfOk result (λ read. length read.slaves.items ≤ 64) }
     ensures same { S.files store.new ≡ S.files store.old }
@@ -137,7 +142,7 @@ fn bring_up_judged<R: Clock + AllocGlobal, W: Wire, S: Store>(
     }
 }
 
-/// The words of the slaves of a line that was brought up, and the bytes of its journal.
+/// The words of the slaves of a line that was brought up, and the bytes of its journal, which is one of these slaves.
 fn read_found<S: Store>(
     alloc: Global,
     line: &LineFile,
@@ -147,10 +152,12 @@ fn read_found<S: Store>(
     ensures count { IfOk result (λ read. length read.0.items ≡ length line.now.images.items) }
     ensures found { IfOk result (λ read. length read.0.items ≡ length found.slaves.items) }
     ensures journal { IfOk result (λ read. HasBytes (S.files store.old) (string_bytes line.now.journal) read.1.items) }
+    ensures judged { IfOk result (λ read. HasJournal (map length read.0.items) read.1.items) }
     ensures same { S.files store.new ≡ S.files store.old }
 {
     let slaves = judge_slaves(alloc, found, line.images.len())?;
-    let journal = read_file(alloc, line.journal.as_str(), store)?;
+    let journal = read_file(alloc, line.journal.as_str(), MOST_OF_JOURNAL, store)?;
+    judge_journal(alloc, &journal, &slaves)?;
     Ok((slaves, journal))
 }
 
@@ -165,7 +172,10 @@ fn lock_journal<S: Store>(
     ensures same { S.files store.new ≡ S.files store.old }
 {
     let Some(lock) = store.lock(line.journal.as_str())? else {
-        return Err(Fault::File);
+        return match store.look(line.journal.as_str())? {
+            Entry::Other => Err(Fault::NotAFile),
+            _ => Err(Fault::File),
+        };
     };
     match keep_line_apart(alloc, line, name, store) {
         Ok(()) => Ok(lock),
@@ -176,23 +186,25 @@ fn lock_journal<S: Store>(
     }
 }
 
-/// Opens the journal's file alone, for work on it in place.
+/// Opens the journal's file alone, of which these bytes were read, for work on it in place. It is replaced first by a new file with these
+/// bytes, as `Store::open` says.
 ///
 /// # Errors
 ///
-/// `File` where it is absent, or can't be opened for reading and writing, or can't be synced; `Memory`.
+/// `File` where it is absent, or can't be written, replaced or synced; `Memory`.
 pub fn open_journal<S: Store>(
     alloc: Global,
     line: &LineFile,
+    journal: &[u8],
     store: &mut S,
 ) -> Result<OpenFiles<S::File>, Fault>
-    ensures opened { IfOk result (λ files. S.opened files.journal (string_bytes line.now.journal)) }
+    ensures opened { IfOk result (λ files. S.opened files.journal (string_bytes line.now.journal) journal.now) }
     ensures others { ChangesOnly (S.files store.old) (S.files store.new) (string_bytes line.now.journal) }
     ensures failed { IfErr result station.IsOfStream }
 {
-    let journal = store.open(line.journal.as_str())?;
+    let opened = store.open(line.journal.as_str(), journal)?;
     Ok(OpenFiles {
-        journal,
+        journal: opened,
         images: Vec::new(alloc),
     })
 }

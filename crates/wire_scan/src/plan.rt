@@ -1,8 +1,11 @@
 //! Which files a backup writes.
-ghost use Rattle.std.specs.Prelude.{◌≡◌, vec_len, None, IfOk, IfSome, false};
+ghost use Rattle.std.specs.Prelude.{◌≡◌, vec_len, IfOk, IfSome, IsSome, false, true};
+ghost use Rattle.station_files.specs.FileNames.{IsLineApart};
 ghost use Rattle.station_files.specs.Files.{IsAbsent};
+ghost use Rattle.station_files.specs.LineFiles.{DescribesLine};
+ghost use Rattle.wire_scan.specs.Backup.{IsPlanned};
 
-use station_files::{Fault, Store, keep_line_apart, load_line};
+use station_files::{Entry, Fault, Store, keep_line_apart, load_line};
 use station_text::{LineFile, read_line};
 use std::alloc::{AllocError, Global};
 use std::io;
@@ -21,20 +24,40 @@ pub(crate) struct Plan {
 ///
 /// # Errors
 ///
-/// As for `load_line` and `keep_line_apart`; `OtherCount` where the line file names another number of slaves; `BadLine` where a line file can't spell
-/// names beside `name`; `Memory`.
+/// As for `load_line`; `BadLine` where a line file can't spell names beside `name`; as for `keep_line_apart`; `OtherCount` where the line file
+/// names another number of slaves; `Memory`.
 pub(crate) fn plan_backup<S: Store>(
     alloc: Global,
     name: &str,
     slaves: usize,
     store: &mut S,
 ) -> Result<Plan, WireFault>
+    ensures planned { IfOk result (λ plan. IsPlanned (S.files store.old) name.now plan.line plan.text) }
+    ensures apart { IfOk result (λ plan. IsLineApart S.leads plan.line name.now) }
     ensures count { IfOk result (λ plan. vec_len plan.line.images ≡ slaves) }
-    ensures absent { IfOk result (λ plan. IfSome plan.text (λ _. IsAbsent (S.files store.old) name.now)) }
     ensures same { S.files store.new ≡ S.files store.old }
 {
-    if is_there(alloc, name, store)? {
-        old_line(alloc, name, slaves, store)
+    let plan = plan_line(alloc, name, slaves, store)?;
+    match keep_line_apart(alloc, &plan.line, name, store) {
+        Ok(()) if plan.line.images.len() == slaves => Ok(plan),
+        Ok(()) => Err(WireFault::OtherCount { slaves }),
+        Err(fault) => Err(WireFault::Station(fault)),
+    }
+}
+
+/// The line of the line file, or that of a new one for so many slaves where there is none.
+fn plan_line<S: Store>(
+    alloc: Global,
+    name: &str,
+    slaves: usize,
+    store: &mut S,
+) -> Result<Plan, Fault>
+    ensures planned { IfOk result (λ plan. IsPlanned (S.files store.old) name.now plan.line plan.text) }
+    ensures same { S.files store.new ≡ S.files store.old }
+{
+    if is_there(name, store)? {
+        let line = load_line(alloc, name, store)?;
+        Ok(Plan { line, text: None })
     } else {
         let text = line_text(alloc, name, slaves)?;
         let line = line_of_text(alloc, text.as_str(), slaves)?;
@@ -45,38 +68,19 @@ pub(crate) fn plan_backup<S: Store>(
     }
 }
 
-/// Whether the file is there.
+/// Whether the name leads to a file, or to anything else. Nothing is read.
 ///
 /// # Errors
 ///
-/// `File` where it can't be read; `Memory`.
-pub(crate) fn is_there<S: Store>(alloc: Global, name: &str, store: &mut S) -> io::Result<bool>
+/// It leads to a folder, or the system can't tell.
+pub(crate) fn is_there<S: Store>(name: &str, store: &mut S) -> io::Result<bool>
     ensures absent { IfOk result (λ there. there ≡ false → IsAbsent (S.files store.old) name.now) }
+    ensures there { IfOk result (λ there. there ≡ true → IfSome (S.files store.old name.now) (λ held. IsSome held)) }
     ensures same { S.files store.new ≡ S.files store.old }
 {
-    match store.read(alloc, name)? {
-        Some(_) => Ok(true),
-        None => Ok(false),
-    }
-}
-
-/// The plan by a line file that is there.
-fn old_line<S: Store>(
-    alloc: Global,
-    name: &str,
-    slaves: usize,
-    store: &mut S,
-) -> Result<Plan, WireFault>
-    ensures count { IfOk result (λ plan. vec_len plan.line.images ≡ slaves) }
-    ensures old { IfOk result (λ plan. plan.text ≡ None) }
-    ensures same { S.files store.new ≡ S.files store.old }
-{
-    let line = load_line(alloc, name, store)?;
-    keep_line_apart(alloc, &line, name, store)?;
-    if line.images.len() == slaves {
-        Ok(Plan { line, text: None })
-    } else {
-        Err(WireFault::OtherCount { slaves })
+    match store.look(name)? {
+        Entry::Absent => Ok(false),
+        Entry::File { .. } | Entry::Other => Ok(true),
     }
 }
 
@@ -92,7 +96,7 @@ pub(crate) fn new_line(alloc: Global, name: &str, slaves: usize) -> Result<LineF
 
 /// The line that the text describes, which has so many slaves.
 fn line_of_text(alloc: Global, text: &str, slaves: usize) -> Result<LineFile, Fault>
-    ensures { IfOk result (λ line. vec_len line.images ≡ slaves) }
+    ensures { IfOk result (DescribesLine text.now) }
 {
     let line = read_line(alloc, text)?;
     if line.images.len() == slaves {

@@ -1,8 +1,9 @@
 //! The sizes of the slaves' EEPROMs, as their image files have them.
 ghost use Rattle.std.specs.Prelude.{◌≡◌};
 
+use crate::plan::is_there;
 use sii_words::Words;
-use station_files::{Fault, Store};
+use station_files::{Fault, Store, read_image_file};
 use std::alloc::Global;
 use wire_bringup::Sizes;
 
@@ -10,8 +11,8 @@ use wire_bringup::Sizes;
 ///
 /// # Errors
 ///
-/// `File` where a file can't be read; `OddLength` and `BadSize` where one is no EEPROM image of 64 to 4,096 words, a multiple of 64;
-/// `Memory`.
+/// `File` where a file can't be read; `NotAFile`; `OddLength` and `BadSize` where one is no EEPROM image of 64 to 4,096 words, a multiple of
+/// 64; `Memory`.
 pub fn sizes_of_images<S: Store>(
     alloc: Global,
     names: &[String],
@@ -37,11 +38,10 @@ pub fn sizes_of_images<S: Store>(
 fn size_of_image<S: Store>(alloc: Global, name: &str, store: &mut S) -> Result<Option<u16>, Fault>
     ensures { S.files store.new ≡ S.files store.old }
 {
-    match store.read(alloc, name)? {
-        Some(bytes) => {
-            let words = Words::from_bytes(alloc, &bytes)?;
-            Ok(u16::try_from(words.len()).ok())
-        }
-        None => Ok(None),
+    if !is_there(name, store)? {
+        return Ok(None);
     }
+    let bytes = read_image_file(alloc, name, store)?;
+    let words = Words::from_bytes(alloc, &bytes)?;
+    Ok(u16::try_from(words.len()).ok())
 }

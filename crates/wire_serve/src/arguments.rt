@@ -6,6 +6,7 @@ use crate::slaves::{PowerCut, Practice, QuirkList};
 use command_line::{Given, Unread, read_typed, read_words, refuse};
 use station_json::Form;
 use std::alloc::Global;
+use std::time::Duration;
 use wire_bringup::Sizes;
 use wire_scan::{Asked, Named};
 use wire_session::RunOrder;
@@ -15,6 +16,8 @@ use wire_session::RunOrder;
 pub struct Arguments<'a> {
     /// The name of the file that the text goes to; `None` for standard error.
     pub text: Option<&'a str>,
+    /// How long a frame is waited for, if that is said.
+    pub time_out: Option<Duration>,
     /// The name of the file that each frame is written to, if there is one.
     pub capture: Option<&'a str>,
     /// Whose the wire is.
@@ -129,6 +132,7 @@ pub fn read_arguments<'a>(alloc: Global, words: &'a [String]) -> Result<Argument
     match task_of(&given) {
         Ok(task) => Ok(Arguments {
             text: given.text("text"),
+            time_out: time_out_of(&given),
             capture: given.text("capture"),
             tenure: tenure_of(&given),
             is_verbose: given.has("verbose"),
@@ -137,6 +141,14 @@ pub fn read_arguments<'a>(alloc: Global, words: &'a [String]) -> Result<Argument
             typed: read_typed(alloc, program, words, &given)?,
         }),
         Err(text) => Err(refuse(alloc, program, words, text)),
+    }
+}
+
+/// How long a frame is waited for, as `--timeout` says in milliseconds.
+fn time_out_of(given: &Given<'_>) -> Option<Duration> {
+    match given.text("timeout")?.parse::<u16>() {
+        Ok(0) | Err(_) => None,
+        Ok(milliseconds) => Some(Duration::from_millis(u64::from(milliseconds))),
     }
 }
 

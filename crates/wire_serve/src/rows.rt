@@ -1,8 +1,8 @@
 //! The subcommands of the program, with their help.
 
 use crate::shared_arguments::{
-    BESIDE, CAPTURE, EVENTS, FORCE, JSON, LINE, QUIET, REPORT, RESIZE, SCRIPT, TAKE, TEXT, TRUST,
-    VERBOSE, WORDS,
+    BESIDE, CAPTURE, EVENTS, FORCE, JSON, LINE, QUIET, REPORT, RESIZE, SCRIPT, TAKE, TEXT, TIMEOUT,
+    TRUST, VERBOSE, WORDS,
 };
 use command_line::{Argument, Kind, Program, Subcommand, TYPED_COMMANDS};
 
@@ -39,9 +39,10 @@ fn scan_row() -> Subcommand {
 const BACKUP_FILES: &str =
     "A line file that is there says where the images go. Where LINE isn't there it is
 written too: of a name like line.toml it names line-s0.bin, line-s1.bin and so on,
-and line-journal.bin. An image file that is there already is never written over:
-fault 94 Exists. An empty journal is made where there is none; one that is there
-stays as it is.
+and line-journal.bin. No file that is there already is written over. An image file
+with its slave's words counts as written, and an empty journal of the line as made;
+where one holds anything else comes fault 94 Exists, and nothing is written. So a
+backup that failed can be made again.
 
 Answers, a line for each slave whose word 0x3e tells another size than it has:
   slave P words N says W
@@ -338,7 +339,7 @@ Exit status: 0 done, 1 a command was refused, 2 wrong usage, 3 a file or its for
 4 the line, 5 no memory.";
 
 /// What stands before the subcommand.
-const OPTIONS: &[Argument] = &[TEXT, VERBOSE];
+const OPTIONS: &[Argument] = &[TEXT, TIMEOUT, VERBOSE];
 
 /// The program with these subcommands.
 pub(crate) fn wire_program(subcommands: &[Subcommand]) -> Program<'_> {

@@ -15,9 +15,10 @@ use std::io::{Read, Write};
 use std::rt::Clock;
 use std::sync::Wait;
 use std::thread::Threads;
+use std::time::Duration;
 use wire_bringup::Sizes;
 use wire_faults::WireFault;
-use wire_frames::{EthernetWire, NumberedWire, Wire};
+use wire_frames::{EthernetWire, NumberedWire, TimedWire, Wire};
 use wire_scan::{CaptureNames, backup_line, keep_capture_apart, scan_line};
 use wire_session::{begin_journal, init_on_wire, plan_on_wire, recover_line, run_script};
 
@@ -48,6 +49,8 @@ struct Job<'a> {
     task: Task<'a>,
     /// The name of the capture, if there is one.
     capture: Option<&'a str>,
+    /// How long a frame is waited for, if that is known.
+    time_out: Option<Duration>,
     /// Whose the wire is.
     tenure: Tenure,
     /// The number behind which the frames are numbered.
@@ -82,6 +85,7 @@ pub fn serve<
     let Arguments {
         task,
         capture,
+        time_out,
         tenure,
         typed,
         is_quiet,
@@ -91,6 +95,7 @@ pub fn serve<
     let job = Job {
         task,
         capture,
+        time_out,
         tenure,
         number,
         is_quiet,
@@ -144,7 +149,8 @@ fn serve_job<
     } = screen;
     match begin_apart(rt.alloc(), job.capture, job.task, store) {
         Ok(begun) => {
-            let captured = CapturedWire::new(wire, begun.as_ref(), rt);
+            let timed = TimedWire::new(wire, rt, job.time_out);
+            let captured = CapturedWire::new(timed, begun.as_ref(), rt);
             let ended = do_counted(rt, job, terminal, captured, store, output);
             let files = files_of(job.task, None);
             let status = status_of(rt.alloc(), ended, is_told, files, store, faults);

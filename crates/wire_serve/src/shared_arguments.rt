@@ -23,6 +23,13 @@ pub(crate) const TEXT: Argument = Argument {
     long_help: "",
 };
 
+pub(crate) const TIMEOUT: Argument = Argument {
+    id: "timeout",
+    kind: Kind::Small("MS"),
+    help: "After how many milliseconds a frame counts as lost, from its sending on",
+    long_help: "",
+};
+
 /// The second line of a fault.
 pub(crate) const VERBOSE: Argument = Argument {
     id: "verbose",

@@ -1,13 +1,15 @@
 -- What the files hold after a recovery on a wire.
-use Rattle.std.proofs.Common.{◌≡◌, ℕ, List, Result, Ok, Err, inl, inr, sym, subst}
+use Rattle.std.proofs.Common.{◌≡◌, ℕ, List, length, map, Result, Ok, Err, inl, inr, sym, subst, ◌∙◌}
 use Rattle.std.specs.Prelude.{⊤, IfErr, IsSomeAnd, OnOk, string_bytes}
 use Rattle.site_core.specs.State.{State, Seen}
 use Rattle.site_shadow.specs.Site.{SiteValue}
 use Rattle.station_alone.specs.Station.{Station}
 use Rattle.station_alone.specs.Recovery.{HasRecovered, BeginsRecovered}
 use Rattle.station_text.specs.declared.line_file.LineFile.{LineFile}
-use Rattle.station_files.specs.Files.{Known, ChangesAmong, ChangesOnly}
+use Rattle.station_files.specs.Files.{Known, HasBytes, ChangesAmong, ChangesOnly}
 use Rattle.station_files.specs.FileNames.{IsLineApart}
+use Rattle.station_files.specs.LineFiles.{SpellsLine, SpellsSlaves}
+use Rattle.station_files.proofs.Loaded.{of_held}
 use Rattle.station_files.specs.Locations.{Leads}
 use Rattle.station_line.specs.Site.{IsSiteOf, files_of, switched_on, HoldsSite}
 use Rattle.wire_faults.specs.declared.faults.WireFault.{WireFault}
@@ -16,9 +18,10 @@ use Rattle.station_line.specs.Init as bench
 use Rattle.station_line.specs.Init.{Formats}
 use Rattle.station_files.specs.declared.faults.Fault.TheVariants.{Exists}
 use Rattle.site_wire.specs.declared.device.WireTold.{WireTold}
+use Rattle.wire_scan.specs.Backup.{IsWithoutPast}
 use Rattle.wire_scan.specs.Opening.{IsFound}
 use Rattle.wire_session.specs.declared.told.Worked.{Worked}
-use Rattle.wire_session.specs.Recovery.{BeginsJournal, RefusesInit, EndsRecovery, Recovers, SavesRecovered}
+use Rattle.wire_session.specs.Recovery.{BeginsJournal, IsBegun, RefusesInit, EndsRecovery, Recovers, SavesRecovered}
 use Rattle.wire_session.specs.Slaves.{SlavesHold}
 use Rattle.station_files.specs.declared.faults.Fault.{Fault}
 use Rattle.wire_session.specs.Reporting.{IsPrinted}
@@ -101,7 +104,34 @@ refuses_early (wire.Running slave) old new leads name same = same
 refuses_early (wire.Held slave) old new leads name same = same
 refuses_early (wire.OtherSize command slave words) old new leads name same = same
 
+-- the line, the words and the journal were read one after the other
+pub begun_by : (old first second : Known) (name : List ℕ) (line : LineFile) (plant : List (List ℕ)) (bytes : List ℕ) → SpellsLine old name line → first ≡ old → SpellsSlaves first line plant → second ≡ first
+    → HasBytes second (string_bytes line.journal) bytes → IsWithoutPast bytes (map length plant) → IsBegun old name
+begun_by old first second name line plant bytes described same slaves still held empty =
+    let P : Known → Type 0 = λ files. SpellsSlaves files line plant in
+    let Q : Known → Type 0 = λ files. HasBytes files (string_bytes line.journal) bytes in
+    record {
+      line = line;
+      plant = plant;
+      described = described;
+      slaves = subst P same slaves;
+      journal = of_held (λ b. IsWithoutPast b (map length plant)) old (string_bytes line.journal) bytes (subst Q (still ∙ same) held) empty;
+    }
+
 -- the journal was there, so none was made
-pub begun_before : (old new : Known) (leads : Leads) (name : List ℕ) → bench.RefusesInit old new leads name Exists → BeginsJournal old new leads name
-begun_before old new leads name (inl (same, there)) = inr (same, there)
-begun_before old new leads name (inr (formats, never)) = absurd never
+pub unformatted : (old new : Known) (leads : Leads) (name : List ℕ) → bench.RefusesInit old new leads name Exists → new ≡ old
+unformatted old new leads name (inl refused) = refused.0
+unformatted old new leads name (inr (formats, never)) = absurd never
+
+pub begun_before : (old mid new : Known) (leads : Leads) (name : List ℕ) (result : Result (Unit {0}) WireFault) → bench.RefusesInit old mid leads name Exists → new ≡ mid → OnOk result (IsBegun mid name)
+    → OnOk result (BeginsJournal old new name)
+begun_before old mid new leads name (Ok done) refused same begun =
+    let unchanged : mid ≡ old = unformatted old mid leads name refused in
+    let P : Known → Type 0 = λ files. IsBegun files name in
+    inr (same ∙ unchanged, subst P unchanged begun)
+begun_before old mid new leads name (Err fault) refused same begun = tt
+
+pub refused_before : (old mid new : Known) (leads : Leads) (name : List ℕ) (result : Result (Unit {0}) WireFault) → bench.RefusesInit old mid leads name Exists → new ≡ mid
+    → IfErr result (RefusesInit old new leads name)
+refused_before old mid new leads name (Ok done) refused same = tt
+refused_before old mid new leads name (Err fault) refused same = refuses_early fault old new leads name (same ∙ unformatted old mid leads name refused)

@@ -10,9 +10,8 @@ use Rattle.station_alone.specs.Station.{Station}
 use Rattle.station_alone.specs.Recovery.{HasRecovered}
 use Rattle.station_text.specs.declared.line_file.LineFile.{LineFile}
 use Rattle.station_files.specs.Files.{Known, ChangesAmong, ChangesOnly}
-use Rattle.station_files.specs.FileNames.{files_with, written_of}
-use Rattle.station_files.specs.Locations.{AreApart, Leads}
-use Rattle.station_files.specs.ScriptFiles.{NamesImages, SpellsCommands}
+use Rattle.station_files.specs.Locations.{Leads}
+use Rattle.station_files.specs.ScriptFiles.{SpellsCommands}
 use Rattle.station_files.specs.declared.faults.ExitStatus.{ExitStatus}
 use Rattle.station_files.specs.declared.faults.ExitStatus.TheVariants.{Done}
 use Rattle.script_session.specs.declared.threads.Left.{Left}
@@ -67,7 +66,7 @@ at_desk new line opened commands left status leaves same saves = record {
 
 pub ends_at_desk : {D T : Type 0} (follows : D → Seen → Type 0) (well : D → Type 0) (tells : D → T → Type 0) (result : Result ExitStatus WireFault) (old new : Known) (line : LineFile)
     (slaves : ℕ) (opened : Station) (commands : List Command) (left : Left SiteValue T) (told : LineTold T) → LeavesSo opened commands left.ending left.site
-    → (left.ending.is_driven ≡ false → left.unserved.items ≡ commands) → ServesFollowed follows well tells opened commands left
+    → (left.ending.is_driven ≡ false → left.unserved.items ≡ commands) → ServesFollowed follows well tells false opened commands left
     → OnOk result (left.sound ≡ Ok tt) → told.desk ≡ left.told
     → OnOk result (IsTrue left.ending.is_driven → SavesFollowed (LedOn follows well tells told.behind slaves left.site.seen) new line)
     → Ends (λ status. SavesLeft new line left status) result old new line
@@ -157,7 +156,7 @@ found_behind old mid name line plant bytes same found = subst (λ (files : Known
 
 pub runs : (worked : Worked ExitStatus WireTold) (leads : Leads) (old found new : Known) (name script : List ℕ) (line : LineFile)
     (plant : List (List ℕ)) (bytes : List ℕ) (commands : List Command) → IsFound old name line plant bytes
-    → SpellsCommands old script commands → IsRunApart old leads None line name script → found ≡ old
+    → SpellsCommands old script commands → IsRunApart leads None line name script → found ≡ old
     → EndsFound worked found new line plant bytes commands → RunsScript worked leads old new name script
 runs worked leads old found new name script line plant bytes commands given spelt apart same ends =
     let P : Known → Type 0 = λ files. EndsFound worked files new line plant bytes commands in
@@ -171,10 +170,3 @@ runs worked leads old found new name script line plant bytes commands given spel
       apart = apart;
       ends = subst P same ends;
     })
-
--- the files of the script stand apart from those of the line
-pub script_apart : (files : Known) (leads : Leads) (line : LineFile) (name script : List ℕ) (images : List (List ℕ))
-    → NamesImages files script images
-    → AreApart leads (length (written_of None line)) (files_with None line name ++ script ∷ images)
-    → IsRunApart files leads None line name script
-script_apart files leads line name script images named apart = record { images = images; named = named; apart = apart }

@@ -26,5 +26,5 @@ pub record PlansOnWire (leads : Leads) (files : Known) (name script : List ℕ) 
   pub found : IsFound files name line plant bytes
   pub commands : List Command
   pub spelt : SpellsCommands files script commands
-  pub apart : IsRunApart files leads None line name script
+  pub apart : IsRunApart leads None line name script
   pub plans : PlansFound plant bytes commands status

@@ -1,17 +1,18 @@
 -- `init` and `recover` on a wire: what the files hold in the end.
-use Rattle.std.specs.Prelude.{◌≡◌, ◌⊎◌, ℕ, List, Result, IsErr, IsSomeAnd, ⊤}
+use Rattle.std.specs.Prelude.{◌≡◌, ◌⊎◌, ℕ, List, map, length, string_bytes, Result, IsErr, IsSomeAnd, ⊤}
 use Rattle.site_core.specs.State.{Seen}
 use Rattle.station_text.specs.declared.line_file.LineFile.{LineFile}
-use Rattle.station_files.specs.Files.{Known}
+use Rattle.station_files.specs.Files.{Known, Holds}
 use Rattle.station_files.specs.FileNames.{IsLineApart}
+use Rattle.station_files.specs.LineFiles.{SpellsLine, SpellsSlaves}
 use Rattle.station_files.specs.Locations.{Leads}
-use Rattle.station_files.specs.declared.faults.Fault.TheVariants.{Exists}
 use Rattle.station_alone.specs.Station.{Station}
 use Rattle.station_alone.specs.Recovery.{HasRecovered, BeginsRecovered}
 use Rattle.station_line.specs.Init as bench
 use Rattle.station_line.specs.Site.{switched_on, HoldsSite}
 use Rattle.wire_faults.specs.declared.faults.WireFault.{WireFault}
 use Rattle.wire_faults.specs.declared.faults.WireFault.TheVariants as wire
+use Rattle.wire_scan.specs.Backup.{IsWithoutPast}
 use Rattle.wire_scan.specs.Opening.{IsFound}
 use Rattle.site_wire.specs.declared.device.WireTold.{WireTold}
 use Rattle.wire_session.specs.declared.told.Worked.{Worked}
@@ -49,6 +50,14 @@ abbrev pub RefusesInit : Known → Known → Leads → List ℕ → WireFault �
 RefusesInit old new leads name (wire.Station fault) = (new ≡ old) ⊎ bench.RefusesInit old new leads name fault
 RefusesInit old new leads name fault = new ≡ old
 
--- the journal is made, or it was there and no file has changed
-abbrev pub BeginsJournal : Known → Known → Leads → List ℕ → Type 0
-BeginsJournal old new leads name = bench.Formats ⊤ old new name ⊎ ((new ≡ old) × bench.RefusesUnformatted old leads name Exists)
+-- The files spell a line and the words of its slaves, and its journal's file holds an empty journal of them.
+pub record IsBegun (files : Known) (name : List ℕ) : Type 0 where
+  pub line : LineFile
+  pub plant : List (List ℕ)
+  pub described : SpellsLine files name line
+  pub slaves : SpellsSlaves files line plant
+  pub journal : Holds files (string_bytes line.journal) (λ bytes. IsWithoutPast bytes (map length plant))
+
+-- an empty journal of the line is made, or it was there and no file has changed
+abbrev pub BeginsJournal : Known → Known → List ℕ → Type 0
+BeginsJournal old new name = bench.Formats ⊤ old new name ⊎ ((new ≡ old) × IsBegun old name)

@@ -55,7 +55,7 @@ pub record RunsFound (worked : Worked ExitStatus WireTold) (leads : Leads) (old 
   pub found : IsFound old name line plant bytes
   pub commands : List Command
   pub spelt : SpellsCommands old script commands
-  pub apart : IsRunApart old leads None line name script
+  pub apart : IsRunApart leads None line name script
   pub ends : EndsFound worked old new line plant bytes commands
 
 -- what `run` does: it stops before it writes, or it runs the commands

@@ -143,7 +143,7 @@ fn recover_opened<
         slaves,
         journal,
     } = found;
-    let files = match open_journal(rt.alloc(), line, store) {
+    let files = match open_journal(rt.alloc(), line, &journal, store) {
         Ok(files) => files,
         Err(fault) => {
             drop(journal);

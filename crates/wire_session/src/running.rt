@@ -1,7 +1,7 @@
 //! The subcommand `run`.
-ghost use Rattle.std.specs.Prelude.{◌≡◌, ◌≤◌, ◌∷◌, ◌++◌, length, None, IfOk, IfSome, IsSomeAnd, IsTrue, OnOk};
+ghost use Rattle.std.specs.Prelude.{◌≡◌, ◌≤◌, ◌∷◌, ◌++◌, [], length, None, IfOk, IfSome, IsSomeAnd, IsTrue, OnOk};
 ghost use Rattle.esc_rom.specs.Owned.{OwnsAll};
-ghost use Rattle.station_files.specs.FileNames.{files_with, spelt, written_of};
+ghost use Rattle.station_files.specs.FileNames.{files_with, written_of};
 ghost use Rattle.station_files.specs.Locations.{AreApart};
 ghost use Rattle.station_files.specs.ScriptFiles.{SpellsCommands};
 ghost use Rattle.station_line.specs.Judging.{IsRunApart};
@@ -22,7 +22,7 @@ use sii_words::Plant;
 use site_file::FileDevice;
 use site_shadow::ShadowSite;
 use site_wire::{LiveLine, LockedLine, TellsPart, WireDevice, WireTold};
-use station_files::{ExitStatus, Fault, Script, Store, load_script_files};
+use station_files::{ExitStatus, Fault, Store, load_script};
 use station_line::{is_old, of_open, open_station, site_of};
 use station_text::LineFile;
 use std::alloc::{AllocError, Global};
@@ -66,8 +66,8 @@ struct Start<S> {
 ///
 /// # Errors
 ///
-/// As for `load_script_files`; then as for `find_line` and `keep_script_apart`; then, unless that is allowed, as for `judge_commands`. Nothing
-/// is written up to there. Then as for `open_journal`, `open_station` and `serve_by_threads`, or why the line on the wire has stopped. No image
+/// As for `load_script`; then as for `find_line` and `keep_script_apart`; then, unless that is allowed, as for `judge_commands`. Nothing
+/// is written up to there. Then as for `open_journal`, `open_station` and `serve_task`, or why the line on the wire has stopped. No image
 /// file is written up to there, and a recovery completes what was begun. Then `File` or `Memory`, as the store answers.
 pub fn run_script<
     R: Wait + Threads + Clock + AllocGlobal + Sync,
@@ -109,51 +109,48 @@ pub(crate) fn find_all<R: Clock + AllocGlobal, W: Wire, S: Store>(
     ensures most { IfOk result (λ given. length given.found.slaves.items ≤ 64) }
     ensures spelt { IfOk result (λ given. SpellsCommands (S.files store.old) order.entry.named.script.now given.commands.items) }
     ensures apart { IfOk result (λ given.
-        IsRunApart (S.files store.old) S.leads None given.found.line order.entry.named.line.now order.entry.named.script.now) }
+        IsRunApart S.leads None given.found.line order.entry.named.line.now order.entry.named.script.now) }
     ensures same { S.files store.new ≡ S.files store.old }
 {
     let RunOrder { named, asked } = order;
-    let loaded = load_script_files(rt.alloc(), named.script, store)?;
+    let commands = load_script(rt.alloc(), named.script, store)?;
     match find_line(rt, wire, named.line, asked, store) {
-        Ok(found) => match judge_script(rt.alloc(), named, &found, &loaded, asked, store) {
-            Ok(()) => Ok(Given {
-                found,
-                commands: loaded.commands,
-            }),
+        Ok(found) => match judge_script(rt.alloc(), named, &found, &commands, asked, store) {
+            Ok(()) => Ok(Given { found, commands }),
             Err(fault) => {
                 hand_back(wire, &found.states);
                 drop(found);
-                drop(loaded);
+                drop(commands);
                 Err(fault)
             }
         },
         Err(fault) => {
-            drop(loaded);
+            drop(commands);
             Err(fault)
         }
     }
 }
 
-/// Looks whether the files of the script stand apart from those of the line, and whether its commands may be run on the slaves.
+/// Looks whether the script stands apart from the files of the line, and whether its commands may be run on the slaves.
 fn judge_script<S: Store>(
     alloc: Global,
     named: Named<'_>,
     found: &Found<S::Lock>,
-    loaded: &Script,
+    commands: &[Command],
     asked: Asked,
     store: &mut S,
 ) -> Result<(), WireFault>
     requires some { 1 ≤ length found.now.slaves.items }
     requires most { length found.now.slaves.items ≤ 64 }
     ensures apart { OnOk result (AreApart S.leads (length (written_of None found.now.line))
-        (files_with None found.now.line named.entry.line.now ++ named.entry.script.now ∷ spelt loaded.now.images.items)) }
+        (files_with None found.now.line named.entry.line.now ++ named.entry.script.now ∷ [])) }
     ensures same { S.files store.new ≡ S.files store.old }
 {
-    keep_script_apart(alloc, &found.line, named, &loaded.images, store)?;
+    keep_script_apart(alloc, &found.line, named, store)?;
     if asked.resizes {
         return Ok(());
     }
-    judge_commands(alloc, &found.slaves, &loaded.commands)
+    judge_commands(alloc, &found.slaves, commands)
 }
 
 /// Runs the commands on a line that was found, hands the EEPROMs back, and prints what has changed if that is asked for.
@@ -235,7 +232,7 @@ fn run_opened<
         slaves,
         journal,
     } = found;
-    let files = match open_journal(rt.alloc(), line, store) {
+    let files = match open_journal(rt.alloc(), line, &journal, store) {
         Ok(files) => files,
         Err(fault) => {
             drop(journal);

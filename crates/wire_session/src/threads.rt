@@ -8,7 +8,7 @@ ghost use Rattle.wire_session.specs.Running.{SavesDesk};
 ghost use Rattle.wire_session.specs.Slaves.{AreOfParts, LedAtDesk};
 
 use crate::told::{LineTold, Worked, are_of_parts};
-use script_session::{DeskLeft, Ending, Left, Work, end_line, serve_by_threads};
+use script_session::{DeskLeft, Ending, Left, Task, Work, end_line, serve_task};
 use site_shadow::{Lends, ShadowSite};
 use site_wire::TellsPart;
 use station_alone::Alone;
@@ -41,7 +41,9 @@ pub(crate) fn run_threads<
         LedAtDesk D.follows D.well D.tells (length line.now.images.items) alone told last)) (S.files store.new) line.now alone work.commands.items)
         result.ended (S.files store.old) (S.files store.new) line.now }
 {
-    match serve_by_threads(rt, rt.alloc(), alone, line.images.len(), work, output) {
+    // No process data go over a wire: no slave is in a state in which it takes them (ETG.1000.6).
+    let task = Task { work, turns: false };
+    match serve_task(rt, rt.alloc(), alone, line.images.len(), task, output) {
         Ok(left) => {
             if !are_of_parts::<D>(&left.told) {
                 drop(left);

@@ -8,7 +8,7 @@ use site_shadow::Parts;
 use site_wire::StopReason;
 use std::alloc::Global;
 use wire_bringup::{Sizes, SlaveState, hand_back};
-use wire_frames::{LineFault, NumberedWire};
+use wire_frames::{Cause, LineFault, NumberedWire};
 use wire_practice::{NO_QUIRKS, Quirks};
 
 // A slave with the station address that a master has given it, whose words take three milliseconds to write.
@@ -48,6 +48,25 @@ const HELD: Slave = Slave {
         station: Some(0x03ea),
         is_held: true,
         ..OPERATIONAL
+    },
+    ..BLANK
+};
+
+// Ones that stay busy with each command.
+const STUCK: Slave = Slave {
+    quirks: STAYS_BUSY,
+    ..BLANK
+};
+
+const STAYS_BUSY: Quirks = Quirks {
+    delay: u32::MAX,
+    ..OPERATIONAL
+};
+
+const OTHER_STUCK: Slave = Slave {
+    quirks: Quirks {
+        station: Some(0x03ea),
+        ..STAYS_BUSY
     },
     ..BLANK
 };
@@ -149,8 +168,8 @@ const CASES: &[(Habits, Option<usize>)] = &[
     ),
 ];
 
-// A wire that a master with these habits lends. None: memory was refused.
-fn lent<'f>(
+/// A wire that a master with these habits lends. None: memory was refused.
+pub(crate) fn lent<'f>(
     alloc: Global,
     bench: &'f Bench,
     slaves: &[Slave],
@@ -319,4 +338,30 @@ fn slaves_are_found_as_a_master_left_them(rt: HostRuntime) {
     for (slaves, is_forced, findings) in FOUND {
         assert!(rt; is_found(rt.alloc(), slaves, *is_forced, findings) == Some(true));
     }
+}
+
+const BUSY: Finding = Finding::Dead(Cause::StuckBusy);
+
+// After how many microseconds this is found beside a master.
+fn time_of(alloc: Global, slaves: &[Slave], findings: &Findings) -> Option<u64> {
+    let bench = Bench::new();
+    let mut wire = lent(alloc, &bench, slaves, PROMPT, false)?;
+    if finds(alloc, &bench, &mut wire, &Sizes::unknown(), findings) {
+        Some(bench.clock.now())
+    } else {
+        None
+    }
+}
+
+// Two slaves that stay busy take no more than a tenth longer than one.
+#[test]
+fn busy_slaves_are_given_up_together(rt: HostRuntime) {
+    let one = time_of(rt.alloc(), &[OTHER, STUCK], &Ok(&[OPEN, BUSY])).unwrap_or(0);
+    let two = time_of(
+        rt.alloc(),
+        &[STUCK, OTHER, OTHER_STUCK],
+        &Ok(&[BUSY, OPEN, BUSY]),
+    )
+    .unwrap_or(u64::MAX);
+    assert!(rt; one > 20_000_000 && two < one.saturating_add(one / 10));
 }

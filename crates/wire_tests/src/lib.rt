@@ -1,5 +1,5 @@
-//! Tests of a line on a wire in memory: frames that are lost, doubled, late and falsified, what a capture of them holds, slaves with the
-//! quirks of real ones, slaves that lose their power, and a master that lends its wire.
+//! Tests of a line on a wire in memory: frames that are lost, doubled, late and falsified, or stand behind others' frames, what a capture of
+//! them holds, slaves with the quirks of real ones, slaves that lose their power, and a master that lends its wire.
 #![tactic(auto)]
 
 #[cfg(test)]
@@ -13,6 +13,8 @@ mod captured_wire;
 #[cfg(test)]
 mod handing;
 #[cfg(test)]
+mod loading;
+#[cfg(test)]
 mod master;
 #[cfg(test)]
 mod mishaps;
@@ -22,3 +24,5 @@ mod quirks;
 mod side_by_side;
 #[cfg(test)]
 mod sizes;
+#[cfg(test)]
+mod time_outs;

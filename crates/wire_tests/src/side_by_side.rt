@@ -6,6 +6,7 @@ use std::alloc::Global;
 use wire_bringup::Sizes;
 use wire_frames::{Cause, LineFault};
 use wire_practice::{Cable, Fate, Mishap, NO_QUIRKS, PowerLoss, Quirks};
+use wire_words::Extent;
 
 // A slave of 64 words, each its own number, whose chip repeats.
 const PLAIN: Slave = Slave {
@@ -118,6 +119,23 @@ const EMULATED_LOSES_POWER: Slave = Slave {
     ..PLAIN
 };
 
+// One of 128 words.
+const LARGER: Slave = Slave {
+    words: 128,
+    content: Content::Numbers(128, 1),
+    alias: 0,
+    quirks: Quirks {
+        chip: Some(128),
+        ..NO_QUIRKS
+    },
+};
+
+const SIX_LARGER: &[Slave] = &[LARGER, LARGER, LARGER, LARGER, LARGER, LARGER];
+
+const SIZE: Finding = Finding::Size(128, 128, Extent::Repeats(128), false);
+
+const SIX_SIZES: &[Finding] = &[SIZE, SIZE, SIZE, SIZE, SIZE, SIZE];
+
 const PLAINS: &[Slave] = &[PLAIN, PLAIN, PLAIN];
 
 const MIXED: &[Slave] = &[PLAIN, WIDE, PLAIN];
@@ -181,23 +199,24 @@ const OVERCOUNTED: Mishap = Mishap {
     fate: Fate::Turned(13, 0x80),
 };
 
-// How many frames are sent before those with a datagram for each of three slaves: a broadcast, another one, and three addresses; AL status
-// and access of three; and for each of three access by force, access given back, a poll and a clearing.
-const BEFORE: u32 = 2 + 3 + 2 * 3 + 4 * 3;
+// How many frames are sent before those that tell each of three slaves to read: a broadcast, another one, and three addresses; AL status and
+// access of three; for each of three access by force, and access given back; a poll and a clearing of all three.
+const BEFORE: u32 = 2 + 3 + 2 * 3 + 2 * 3 + 2;
 
-// The first frame of many has three commands of six bytes, at bytes 2, 20 and 38, and the number at 56. The second one has three polls of
+// The first of these frames has three commands of ten bytes, at bytes 2, 24 and 46, and the number at 68. The second one has three polls of
 // two bytes, at 2, 16 and 30, and the third one three fetches of four, at 2, 18 and 34. Of a datagram, byte 0 is the command, 2 and 3 are
 // the station address, 4 and 5 the register, 6 the length, 10 and further the content, and the working counter is behind that.
 const TURNED: &[(&[Slave], u32, usize, u8)] = &[
     // Command, address, register, length, content and counter of the second command; the frame's number.
-    (PLAINS, 0, 20, 1),
-    (PLAINS, 0, 22, 1),
-    (PLAINS, 0, 24, 2),
+    (PLAINS, 0, 24, 1),
     (PLAINS, 0, 26, 1),
-    (PLAINS, 0, 32, 1),
+    (PLAINS, 0, 28, 2),
+    (PLAINS, 0, 30, 1),
     (PLAINS, 0, 36, 1),
-    (PLAINS, 0, 36, 3),
-    (PLAINS, 0, 58, 1),
+    (PLAINS, 0, 42, 1),
+    (PLAINS, 0, 44, 1),
+    (PLAINS, 0, 44, 3),
+    (PLAINS, 0, 70, 1),
     // Busy, an error, and the counter of the second poll.
     (PLAINS, 1, 27, 0x80),
     (PLAINS, 1, 27, 0x20),
@@ -281,15 +300,17 @@ type Case = (
 );
 
 // The frames to slaves that are all read: each pair of words takes three frames for all slaves: 32 pairs of the first 64 words, and as many
-// from each of seven words on at which chips may begin to repeat. Besides there are two broadcasts, and seven frames for each slave. Of slaves
-// that load eight bytes each four words take three frames: 16 times, and as many from each of the seven words on.
+// from each of seven words on at which chips may begin to repeat. Besides there are two broadcasts, a poll and a clearing of all slaves, and five
+// frames for each slave. Of slaves that load eight bytes each four words take three frames: 16 times, and as many from each of the seven words on.
+// Of slaves of 128 words 64 pairs are read, and 32 from each of six words on.
 const CASES: &[Case] = &[
     (&[PLAIN], None, WELL, Ok(&[READ]), Some(777)),
-    (&[PLAIN, PLAIN], None, WELL, Ok(&[READ, READ]), Some(784)),
-    (PLAINS, None, WELL, Ok(ALL_READ), Some(791)),
+    (&[PLAIN, PLAIN], None, WELL, Ok(&[READ, READ]), Some(782)),
+    (PLAINS, None, WELL, Ok(ALL_READ), Some(787)),
     (&[WIDE], None, WELL, Ok(&[READ]), Some(393)),
-    (&[WIDE, WIDE], None, WELL, Ok(&[READ, READ]), Some(400)),
-    (&[WIDE, WIDE, WIDE], None, WELL, Ok(ALL_READ), Some(407)),
+    (&[WIDE, WIDE], None, WELL, Ok(&[READ, READ]), Some(398)),
+    (&[WIDE, WIDE, WIDE], None, WELL, Ok(ALL_READ), Some(403)),
+    (SIX_LARGER, None, WELL, Ok(SIX_SIZES), Some(802)),
     (&[PLAIN, BUSY, SLOW], None, WELL, Ok(ALL_READ), None),
     (&[SLOW, MISSES, BUSY], None, WELL, Ok(ALL_READ), None),
     (
@@ -418,4 +439,26 @@ fn slow_slaves_are_read_at_the_same_time(rt: HostRuntime) {
     let one = time_of(rt.alloc(), &ONE_SLOW, &Ok(&[READ])).unwrap_or(0);
     let three = time_of(rt.alloc(), &THREE_SLOW, &Ok(ALL_READ)).unwrap_or(u64::MAX);
     assert!(rt; one >= 256 * 2_000 && three <= one.saturating_add(one / 10));
+}
+
+// One slave that stays busy, and four beside one that is read.
+const ONE_BUSY: Line<'static> = Line {
+    slaves: &[STAYS_BUSY],
+    ..ONE_SLOW
+};
+
+const FOUR_BUSY: Line<'static> = Line {
+    slaves: &[STAYS_BUSY, STAYS_BUSY, EMULATED, STAYS_BUSY, STAYS_BUSY],
+    ..ONE_SLOW
+};
+
+const FOUR_STUCK: &[Finding] = &[STUCK, STUCK, READ, STUCK, STUCK];
+
+// They are given up together behind 10,000 frames, with pauses of a millisecond at most.
+#[test]
+fn slaves_that_stay_busy_are_given_up_together(rt: HostRuntime) {
+    let one = time_of(rt.alloc(), &ONE_BUSY, &Ok(&[STUCK])).unwrap_or(0);
+    let four = time_of(rt.alloc(), &FOUR_BUSY, &Ok(FOUR_STUCK)).unwrap_or(u64::MAX);
+    assert!(rt; one > 10_000_000 && one < 10_500_000);
+    assert!(rt; four < one.saturating_add(one / 10));
 }

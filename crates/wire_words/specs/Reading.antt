@@ -38,15 +38,19 @@ NothingTold reader = has_told reader.phase ≡ false
 -- A reader that polls or fetches has an answer of its slave to the command to read from its word on; one that fetches eight bytes has one that
 -- shows that the slave loads so many.
 pub record IsUnderWay (Gives : List ℕ → Type 0) (reader : Reader) : Type 0 where
-  pub told : has_told reader.phase ≡ true → Answered Gives reader.station 5 0x0502 (read_command reader.word)
+  pub told : has_told reader.phase ≡ true → Answered Gives reader.station 5 0x0502 (read_command reader.word reader.held)
   pub eight : reader.phase ≡ phase.Fetches size.Eight → ShowsEight Gives reader.station
 
--- The second reader is at the same word of the same slave as the first one, which saw this control and status. It polls or fetches only if
--- that one does, and fetches eight bytes only if that one does or bit 6 is set.
-pub record GoesOn (status : ℕ) (before after : Reader) : Type 0 where
+-- The second reader is at the same word of the same slave as the first one.
+pub record StaysAt (before after : Reader) : Type 0 where
   pub station : after.station ≡ before.station
   pub word : after.word ≡ before.word
-  pub told : has_told after.phase ≡ true → has_told before.phase ≡ true
+
+-- It is, and the first one saw this control and status. The second one polls or fetches only if that one does, with the same byte in the data
+-- register, and fetches eight bytes only if that one does or bit 6 is set.
+pub record GoesOn (status : ℕ) (before after : Reader) : Type 0 where
+  pub stays : StaysAt before after
+  pub told : has_told after.phase ≡ true → (has_told before.phase ≡ true) × (after.held ≡ before.held)
   pub eight : after.phase ≡ phase.Fetches size.Eight → (before.phase ≡ phase.Fetches size.Eight) ⊎ ((status / 0x40) % 2 ≡ 1)
 
 -- two words that were kept came over the wire

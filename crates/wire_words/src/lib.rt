@@ -13,4 +13,4 @@ pub use in_step::{Readers, read_in_step};
 pub use reader::Reader;
 pub use reading::Read;
 pub use sizing::{Extent, Measured, SizeFound, judge_size, measure};
-pub use telling::{Hitch, clear, put, tell};
+pub use telling::{Hitch, put, tell};

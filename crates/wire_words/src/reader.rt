@@ -1,21 +1,31 @@
 //! Reading the words of a slave in steps: one datagram of it, and then the answer.
-ghost use Rattle.std.specs.Prelude.{◌≡◌, ◌⊎◌, true, false, length, IfSome};
+ghost use Rattle.std.specs.Prelude.{◌≡◌, ◌⊎◌, true, false, length, IfSome, None};
 ghost use Rattle.ecat_frame.specs.Command.{code_of};
 ghost use Rattle.ecat_frame.specs.declared.command.Command.TheVariants.{Fprd, Fpwr};
 ghost use Rattle.wire_frames.specs.Came.{CameOver, Told};
 ghost use Rattle.wire_frames.specs.Sending.{InEeprom, OnlyEeprom};
 ghost use Rattle.wire_words.specs.Words.{WordsRead};
-ghost use Rattle.wire_words.specs.Reading.{has_told, GoesOn, IsUnderWay};
+ghost use Rattle.wire_words.specs.Reading.{has_told, GoesOn, StaysAt, IsUnderWay};
 ghost use Rattle.wire_words.specs.declared.reader.Phase.TheVariants as phase;
 
-use crate::reading::{EMPTY, Read, ReadSize, read_content};
+use crate::reading::{EMPTY, Read, ReadSize, are_other, read_content};
 use crate::sizing::{block_behind, words_ahead};
+use crate::telling::Hitch;
 use ecat_frame::{Command, Datagram, Frame, fp};
-use esc_rom::{CONTENT, CONTROL, POLLS};
-use wire_frames::{Reply, UNCOUNTED, Wire, reply_at};
+use esc_rom::{CONTENT, CONTROL};
+use wire_frames::{Last, Reply, UNCOUNTED, Wire, reply_at};
 
-/// How often a reader tries the same words.
+/// How often a reader tries the same words that reads beside others.
 const READINGS: u32 = 3;
+
+/// How often words are fetched that aren't loaded yet, before they are read again. With the pauses between, that takes 0.09 seconds.
+const FETCHES: u32 = 100;
+
+/// What stands in the data register first, before words are loaded: a byte that EEPROMs seldom hold.
+const HELD: u8 = 0xb9;
+
+/// What is added to that byte as words are read again. Of five such bytes that follow one another one is none of four that are read.
+const NEXT_HELD: u8 = 0x35;
 
 /// What a reader does next.
 #[derive(Clone, Copy, PartialEq, Eq)]
@@ -26,7 +36,7 @@ pub(crate) enum Phase {
     Polls,
     /// It fetches so many bytes of them.
     Fetches(ReadSize),
-    /// Something went amiss. It polls until the slave is idle.
+    /// It polls until the slave is idle: at first, and where something went amiss.
     Settles,
     /// It clears the slave's errors: command 000.
     Clears,
@@ -41,17 +51,45 @@ pub struct Reader {
     pub(crate) station: u16,
     /// The word from which on it reads.
     pub(crate) word: u16,
+    /// How many words the slave has, if that is given.
+    given: Option<u16>,
     /// It reads each word before this one, and behind it the blocks at which chips may begin to repeat.
     all_before: u16,
     /// It reads no word from this one on.
     end: u16,
     pub(crate) phase: Phase,
+    /// How often it tries the same words.
+    tries: u32,
     /// How often it has stumbled at this word.
-    stumbles: u32,
-    /// How many polls in a row found the slave busy, or were not counted.
-    polls: u32,
+    pub(crate) stumbles: u32,
+    /// The byte that its command puts where the words come to stand.
+    pub(crate) held: u8,
+    /// How many fetches in a row found that byte there yet.
+    early: u32,
     /// How many polls in a row were not counted by one slave alone.
     uncounted: u32,
+    /// The last poll that didn't find the slave idle.
+    poll: Last,
+    /// What it stumbled at last.
+    stumble: Last,
+}
+
+/// Nothing was asked.
+const NOTHING: Last = Last {
+    command: Command::Fprd,
+    register: CONTROL,
+    counter: None,
+    status: None,
+};
+
+/// A datagram for this register, and the counter that it came back with.
+fn last_of(command: Command, register: u16, reply: &Reply) -> Last {
+    Last {
+        command,
+        register,
+        counter: Some(reply.counter),
+        status: None,
+    }
 }
 
 impl Reader {
@@ -62,45 +100,68 @@ impl Reader {
         Reader {
             station: 0,
             word: 0,
+            given: None,
             all_before: 0,
             end: 0,
             phase: Phase::Ends,
+            tries: 0,
             stumbles: 0,
-            polls: 0,
+            held: HELD,
+            early: 0,
             uncounted: 0,
+            poll: NOTHING,
+            stumble: NOTHING,
         }
     }
 
-    /// One that reads words 0 to 63 of the slave with this station address.
-    pub fn of_first(station: u16) -> Reader
+    /// One that waits until the slave with this station address is idle, clears its errors, and reads as many words as are given, or as its words
+    /// 0x3E and 0x3F say that there are, 64 to 4,096; and behind those the blocks up to word 4,159 at which chips may begin to repeat.
+    pub fn of_slave(station: u16, given: Option<u16>) -> Reader
         ensures { has_told result.phase ≡ false }
     {
         Reader {
             station,
+            given,
+            all_before: 64,
             end: 64,
-            phase: Phase::Tells,
+            phase: Phase::Settles,
+            tries: READINGS,
             ..Reader::ended()
         }
     }
 
-    /// One that reads what is behind word 63 of the slave with this station address: as many words as are given, or as words 0x3E and 0x3F say
-    /// that there are, up to 4,096; and behind those the blocks up to word 4,159 at which chips may begin to repeat.
-    pub fn of_others(station: u16, says: [u8; 4], given: Option<u16>) -> Reader
-        ensures { has_told result.phase ≡ false }
+    /// One that reads the words from this one on of the slave with this station address, in so many tries.
+    pub(crate) fn of_words(station: u16, word: u16, tries: u32) -> Reader
+        ensures told { has_told result.phase ≡ false }
+        ensures station { result.station ≡ station }
+        ensures word { result.word ≡ word }
     {
         Reader {
             station,
-            word: 62,
-            all_before: words_ahead(says, given),
-            end: 4160,
+            word,
+            phase: Phase::Tells,
+            tries,
             ..Reader::ended()
         }
-        .behind(2)
     }
 
     /// Whether it has something to ask.
     pub(crate) fn is_asking(self) -> bool {
         self.phase != Phase::Ends
+    }
+
+    /// Why the slave was given up, if it was while it had something to ask: it stayed busy.
+    pub fn hitch(self) -> Option<Hitch> {
+        if self.is_asking() {
+            Some(Hitch::Stuck(self.poll))
+        } else {
+            None
+        }
+    }
+
+    /// Why the words can't be read: the slave stayed busy, or it has stumbled too often.
+    pub(crate) fn why_not(self) -> Hitch {
+        self.hitch().unwrap_or(Hitch::Stuck(self.stumble))
     }
 
     /// Puts its datagram behind those of a frame, if there is room for it.
@@ -115,7 +176,7 @@ impl Reader {
                 Command::Fpwr,
                 station,
                 CONTROL,
-                &read_content(self.word),
+                &read_content(self.word, self.held),
             ),
             Phase::Polls | Phase::Settles => {
                 put_in(frame, Command::Fprd, station, CONTROL, &[0, 0])
@@ -137,22 +198,38 @@ impl Reader {
     /// It goes on with this.
     fn to(self, phase: Phase) -> Reader
         ensures phase { result.phase ≡ phase }
-        ensures station { result.station ≡ self.station }
-        ensures word { result.word ≡ self.word }
+        ensures held { result.held ≡ self.held }
+        ensures stays { StaysAt self result }
     {
         Reader {
             phase,
-            polls: 0,
+            early: 0,
             uncounted: 0,
             ..self
         }
     }
 
-    /// It goes on behind so many words, if it reads any there.
-    fn behind(self, words: u16) -> Reader
+    /// It goes on behind the words that it has read, if it reads any there. Word 0x3E is among the first 64.
+    fn behind(self, read: Read) -> Reader
         ensures { has_told result.phase ≡ false }
     {
+        let words = if read.next.is_some() { 4 } else { 2 };
         let next = self.word.saturating_add(words);
+        if next != 64 {
+            return self.from_word(next);
+        }
+        Reader {
+            all_before: words_ahead(read.next.unwrap_or(read.pair), self.given),
+            end: 4160,
+            ..self
+        }
+        .from_word(next)
+    }
+
+    /// It goes on from this word, or from the next block that it reads, if it reads any.
+    fn from_word(self, next: u16) -> Reader
+        ensures { has_told result.phase ≡ false }
+    {
         let word = if next < self.all_before || next % 64 != 0 {
             next
         } else {
@@ -164,73 +241,94 @@ impl Reader {
         Reader {
             word,
             stumbles: 0,
+            held: HELD,
             ..self.to(Phase::Tells)
         }
     }
 
     /// Something went amiss: it waits until the slave is idle, clears its errors, and goes on from there.
-    fn stumbled(self) -> Reader
+    fn stumbled(self, stumble: Last) -> Reader
         ensures told { has_told result.phase ≡ false }
-        ensures station { result.station ≡ self.station }
-        ensures word { result.word ≡ self.word }
+        ensures stays { StaysAt self result }
     {
-        if self.stumbles > READINGS {
-            return self.to(Phase::Ends);
+        let stumbled = Reader {
+            stumbles: self.stumbles.saturating_add(1),
+            held: self.held.wrapping_add(NEXT_HELD),
+            stumble,
+            ..self
+        };
+        if self.stumbles > self.tries {
+            return stumbled.to(Phase::Ends);
         }
-        Reader {
-            stumbles: self.stumbles + 1,
-            ..self.to(Phase::Settles)
-        }
+        stumbled.to(Phase::Settles)
     }
 
     /// The slave's errors are clear: it tries these words again, or ends.
     fn cleared(self) -> Reader
-        ensures { has_told result.phase ≡ false }
+        ensures told { has_told result.phase ≡ false }
+        ensures stays { StaysAt self result }
     {
-        if self.stumbles >= READINGS {
+        if self.stumbles >= self.tries {
             return self.to(Phase::Ends);
         }
         self.to(Phase::Tells)
     }
 
     /// The slave has shown this control and status.
-    fn polled(self, status: u16) -> Reader
+    fn polled(self, status: u16, poll: Last) -> Reader
         ensures { GoesOn status self result }
     {
         if status >= 0x8000 {
-            self.waiting(0)
+            self.waiting(0, poll)
         } else {
-            self.idle(status)
+            self.idle(status, poll)
         }
     }
 
     /// The slave isn't idle, or so many polls in a row weren't counted.
-    fn waiting(self, uncounted: u32) -> Reader
+    fn waiting(self, uncounted: u32, poll: Last) -> Reader
         ensures { GoesOn 0 self result }
     {
-        let polls = self.polls.saturating_add(1);
-        if polls > POLLS || uncounted >= UNCOUNTED {
-            return self.to(Phase::Ends);
+        if uncounted >= UNCOUNTED {
+            return Reader {
+                stumble: poll,
+                ..self.to(Phase::Ends)
+            };
         }
         Reader {
-            polls,
             uncounted,
+            poll,
             ..self
         }
     }
 
     /// The slave is idle, and shows this.
-    fn idle(self, status: u16) -> Reader
+    fn idle(self, status: u16, poll: Last) -> Reader
         ensures { GoesOn status self result }
     {
         if self.phase != Phase::Polls {
             return self.to(Phase::Clears);
         }
         if status >= 0x2000 {
-            return self.stumbled();
+            return self.stumbled(poll);
         }
         let loads = ReadSize::shown_by(status);
         self.to(Phase::Fetches(loads.fetched_at(self.word)))
+    }
+
+    /// A byte of the words is the one that its command put there. Where that is so of the first word, they aren't loaded yet, and are fetched again.
+    /// Else the EEPROM may hold that byte, and they are read again with another one.
+    fn unsure(self, pair: [u8; 4], fetch: Last) -> Reader
+        ensures { GoesOn 0 self result }
+    {
+        let [low, high, ..] = pair;
+        if low == self.held && high == self.held && self.early < FETCHES {
+            return Reader {
+                early: self.early + 1,
+                ..self
+            };
+        }
+        self.stumbled(fetch)
     }
 }
 
@@ -274,14 +372,15 @@ fn answer_to<W: Wire>(
 /// The reader behind the answer to its command to read.
 fn behind_command<W: Wire>(reader: Reader, returned: &Frame, place: usize) -> Reader
     requires { CameOver W.gives returned.now }
-    ensures { IsUnderWay W.gives result }
+    ensures told { IsUnderWay W.gives result }
+    ensures stays { StaysAt reader result }
 {
-    let command = read_content(reader.word);
+    let command = read_content(reader.word, reader.held);
     let taken = answer_to::<W>(reader, Command::Fpwr, CONTROL, &command, returned, place);
     if taken.counter == 1 {
         reader.to(Phase::Polls)
     } else {
-        reader.stumbled()
+        reader.stumbled(last_of(Command::Fpwr, CONTROL, &taken))
     }
 }
 
@@ -289,25 +388,34 @@ fn behind_command<W: Wire>(reader: Reader, returned: &Frame, place: usize) -> Re
 fn behind_poll<W: Wire>(reader: Reader, returned: &Frame, place: usize) -> Reader
     requires came { CameOver W.gives returned.now }
     requires told { IsUnderWay W.gives reader }
-    ensures { IsUnderWay W.gives result }
+    ensures told { IsUnderWay W.gives result }
+    ensures stays { StaysAt reader result }
 {
     let shown = answer_to::<W>(reader, Command::Fprd, CONTROL, &[0, 0], returned, place);
+    let poll = last_of(Command::Fprd, CONTROL, &shown);
     match shown.word() {
-        Some(status) => reader.polled(status),
-        None => reader.waiting(reader.uncounted.saturating_add(1)),
+        Some(status) => {
+            let poll = Last {
+                status: Some((status / 256) as u8),
+                ..poll
+            };
+            reader.polled(status, poll)
+        }
+        None => reader.waiting(reader.uncounted.saturating_add(1), poll),
     }
 }
 
 /// The reader behind the answer to the clearing of errors.
 fn behind_clearing<W: Wire>(reader: Reader, returned: &Frame, place: usize) -> Reader
     requires { CameOver W.gives returned.now }
-    ensures { has_told result.phase ≡ false }
+    ensures told { has_told result.phase ≡ false }
+    ensures stays { StaysAt reader result }
 {
     let cleared = answer_to::<W>(reader, Command::Fpwr, CONTROL, &[0, 0], returned, place);
     if cleared.counter == 1 {
         reader.cleared()
     } else {
-        reader.stumbled()
+        reader.stumbled(last_of(Command::Fpwr, CONTROL, &cleared))
     }
 }
 
@@ -325,18 +433,27 @@ fn behind_fetch<W: Wire>(reader: Reader, size: ReadSize, returned: &Frame, place
     requires fetches { reader.phase ≡ phase.Fetches size }
     requires told { IsUnderWay W.gives reader }
     ensures told { IsUnderWay W.gives result.reader }
+    ensures stays { result.read ≡ None → StaysAt reader result.reader }
     ensures read { IfSome result.read (WordsRead W.gives reader.station reader.word) }
 {
     let empty = &EMPTY[..size.bytes()];
     let fetched = answer_to::<W>(reader, Command::Fprd, CONTENT, empty, returned, place);
-    if fetched.counter == 1 {
+    let fetch = last_of(Command::Fprd, CONTENT, &fetched);
+    if fetched.counter != 1 {
+        return Stepped {
+            reader: reader.stumbled(fetch),
+            read: None,
+        };
+    }
+    let read = Read::in_reply(&fetched, size);
+    if are_other(read.pair, reader.held) {
         Stepped {
-            reader: reader.behind((size.bytes() / 2) as u16),
-            read: Some(Read::in_reply(&fetched, size)),
+            reader: reader.behind(read),
+            read: Some(read),
         }
     } else {
         Stepped {
-            reader: reader.stumbled(),
+            reader: reader.unsure(read.pair, fetch),
             read: None,
         }
     }
@@ -347,6 +464,7 @@ pub(crate) fn step<W: Wire>(reader: Reader, returned: &Frame, place: usize) -> S
     requires came { CameOver W.gives returned.now }
     requires told { IsUnderWay W.gives reader }
     ensures told { IsUnderWay W.gives result.reader }
+    ensures stays { result.read ≡ None → StaysAt reader result.reader }
     ensures read { IfSome result.read (WordsRead W.gives reader.station reader.word) }
 {
     let next = match reader.phase {

@@ -1,14 +1,15 @@
 //! Words of a slave that are read by frames of one datagram.
-ghost use Rattle.std.specs.Prelude.{◌≡◌, ◌↔◌, ◌/◌, ◌%◌, ◌<◌, ◌≤◌, slice_index, IfOk};
-ghost use Rattle.wire_words.specs.Words.{read_command, TriedCame, WordsRead};
+ghost use Rattle.std.specs.Prelude.{◌≡◌, ◌↔◌, ◌/◌, ◌%◌, ◌<◌, ◌≤◌, true, slice_index, IfOk};
+ghost use Rattle.wire_words.specs.Words.{read_command, AreOther, WordsRead};
 ghost use Rattle.wire_words.specs.Reading.{bytes_loaded, read_of};
 ghost use Rattle.wire_words.specs.declared.reading.ReadSize.TheVariants.{Eight};
 
-use crate::telling::{Hitch, Polled, clear, is_refusal, put, tell, wait_idle};
-use ecat_frame::Command;
-use esc_rom::{CONTENT, CONTROL};
+use crate::reader::{Reader, Stepped, step};
+use crate::telling::Hitch;
+use ecat_frame::Frame;
+use esc_rom::POLLS;
 use std::rt::Clock;
-use wire_frames::{ATTEMPTS, Last, NumberedWire, Pace, Reply, Wire};
+use wire_frames::{ATTEMPTS, NumberedWire, Pace, Reply, Wire};
 
 /// The content of a datagram that reads.
 pub(crate) const EMPTY: [u8; 8] = [0; 8];
@@ -74,52 +75,25 @@ impl Read {
     }
 }
 
-/// The outcome of one try to read words.
-#[derive(Clone, Copy)]
-enum Tried {
-    Done(Read),
-    Refused(Last),
-}
-
-/// The content of the command to read words from this one on.
-pub(crate) fn read_content(word: u16) -> [u8; 6]
-    ensures { result ≡ read_command word }
+/// The content of the command to read words from this one on. It puts a byte four times where they come to stand.
+pub(crate) fn read_content(word: u16, held: u8) -> [u8; 10]
+    ensures { result ≡ read_command word held }
 {
     let [a, b, c, d] = u32::from(word).to_le_bytes();
-    [0x00, 0x01, a, b, c, d]
+    [0x00, 0x01, a, b, c, d, held, held, held, held]
 }
 
-/// Tries once to read words from this one on: two, or four where the slave loads eight bytes.
-fn try_at<W: Wire, C: Clock>(
-    wire: &mut NumberedWire<W>,
-    clock: &C,
-    slave: u16,
-    word: u16,
-) -> Result<Tried, Hitch>
-    requires { slave < 64 }
-    ensures same { wire.new.stations ≡ wire.old.stations }
-    ensures read { IfOk result (TriedCame W.gives (slice_index wire.old.stations.by_slave slave) word) }
+/// Whether none of the bytes of two words is this one.
+#[tactic(auto, using(crate::proofs::Words::four_other))]
+pub(crate) fn are_other(pair: [u8; 4], held: u8) -> bool
+    ensures { result ≡ true → AreOther held pair }
 {
-    put(wire, clock, slave, CONTROL, &read_content(word))?;
-    let Polled { last, loads } = wait_idle(wire, clock, slave)?;
-    if is_refusal(last) {
-        return Ok(Tried::Refused(last));
-    }
-    let size = loads.fetched_at(word);
-    let reply = tell(wire, slave, Command::Fprd, CONTENT, &EMPTY[..size.bytes()])?;
-    if reply.counter == 1 {
-        return Ok(Tried::Done(Read::in_reply(&reply, size)));
-    }
-    Ok(Tried::Refused(Last {
-        command: Command::Fprd,
-        register: CONTENT,
-        counter: Some(reply.counter),
-        status: last.status,
-    }))
+    let [a, b, c, d] = pair;
+    a != held && b != held && c != held && d != held
 }
 
-/// Reads words from this one on. A try that isn't acknowledged is followed by command 000, which clears the error, and a pause; they are
-/// tried for half a second.
+/// Reads words from this one on: two, or four where the slave loads eight bytes. A try that isn't acknowledged is followed by command 000, which
+/// clears the error, and a pause; they are tried for half a second.
 pub(crate) fn read_at<W: Wire, C: Clock>(
     wire: &mut NumberedWire<W>,
     clock: &C,
@@ -145,18 +119,31 @@ pub(crate) fn read_in_tries<W: Wire, C: Clock>(
     ensures same { wire.new.stations ≡ wire.old.stations }
     ensures read { IfOk result (WordsRead W.gives (slice_index wire.old.stations.by_slave slave) word) }
 {
-    let mut pace = Pace::new();
-    let mut refused = None;
-    for _try in 0..tries {
-        match try_at(wire, clock, slave, word)? {
-            Tried::Done(read) => return Ok(read),
-            Tried::Refused(last) => refused = Some(last),
+    let mut reader = Reader::of_words(wire.stations().of_slave(slave), word, tries);
+    let mut polls = Pace::new();
+    let mut retries = Pace::new();
+    for _frame in 0..u32::MAX {
+        let mut asked = Frame::new();
+        reader.ask(&mut asked);
+        if asked.count() == 0 || u32::from(polls.pauses()) >= POLLS {
+            return Err(reader.why_not());
         }
-        clear(wire, clock, slave)?;
-        pace.retry(clock);
+        let Some(returned) = wire.pass_all(asked) else {
+            return Err(Hitch::Silent);
+        };
+        let Stepped { reader: next, read } = step::<W>(reader, &returned.frame, 0);
+        if let Some(read) = read {
+            return Ok(read);
+        }
+        if next.stumbles > reader.stumbles {
+            retries.retry(clock);
+        }
+        if next.phase == reader.phase {
+            polls.poll(clock);
+        } else {
+            polls = Pace::new();
+        }
+        reader = next;
     }
-    match refused {
-        Some(last) => Err(Hitch::Stuck(last)),
-        None => Err(Hitch::Silent),
-    }
+    Err(reader.why_not())
 }

@@ -6,17 +6,13 @@ ghost use Rattle.ecat_frame.specs.declared.command.Command.TheVariants.{Fprd, Fp
 ghost use Rattle.esc_model.specs.Orders.{address_of};
 ghost use Rattle.wire_frames.specs.Came.{Unheard, Told, Answered};
 ghost use Rattle.wire_frames.specs.Sending.{InEeprom};
-ghost use Rattle.wire_words.specs.Words.{ShowsEight};
 ghost use Rattle.wire_words.specs.declared.telling.Hitch.TheVariants as hitch;
-ghost use Rattle.wire_words.specs.declared.reading.ReadSize.TheVariants.{Eight};
 
-use crate::reading::ReadSize;
 use ecat_frame::{Command, fp};
 use esc_model::station_address;
-use esc_rom::{CONTROL, POLLS, TRIES};
+use esc_rom::TRIES;
 use std::alloc::{AllocError, AllocFailed};
-use std::rt::Clock;
-use wire_frames::{Last, NumberedWire, Pace, Reply, UNCOUNTED, Wire, ask};
+use wire_frames::{Last, NumberedWire, Reply, Wire, ask};
 
 /// Why a slave can't be asked further.
 #[derive(Clone, Copy)]
@@ -74,65 +70,9 @@ pub fn tell<W: Wire>(
     ask(wire, command, address, content).ok_or(Hitch::Silent)
 }
 
-/// What a poll shows.
-#[derive(Clone, Copy)]
-pub(crate) struct Polled {
-    pub(crate) last: Last,
-    /// How many bytes reads load, as the slave says. Four, where it isn't the only one that counted the poll.
-    pub(crate) loads: ReadSize,
-}
-
-/// Polls a slave once. Gives what came back.
-fn poll<W: Wire>(wire: &mut NumberedWire<W>, slave: u16) -> Result<Polled, Hitch>
-    requires { slave < 64 }
-    ensures same { wire.new.stations ≡ wire.old.stations }
-    ensures eight { IfOk result (λ polled. polled.loads ≡ Eight → ShowsEight W.gives (slice_index wire.old.stations.by_slave slave)) }
-{
-    let reply = tell(wire, slave, Command::Fprd, CONTROL, &[0, 0])?;
-    let shown = reply.word();
-    Ok(Polled {
-        last: Last {
-            command: Command::Fprd,
-            register: CONTROL,
-            counter: Some(reply.counter),
-            status: shown.map(|word| (word / 256) as u8),
-        },
-        loads: ReadSize::shown_by(shown.unwrap_or(0)),
-    })
-}
-
-/// Polls a slave until it is idle, and gives the last poll.
-pub(crate) fn wait_idle<W: Wire, C: Clock>(
-    wire: &mut NumberedWire<W>,
-    clock: &C,
-    slave: u16,
-) -> Result<Polled, Hitch>
-    requires { slave < 64 }
-    ensures same { wire.new.stations ≡ wire.old.stations }
-    ensures eight { IfOk result (λ polled. polled.loads ≡ Eight → ShowsEight W.gives (slice_index wire.old.stations.by_slave slave)) }
-{
-    let mut pace = Pace::new();
-    let mut polled = poll(wire, slave)?;
-    let mut uncounted = 0u32;
-    for _poll in 0..POLLS {
-        match polled.last.status {
-            Some(status) if status < 0x80 => return Ok(polled),
-            Some(_) => uncounted = 0,
-            None => uncounted = uncounted.saturating_add(1),
-        }
-        if uncounted >= UNCOUNTED {
-            return Err(Hitch::Stuck(polled.last));
-        }
-        pace.poll(clock);
-        polled = poll(wire, slave)?;
-    }
-    Err(Hitch::Stuck(polled.last))
-}
-
 /// Writes to registers of a slave's EEPROM until the slave takes it, three times at most.
-pub fn put<W: Wire, C: Clock>(
+pub fn put<W: Wire>(
     wire: &mut NumberedWire<W>,
-    clock: &C,
     slave: u16,
     register: u16,
     content: &[u8],
@@ -149,7 +89,6 @@ pub fn put<W: Wire, C: Clock>(
             return Ok(());
         }
         counter = Some(reply.counter);
-        let _idle = wait_idle(wire, clock, slave)?;
     }
     Err(Hitch::Stuck(Last {
         command: Command::Fpwr,
@@ -157,17 +96,4 @@ pub fn put<W: Wire, C: Clock>(
         counter,
         status: None,
     }))
-}
-
-/// Waits until the slave is idle, and clears its errors: command 000.
-pub fn clear<W: Wire, C: Clock>(
-    wire: &mut NumberedWire<W>,
-    clock: &C,
-    slave: u16,
-) -> Result<(), Hitch>
-    requires { slave < 64 }
-    ensures { wire.new.stations ≡ wire.old.stations }
-{
-    let _idle = wait_idle(wire, clock, slave)?;
-    put(wire, clock, slave, CONTROL, &[0, 0])
 }

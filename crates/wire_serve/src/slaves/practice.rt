@@ -5,7 +5,7 @@ use ecat_frame::{Frame, MAX_LEN};
 use sii_words::words_of_bytes;
 use site_file::RandomAccessFile;
 use site_shadow::Pattern;
-use station_files::{Fault, Store, load_line, read_file};
+use station_files::{Fault, Store, load_line, read_image_file};
 use station_text::LineFile;
 use std::alloc::Global;
 use std::io;
@@ -19,9 +19,6 @@ const PLAIN: Quirks = Quirks {
     delay: 2,
     ..NO_QUIRKS
 };
-
-/// The most words of an image. A chip of 1 MBit has so many.
-const MOST_WORDS: usize = 65_536;
 
 /// How many empty reads in a row show that the wire is closed.
 const EMPTY_READS: u32 = 1_000;
@@ -83,40 +80,37 @@ fn switch_on<S: Store>(
     quirks: QuirkList<'_>,
     store: &mut S,
 ) -> Result<PracticeFiles<S::File>, Fault> {
-    let slaves = power_up(alloc, &line.images, quirks, store)?;
+    let mut slaves = Vec::new(alloc);
+    let mut contents = Vec::new(alloc);
+    for slave in 0..line.images.len() {
+        let quirks = quirks.of_slave(PLAIN, slave).unwrap_or(PLAIN);
+        let (one, bytes) = load_slave(alloc, line.images[slave].as_str(), quirks, store)?;
+        slaves.push(one)?;
+        contents.push(bytes)?;
+    }
     let practice = PracticeLine::of(slaves, quirks.cable());
-    match open_images(alloc, &line.images, store) {
+    match open_images(alloc, &line.images, &contents, store) {
         Ok(images) => Ok(PracticeFiles::new(practice, images)),
         Err(fault) => Err(fault),
     }
 }
 
-/// The slaves of a line, just switched on, with the words of their files.
-fn power_up<S: Store>(
+/// A slave, just switched on, with the words of its image file, and the file's bytes. There may be more or fewer than the station works on.
+fn load_slave<S: Store>(
     alloc: Global,
-    names: &[String],
-    quirks: QuirkList<'_>,
+    name: &str,
+    quirks: Quirks,
     store: &mut S,
-) -> Result<Vec<PracticeSlave>, Fault> {
-    let mut slaves = Vec::new(alloc);
-    for slave in 0..names.len() {
-        let words = load_image(alloc, names[slave].as_str(), store)?;
-        let quirks = quirks.of_slave(PLAIN, slave).unwrap_or(PLAIN);
-        slaves.push(PracticeSlave::switched_on(alloc, &words, quirks)?)?;
-    }
-    Ok(slaves)
-}
-
-/// The words of an image file, of which there may be more or fewer than the station works on.
-fn load_image<S: Store>(alloc: Global, name: &str, store: &mut S) -> Result<Vec<u16>, Fault> {
-    let bytes = read_file(alloc, name, store)?;
+) -> Result<(PracticeSlave, Vec<u8>), Fault> {
+    let bytes = read_image_file(alloc, name, store)?;
     if bytes.len() % 2 != 0 {
         return Err(Fault::OddLength);
     }
-    if bytes.is_empty() || bytes.len() > 2 * MOST_WORDS {
+    if bytes.is_empty() {
         return Err(Fault::BadSize);
     }
-    Ok(words_of_bytes(alloc, &bytes)?)
+    let words = words_of_bytes(alloc, &bytes)?;
+    Ok((PracticeSlave::switched_on(alloc, &words, quirks)?, bytes))
 }
 
 /// The moment, in microseconds.
@@ -126,16 +120,16 @@ fn moment<C: Clock>(clock: &C) -> Result<u64, Fault> {
     Ok(whole.saturating_add(u64::from(now.subsec_micros())))
 }
 
-/// Opens the files `names`, in order.
+/// Opens the files `names`, of which these contents were read, in order.
 fn open_images<S: Store>(
     alloc: Global,
     names: &[String],
+    contents: &[Vec<u8>],
     store: &mut S,
 ) -> Result<Vec<S::File>, Fault> {
     let mut images = Vec::with_capacity(alloc, names.len())?;
-    for slave in 0..names.len() {
-        let image = store.open(names[slave].as_str())?;
-        images.push(image)?;
+    for (name, bytes) in names.iter().zip(contents) {
+        images.push(store.open(name.as_str(), bytes)?)?;
     }
     Ok(images)
 }

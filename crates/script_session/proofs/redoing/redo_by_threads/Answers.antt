@@ -52,6 +52,7 @@ returns-in-Ok-sound-clause-told g c =
         of_sites = c.in_ok-ends.ensures.of_sites;
         together = together.0;
       };
+      still = c.in-Ok.ensures.turning;
       followed = subst (λ (r : Result (Unit {0}) Fault). EndsFollowed follows well c.args.alone r ends) c.in-Ok-sound.is
           (followed_ends follows well g.D.Lends.tells c.args.alone parts.result.1.seen sites ends put.result.1 sound.result parts.ensures.seen
           c.in-Ok.ensures.sites.apart c.in_ok-ends.ensures.of_sites (put.ensures.told parts.result.1.seen c.in-Ok.ensures.told)

@@ -1,4 +1,4 @@
-use Rattle.std.proofs.Common.{◌∙◌, subst, inr}
+use Rattle.std.proofs.Common.{◌≡◌, ◌∙◌, string_bytes, subst, inr}
 use Rattle.station_files.specs.Files.{Known}
 use Rattle.station_files.specs.LineFiles.{names_of, RefusesSlaves}
 use Rattle.station_files.proofs.Loaded.{handed_on}
@@ -20,9 +20,18 @@ returns-in_err-keep_line_apart-clause-refused g c =
     handed_on (RefusesUnformatted files g.S.Store.leads c.args.name.now) c.from_residual-in_err-keep_line_apart.result fault c.from_residual-in_err-keep_line_apart.ensures.1
     (names_refused files g.S.Store.leads c.args.name.now c.in_ok-line.line fault c.in_ok-line.ensures.line c.in_err-keep_line_apart.ensures.refused)
 
-pub returns-in-Some-clause-refused : goal.returns-in-Some-clause-refused
-returns-in-Some-clause-refused g c = (
-  c.in_ok-line.line,
-  c.in_ok-line.ensures.line,
-  is_there (g.S.Store.files c.args.store.now) (g.S.Store.files c.keep_line_apart.new.store) _ _ c.in_ok-read.field-0 c.in-Some.field-0 (c.keep_line_apart.ensures.same ∙ c.load_slaves.ensures.same ∙ c.load_line.ensures.same) c.as_str.ensures.value c.in-Some.is c.in_ok-read.ensures.bytes,
-)
+pub returns-in_default : goal.returns-in_default
+returns-in_default g c =
+    let files = g.S.Store.files c.args.store.now in
+    let same : g.S.Store.files c.keep_line_apart.new.store ≡ files = c.keep_line_apart.ensures.same ∙ c.load_slaves.ensures.same ∙ c.load_line.ensures.same in
+    record {
+      given = tt;
+      count = tt;
+      apart = tt;
+      refused = (
+        c.in_ok-line.line,
+        c.in_ok-line.ensures.line,
+        is_there files (g.S.Store.files c.keep_line_apart.new.store) (string_bytes c.in_ok-line.line.journal) c.as_str.result.now c.in_ok-look.field-0 same c.as_str.ensures.value c.in_default.not-Absent c.in_ok-look.ensures.entry,
+      );
+      same = c.look.ensures.same ∙ same;
+    }

@@ -19,8 +19,8 @@ returns-in-None-clause-journal g c =
 pub returns-in-None-clause-apart : goal.returns-in-None-clause-apart
 returns-in-None-clause-apart g c =
     let files = c.in-Ok.files in
-    run_apart (g.S.Store.files c.args.store.now) (g.S.Store.files c.load_session.new.store) g.S.Store.leads (option_map (λ (name : Bor (List ℕ)). name.now) c.args.capture) c.in_ok-session.session.line c.args.name.now c.args.script.now files.written (spelt files.names.items)
-    c.load_session.ensures.same c.in-Ok.ensures.written c.in-Ok.ensures.names c.in-Ok-load_commands.ensures.apart
+    run_apart g.S.Store.leads (option_map (λ (name : Bor (List ℕ)). name.now) c.args.capture) c.in_ok-session.session.line c.args.name.now c.args.script.now files.written (spelt files.names.items)
+    c.in-Ok.ensures.written c.in-Ok.ensures.names c.in-Ok-load_commands.ensures.apart
 
 pub returns-in-Some-clause-refused : goal.returns-in-Some-clause-refused
 returns-in-Some-clause-refused g c =

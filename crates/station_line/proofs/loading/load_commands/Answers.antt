@@ -1,4 +1,4 @@
-use Rattle.std.proofs.Common.{inl, inr}
+use Rattle.std.proofs.Common.{◌++◌, ◌∷◌, [], inl, inr}
 use Rattle.station_files.specs.FileNames.{spelt}
 use Rattle.station_files.specs.declared.faults.Fault.TheVariants.{Memory}
 use Rattle.station_files.proofs.Loaded.{handed_on}
@@ -10,20 +10,19 @@ pub returns-in-Ok-clause-apart : goal.returns-in-Ok-clause-apart
 returns-in-Ok-clause-apart g c =
     let names = c.args.files in
     let all = c.in_ok-all.all in
-    joined_apart (g.S.Store.files c.args.store.now) g.S.Store.leads names.written all.written (spelt names.names.items) (spelt all.names.items) c.args.script.now (spelt c.in_ok-loaded.loaded.images.items) c.in_ok-loaded.ensures.images
-    c.in_ok-all.ensures.written (rw c.deref.ensures.value at c.in_ok-all.ensures.names) c.in-Ok.ensures.apart
+    joined_apart g.S.Store.leads names.written all.written (spelt names.names.items ++ c.args.script.now ∷ []) (spelt all.names.items) c.in_ok-all.ensures.written c.in_ok-all.ensures.names c.in-Ok.ensures.apart
 
-pub returns-in-Err-clause-refused : goal.returns-in-Err-clause-refused
-returns-in-Err-clause-refused g c =
+pub returns-clause-refused : goal.returns-clause-refused
+returns-clause-refused g c =
     let names = c.args.files in
     let all = c.in_ok-all.all in
-    inr (joined_refused (g.S.Store.files c.args.store.now) g.S.Store.leads names.has_capture all.has_capture names.written all.written (spelt names.names.items) (spelt all.names.items) c.args.script.now (spelt c.in_ok-loaded.loaded.images.items) c.in-Err.fault
-    c.in_ok-loaded.ensures.images c.in_ok-all.ensures.capture c.in_ok-all.ensures.written (rw c.deref.ensures.value at c.in_ok-all.ensures.names) c.in-Err.ensures.refused)
+    inr (joined_refused g.S.Store.leads names.has_capture all.has_capture names.written all.written (spelt names.names.items ++ c.args.script.now ∷ []) (spelt all.names.items) c.in-Err.fault
+    c.in_ok-all.ensures.capture c.in_ok-all.ensures.written c.in_ok-all.ensures.names c.in-Err.ensures.refused)
 
-pub returns-in_err-loaded-clause-refused : goal.returns-in_err-loaded-clause-refused
-returns-in_err-loaded-clause-refused g c =
+pub returns-in_err-commands-clause-refused : goal.returns-in_err-commands-clause-refused
+returns-in_err-commands-clause-refused g c =
     let names = c.args.files in
-    handed_on (RefusesCommandFiles (g.S.Store.files c.args.store.now) g.S.Store.leads names.has_capture names.written (spelt names.names.items) c.args.script.now) c.from_residual.result c.in_err-loaded.field-0.0 c.from_residual.ensures.1 (inl c.in_err-loaded.ensures.refused)
+    handed_on (RefusesCommandFiles (g.S.Store.files c.args.store.now) g.S.Store.leads names.has_capture names.written (spelt names.names.items) c.args.script.now) c.from_residual.result c.in_err-commands.field-0.0 c.from_residual.ensures.1 (inl c.in_err-commands.ensures.refused)
 
 pub returns-in_err-all-clause-refused : goal.returns-in_err-all-clause-refused
 returns-in_err-all-clause-refused g c =

@@ -6,7 +6,7 @@ use Rattle.station_files.proofs.Loaded.{handed_on}
 use Rattle.station_line.specs.Refusals.{RefusesSession}
 use Rattle.station_line.proofs.Opened.{loads, old-by}
 use Rattle.station_line.proofs.Judged.{judged_by}
-use Rattle.station_line.proofs.Refused.{handed_by, lock_refused, plant_refused, same_refused, stream_refused}
+use Rattle.station_line.proofs.Refused.{handed_by, journal_unread, lock_refused, plant_refused, same_refused}
 use Rattle.station_line.proofs.session.load_session.Goals as goal
 
 pub returns-clause-loaded : goal.returns-clause-loaded
@@ -55,7 +55,8 @@ returns-in_err-journal-clause-refused g c =
     let files = g.S.Store.files c.args.store.now in
     let fault = c.in_err-journal.field-0.0 in
     handed_on (RefusesSession files g.S.Store.leads c.args.name.now) c.from_residual-in_err-journal.result fault c.from_residual-in_err-journal.ensures.1
-    (stream_refused files g.S.Store.leads c.args.name.now fault c.in_err-journal.ensures.refused)
+    (journal_unread files (g.S.Store.files c.load_slaves.new.store) g.S.Store.leads c.args.name.now _ c.in_ok-line.line fault c.in_ok-line.ensures.line
+    (c.load_slaves.ensures.same ∙ c.lock.ensures.same ∙ c.load_line.ensures.same) c.as_str-2.ensures.value c.in_err-journal.ensures.refused)
 
 pub returns-in_err-keep_line_apart-clause-refused : goal.returns-in_err-keep_line_apart-clause-refused
 returns-in_err-keep_line_apart-clause-refused g c =

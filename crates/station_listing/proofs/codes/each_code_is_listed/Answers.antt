@@ -6,7 +6,7 @@ use Rattle.station_listing.specs.declared.codes.TheConstants.{CODES}
 use Rattle.station_listing.proofs.codes.each_code_is_listed.Goals as goal
 
 -- the place of each code in the table
-listed : (code : Code) → (place : ℕ) × place < 42 × slice_index_or CODES place code ≡ code
+listed : (code : Code) → (place : ℕ) × place < 44 × slice_index_or CODES place code ≡ code
 listed codes.OddLength = (0, omega arith, refl)
 listed codes.BadSize = (1, omega arith, refl)
 listed codes.RunsOut = (2, omega arith, refl)
@@ -49,6 +49,8 @@ listed codes.BadScript = (38, omega arith, refl)
 listed codes.Exists = (39, omega arith, refl)
 listed codes.Busy = (40, omega arith, refl)
 listed codes.SameFile = (41, omega arith, refl)
+listed codes.NotAFile = (42, omega arith, refl)
+listed codes.TooLong = (43, omega arith, refl)
 
 pub returns : goal.returns
 returns c = listed c.args.code

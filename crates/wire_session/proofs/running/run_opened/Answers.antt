@@ -21,7 +21,7 @@ run_site-requires-send-D g c κs lives = search (wire-device-send, shared-send, 
 pub run_site-requires-clause-old : goal.run_site-requires-clause-old
 run_site-requires-clause-old g c κs lives =
     old-by c.args.found.slaves.now c.args.found.journal.items c.in-Ok-site_of.site c.is_old-was_old.result
-    c.in-Ok-site_of.ensures (rw c.deref.ensures.value at c.is_old-was_old.ensures)
+    c.in-Ok-site_of.ensures (rw c.deref-2.ensures.value at c.is_old-was_old.ensures)
 
 pub returns-in-Ok-site_of : goal.returns-in-Ok-site_of
 returns-in-Ok-site_of g c =

@@ -1,5 +1,5 @@
 use Rattle.wire_frames.specs.Sending.{OnlyEeprom}
 use Rattle.wire_words.proofs.in_step.asked_by.Given as goal
 
-abbrev pub invariant-loop-reader : goal.invariant-loop-reader
-invariant-loop-reader l = OnlyEeprom l.frame
+abbrev pub invariant-loop-slave : goal.invariant-loop-slave
+invariant-loop-slave l = OnlyEeprom l.frame

@@ -1,5 +1,11 @@
-use Rattle.std.specs.Prelude.{◌≡◌}
+use Rattle.std.specs.Prelude.{◌≡◌, slice_index}
+use Rattle.wire_words.specs.Reading.{IsUnderWay}
 use Rattle.wire_words.proofs.reading.read_in_tries.Given as goal
 
-abbrev pub invariant-loop-try : goal.invariant-loop-try
-invariant-loop-try g l = l.wire.stations ≡ l.fn.wire.stations
+abbrev pub invariant-loop-frame : goal.invariant-loop-frame
+invariant-loop-frame g l = record {
+  same : l.wire.stations ≡ l.fn.wire.stations;
+  told : IsUnderWay g.W.Wire.gives l.reader;
+  station : l.reader.station ≡ slice_index l.fn.wire.stations.by_slave l.slave;
+  word : l.reader.word ≡ l.word;
+}

@@ -16,7 +16,7 @@ invariant_of-self-in-Err g c =
       is-replayed-more g.T.Tickets.opened s.core c.submit-answer.new.self s.history (Submitted command (Err refusal)) i.0 own c.in-Err.ensures.refused,
       are-counted-refusal s.core c.submit-answer.new.self s.history command refusal s.tickets.total s.refusals.total i.1 c.in-Err.ensures.refused c.count_refusal.ensures.few,
       ap (λ (n : ℕ). n + 1) i.2,
-      are-logs-same s.history (Submitted command (Err refusal)) s.disk.entries s.slaves.items s.cycle.items i.3 refl (λ n log. refl) refl,
+      are-logs-same s.history (Submitted command (Err refusal)) s.disk.entries s.slaves.items s.cycle.entries i.3 refl (λ n log. refl) refl,
       i.4,
     )
 
@@ -31,6 +31,6 @@ invariant_of-self g c =
       is-replayed-more g.T.Tickets.opened s.core c.submit-answer.new.self s.history (Submitted command (Ok number)) i.0 own c.in-Ok.ensures.accepted,
       are-counted-ticket s.core c.submit-answer.new.self s.history command number s.tickets.total s.refusals.total i.1 (ap (λ (b : Book). b.accepted) c.in-Ok.ensures.accepted) (numbered s.core command (Ok number) own).1,
       i.2,
-      are-logs-same s.history (Submitted command (Ok number)) s.disk.entries s.slaves.items s.cycle.items i.3 refl (λ n log. refl) refl,
+      are-logs-same s.history (Submitted command (Ok number)) s.disk.entries s.slaves.items s.cycle.entries i.3 refl (λ n log. refl) refl,
       i.4,
     )

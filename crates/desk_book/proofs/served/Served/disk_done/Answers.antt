@@ -20,6 +20,6 @@ invariant_of-self g c =
       is-replayed-more g.T.Tickets.opened s.core c.disk_done.new.self s.history call i.0 out c.disk_done.ensures,
       are-counted-same s.core c.disk_done.new.self s.history call s.tickets.total s.refusals.total i.1 (ap (λ (b : Book). b.accepted) c.disk_done.ensures ∙ (keeps-disk_done s.core outcome).accepted) refl,
       i.2,
-      are-logs-more s.history call s.disk.entries c.tell.new.self.entries s.slaves.items s.slaves.items s.cycle.items s.cycle.items i.3 c.tell.ensures (λ n inside. (inside, refl)) refl,
+      are-logs-more s.history call s.disk.entries c.tell.new.self.entries s.slaves.items s.slaves.items s.cycle.entries s.cycle.entries i.3 c.tell.ensures (λ n inside. (inside, refl)) refl,
       i.4,
     )

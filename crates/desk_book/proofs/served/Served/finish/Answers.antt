@@ -12,6 +12,6 @@ invariant_of-self g c =
       is-replayed-more g.T.Tickets.opened s.core c.finish.new.self s.history Finished i.0 tt c.finish.ensures,
       are-counted-same s.core c.finish.new.self s.history Finished s.tickets.total s.refusals.total i.1 (ap (λ (b : Book). b.accepted) c.finish.ensures) refl,
       i.2,
-      are-logs-same s.history Finished s.disk.entries s.slaves.items s.cycle.items i.3 refl (λ n log. refl) refl,
+      are-logs-same s.history Finished s.disk.entries s.slaves.items s.cycle.entries i.3 refl (λ n log. refl) refl,
       i.4,
     )

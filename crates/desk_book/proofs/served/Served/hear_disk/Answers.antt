@@ -23,7 +23,7 @@ invariant_of-self-2 g c =
       is-replayed-more g.T.Tickets.opened s.core c.disk_next.new.self s.history call i.0 (c.of-answer.ensures ∙ asked.answer) asked.book,
       are-counted-same s.core c.disk_next.new.self s.history call s.tickets.total s.refusals.total i.1 (ap (λ (b : Book). b.accepted) asked.book ∙ (keeps-disk_next s.core).accepted) refl,
       i.2,
-      are-logs-more s.history call s.disk.entries c.hand_out.new.notes.entries s.slaves.items s.slaves.items s.cycle.items s.cycle.items i.3 noted (λ n inside. (inside, refl)) refl,
+      are-logs-more s.history call s.disk.entries c.hand_out.new.notes.entries s.slaves.items s.slaves.items s.cycle.entries s.cycle.entries i.3 noted (λ n inside. (inside, refl)) refl,
       i.4,
     )
 

@@ -23,8 +23,8 @@ invariant_of-self-in-Ok-plan g c =
       is-replayed-more g.T.Tickets.opened s.core c.plan.new.self s.history call i.0 (ap (λ (n : CycleNote). Some n) c.note_of-turn.ensures ∙ turn-planned s.core c.in-Ok-plan.plan c.in-Ok-plan.ensures.plan) same,
       are-counted-same s.core c.plan.new.self s.history call s.tickets.total s.refusals.total i.1 (ap (λ (b : Book). b.accepted) same) refl,
       i.2,
-      are-logs-more s.history call s.disk.entries s.disk.entries s.slaves.items s.slaves.items s.cycle.items c.push_reserved.new.self.items i.3 refl (λ n inside. (inside, refl))
-          (subst (λ (l : List CycleNote). c.push_reserved.new.self.items ≡ l ++ turn ∷ []) c.reserve.ensures.items c.push_reserved.ensures.items),
+      are-logs-more s.history call s.disk.entries s.disk.entries s.slaves.items s.slaves.items s.cycle.entries c.hand_out.new.self.entries i.3 refl (λ n inside. (inside, refl))
+          (subst (λ (l : List CycleNote). c.hand_out.new.self.entries ≡ l ++ turn ∷ []) c.reserve.ensures.entries c.hand_out.ensures),
       i.4,
     )
 
@@ -38,7 +38,7 @@ invariant_of-self-in-Err-ImageOverLimit g c =
       is-replayed-more g.T.Tickets.opened s.core c.plan.new.self s.history call i.0 (turn-over s.core (rw c.in-Err-ImageOverLimit.field-0-is at c.in-Err-ImageOverLimit.ensures.plan)) same,
       are-counted-same s.core c.plan.new.self s.history call s.tickets.total s.refusals.total i.1 (ap (λ (b : Book). b.accepted) same) refl,
       i.2,
-      are-logs-more s.history call s.disk.entries s.disk.entries s.slaves.items s.slaves.items s.cycle.items c.reserve.new.self.items i.3 refl (λ n inside. (inside, refl)) c.reserve.ensures.items,
+      are-logs-more s.history call s.disk.entries s.disk.entries s.slaves.items s.slaves.items s.cycle.entries c.reserve.new.self.entries i.3 refl (λ n inside. (inside, refl)) c.reserve.ensures.entries,
       i.4,
     )
 

@@ -1,4 +1,4 @@
-use Rattle.std.proofs.Common.{◌≡◌, ◌∙◌, refl, ap, arith}
+use Rattle.std.proofs.Common.{◌∙◌, refl, ap, arith}
 use Rattle.book_model.specs.Book.{Book}
 use Rattle.desk_book.specs.declared.call.Call.TheVariants.{SlaveAsked}
 use Rattle.desk_book.specs.Calls.{replayed}
@@ -21,7 +21,7 @@ invariant_of-self-2 g c =
       is-replayed-more g.T.Tickets.opened s.core c.rom_next-answer.new.self s.history call i.0 asked.answer asked.book,
       are-counted-same s.core c.rom_next-answer.new.self s.history call s.tickets.total s.refusals.total i.1 (ap (λ (b : Book). b.accepted) asked.book ∙ (keeps-rom_next s.core slave).accepted) refl,
       i.2,
-      are-logs-more s.history call s.disk.entries s.disk.entries s.slaves.items c.hand_out_at.new.slaves.items s.cycle.items s.cycle.items i.3 refl noted refl,
+      are-logs-more s.history call s.disk.entries s.disk.entries s.slaves.items c.hand_out_at.new.slaves.items s.cycle.entries s.cycle.entries i.3 refl noted refl,
       c.hand_out_at.ensures.noted.count ∙ c.reserve_at.ensures.same.count ∙ i.4,
     )
 

@@ -26,6 +26,6 @@ invariant_of-self g c =
       is-replayed-more g.T.Tickets.opened s.core c.rom_done.new.self s.history call i.0 out c.rom_done.ensures,
       are-counted-same s.core c.rom_done.new.self s.history call s.tickets.total s.refusals.total i.1 (ap (λ (b : Book). b.accepted) c.rom_done.ensures ∙ (keeps-rom_done s.core slave outcome).accepted) refl,
       i.2,
-      are-logs-more s.history call s.disk.entries s.disk.entries s.slaves.items c.tell_at.new.slaves.items s.cycle.items s.cycle.items i.3 refl noted refl,
+      are-logs-more s.history call s.disk.entries s.disk.entries s.slaves.items c.tell_at.new.slaves.items s.cycle.entries s.cycle.entries i.3 refl noted refl,
       c.tell_at.ensures.count ∙ i.4,
     )

@@ -16,6 +16,6 @@ invariant_of-result g c =
         refused_fit = omega (arith, totals.1);
       },
       sym totals.1,
-      record { of_disk = c.new-2.ensures; of_slaves = c.requires.notes; of_cycle = c.new-3.ensures.items },
+      record { of_disk = c.new-2.ensures; of_slaves = c.requires.notes; of_cycle = c.new-3.ensures },
       omega (arith, c.requires.count, ap (λ (b : Book). length (contents_of b)) c.requires.core, each-slave opened opened.accepted),
     )

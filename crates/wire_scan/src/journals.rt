@@ -1,0 +1,52 @@
+//! Judges the bytes of a journal's file.
+ghost use Rattle.std.specs.Prelude.{◌≡◌, length, map, IfOk, OnOk};
+ghost use Rattle.station_line.specs.Judging.{HasJournal};
+ghost use Rattle.wire_scan.specs.Backup.{IsWithoutPast};
+
+use jrn_format::{JournalFault, scan};
+use sii_words::Words;
+use station_files::Fault;
+use station_line::of_journal;
+use std::alloc::{AllocError, Global};
+
+/// Looks whether these bytes are a journal of a line of slaves with these words.
+///
+/// # Errors
+///
+/// `NotAJournal`, `BadVersion`, `WrongLine` or `BadJournal` where they aren't; `Memory`.
+pub(crate) fn judge_journal(alloc: Global, journal: &[u8], slaves: &[Words]) -> Result<(), Fault>
+    ensures { OnOk result (HasJournal (map length slaves.now) journal.now) }
+{
+    let sizes = sizes_of(alloc, slaves)?;
+    match scan(alloc, journal, &sizes) {
+        Ok(_found) => Ok(()),
+        Err(fault) => Err(of_journal(fault)),
+    }
+}
+
+/// Looks whether these bytes are a journal of a line of slaves with these words in which nothing is live.
+///
+/// # Errors
+///
+/// `Exists` where they are no journal, that of a line with another number of slaves, or one with live batches; `Memory`.
+pub fn require_empty(alloc: Global, journal: &[u8], slaves: &[Words]) -> Result<(), Fault>
+    ensures { OnOk result (IsWithoutPast journal.now (map length slaves.now)) }
+{
+    let sizes = sizes_of(alloc, slaves)?;
+    match scan(alloc, journal, &sizes) {
+        Ok(found) if found.batches.as_slice().is_empty() => Ok(()),
+        Err(JournalFault::Memory) => Err(Fault::Memory),
+        Ok(_) | Err(_) => Err(Fault::Exists),
+    }
+}
+
+/// The number of words of each slave.
+fn sizes_of(alloc: Global, slaves: &[Words]) -> Result<Vec<u16>, AllocError>
+    ensures { IfOk result (λ sizes. sizes.items ≡ map length slaves.now) }
+{
+    let mut sizes = Vec::new(alloc);
+    for words in slaves {
+        sizes.push(words.len() as u16)?;
+    }
+    Ok(sizes)
+}
