@@ -16,24 +16,19 @@ use wire_serve::{Arguments, Connection, Screen, read_arguments, refuse_text, ref
 
 fn main(rt: HostRuntime) -> ExitCode {
     let status = match hold_streams(&rt) {
-        Ok(_held) => serve_wire(&rt),
+        Ok(_held) => match words(&rt) {
+            Ok(words) => {
+                let connection = Connection {
+                    wire: EthernetWire::new(rt.stdin(), rt.stdout()),
+                    number: first_number(&rt),
+                };
+                serve_words(&rt, &words, connection, &mut rt.stderr())
+            }
+            Err(error) => refuse_words(&error, &mut rt.stderr()),
+        },
         Err(error) => refuse_words(&error, &mut rt.stderr()),
     };
     ExitCode::from(status)
-}
-
-/// Carries out the arguments over standard input and output.
-fn serve_wire(rt: &HostRuntime) -> u8 {
-    match words(rt) {
-        Ok(words) => {
-            let connection = Connection {
-                wire: EthernetWire::new(rt.stdin(), rt.stdout()),
-                number: first_number(rt),
-            };
-            serve_words(rt, &words, connection, &mut rt.stderr())
-        }
-        Err(error) => refuse_words(&error, &mut rt.stderr()),
-    }
 }
 
 /// The arguments, the program's name first.

@@ -268,8 +268,8 @@ fn create_beside<R: Files<File = File>>(files: &R, name: &str) -> io::Result<Fil
         .open(files, name)
 }
 
-/// Gives a new file the owner, where the system allows it, the group and the mode of the old one, with the mark, locks it where the system can, writes these bytes and
-/// syncs it.
+/// Gives a new file the group and the mode of the old one, with the mark, and its owner where the system allows that; locks it where the system
+/// can, writes these bytes and syncs it.
 fn fill(file: &mut File, old: Option<&Metadata>, bytes: &[u8]) -> io::Result<()> {
     if let Some(old) = old {
         let made = file.metadata()?;
