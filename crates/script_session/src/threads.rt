@@ -218,8 +218,8 @@ fn room_for<D: Device + Drop, T: Drop>(
     Ok((lent, room))
 }
 
-/// Takes a line apart, with a part for process data only if `turns` says so, and makes room to put it together again. The line's device lends each part
-/// its own once nothing can fail any more.
+/// Takes a line apart, with a part for process data only if `turns` says so, and makes room to put it together again. The line's device lends
+/// each part its own once nothing can fail any more.
 ///
 /// # Errors
 ///

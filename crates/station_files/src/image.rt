@@ -19,8 +19,9 @@ use std::io::{Read, Write};
 ///
 /// # Errors
 ///
-/// `File` where the file is absent, or file or input can't be read; `NotAFile` and `TooLong` as for `read_file`; with `hex`, `BadHex` where the text is not pairs of hexadecimal digits;
-/// `OddLength` for an odd number of bytes; `BadSize` for a wrong number of words. `Memory` may come at any point.
+/// `File` where the file is absent, or file or input can't be read; `NotAFile` and `TooLong` as for `read_file`; with `hex`, `BadHex` where the
+/// text is not pairs of hexadecimal digits; `OddLength` for an odd number of bytes; `BadSize` for a wrong number of words. `Memory` may come at
+/// any point.
 pub fn read_image<R: Read, S: Store>(
     alloc: Global,
     hex: bool,
