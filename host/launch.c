@@ -1,5 +1,6 @@
 // sii_wire [-i INTERFACE] [--timeout MS] [--program FILE] ARGUMENT..: opens a raw EtherCAT socket on the interface as descriptors 0 and 1,
-// gives up every privilege, and executes the proved program, whose text goes to what was standard output (docs/INSTALL.md).
+// gives up every privilege, and executes the proved program, sii_station --wire, whose text goes to what was standard output
+// (docs/INSTALL.md). By the name sii_slaves it executes the slaves to practise on.
 #define _GNU_SOURCE
 #include <arpa/inet.h>
 #include <err.h>
@@ -23,6 +24,9 @@
 #include <unistd.h>
 
 enum { USAGE = 2, NONE = 66, UNAVAILABLE = 69, SYSTEM = 71, MISSING = 72, TAKEN = 75, FORBIDDEN = 77, ETHERCAT = 0x88a4, LINK = 0x10000 };
+
+// By which name this was called, and the program that it executes.
+static const char *called = "sii_wire", *executed = "sii_station";
 
 static void must(int ok, const char *what) { if (!ok) err(SYSTEM, "%s", what); }
 
@@ -60,11 +64,11 @@ static int open_wire(const char *name, long ms) {
     struct sockaddr_ll at = { .sll_family = AF_PACKET, .sll_protocol = htons(ETHERCAT) };
     int wire = 0, type = 0, lent = !name && !getsockopt(0, SOL_SOCKET, SO_TYPE, &type, &(socklen_t){ sizeof type }) && type != SOCK_STREAM;
     const char *state = name ? state_of(name) : "up";
-    if (!name && !lent) errx(USAGE, "name the interface: sii_wire -i INTERFACE ..; sii_wire -i lists them");
-    if (!state) errx(NONE, "%s: there is no such Ethernet interface; sii_wire -i lists them", name);
+    if (!name && !lent) errx(USAGE, "name the interface: %s -i INTERFACE ..; %s -i lists them", called, called);
+    if (!state) errx(NONE, "%s: there is no such Ethernet interface; %s -i lists them", name, called);
     if (strcmp(state, "up")) errx(UNAVAILABLE, "%s is %s", name, state);
     if (name && (wire = socket(AF_PACKET, SOCK_RAW, 0)) < 0 && (errno == EPERM || errno == EACCES))
-        errx(FORBIDDEN, "%s: no permission to open a raw socket: use sudo, or give sii_wire the capability (man sii_wire)", name);
+        errx(FORBIDDEN, "%s: no permission to open a raw socket: use sudo, or give %s the capability (man %s)", name, called, called);
     must(wire >= 0 && !setsockopt(wire, SOL_SOCKET, SO_RCVTIMEO, &wait, sizeof wait)
          && !setsockopt(wire, SOL_SOCKET, SO_SNDTIMEO, &wait, sizeof wait), "the wire");
     if (name) must((at.sll_ifindex = (int)if_nametoindex(name)) && !bind(wire, (struct sockaddr *)&at, sizeof at), name);
@@ -96,13 +100,13 @@ static int open_text(void) {
 
 // The program: the one installed with this launcher, or built in the checkout that this launcher was built in.
 static const char *program_beside(void) {
-    static const char *const PLACES[] = { "../lib/pilzhoon/sii_wire", "../crates/sii_wire/out/sii_wire", "crates/sii_wire/out/sii_wire" };
+    static const char *const PLACES[] = { "../lib/pilzhoon/%s", "../crates/%s/out/%s", "crates/%s/out/%s" };
     static char path[PATH_MAX + 64];
     ssize_t length = readlink("/proc/self/exe", path, PATH_MAX);
     must(length > 0, "/proc/self/exe");
     char *name = strrchr(path, '/') + 1;
     for (size_t it = 0; it < sizeof PLACES / sizeof *PLACES; it++)
-        if (!access(strcpy(name, PLACES[it]) - (name - path), X_OK)) return path;
+        if (sprintf(name, PLACES[it], executed, executed) > 0 && !access(path, X_OK)) return path;
     errx(MISSING, "the program isn't there: install Pilzhoon, or build it, or name it by --program FILE");
 }
 
@@ -114,8 +118,9 @@ static int is_among(const char *word, const char *words) {
 
 int main(int argc, char **argv) {
     const char *name = NULL, *program = NULL, *timeout = "100";
-    char *words[argc + 6], *rest = NULL;
-    int it = 1, count = 5, helps = 0, text_named = 0, spare;
+    char *words[argc + 7], *rest = NULL;
+    int it = 1, count = 6, helps = 0, text_named = 0, spare;
+    if (!strcmp(program_invocation_short_name, "sii_slaves")) called = executed = "sii_slaves";
     while ((spare = open("/dev/null", O_RDWR)) >= 0 && spare < 3) {}  // so that standard input, output and error are there
     for (const char *word; it < argc && (word = argv[it]); it++) {
         const char **value = !strcmp(word, "-i") ? &name : !strcmp(word, "--timeout") ? &timeout : !strcmp(word, "--program") ? &program : NULL;
@@ -127,14 +132,16 @@ int main(int argc, char **argv) {
     }
     long ms = timeout ? strtol(timeout, &rest, 10) : 0;
     if (!rest || *rest || ms < 1 || ms > 60000) errx(USAGE, "--timeout wants a number of milliseconds, 1 to 60000");
-    int wire = helps || is_among(count > 5 ? words[5] : "help", " help explain man completions ") ? spare : open_wire(name, ms);
+    // Subcommands that need no wire. What stands behind sii_slaves is a file.
+    const char *plain = called == executed ? "" : " help explain man completions ";
+    int wire = helps || is_among(count > 6 ? words[6] : "help", plain) ? spare : open_wire(name, ms);
     give_up_privileges();
     int text = fcntl(open_text(), F_DUPFD, 10), moved = fcntl(wire, F_DUPFD, 10), begin = text_named ? 2 : 0;
     must(text >= 0 && moved >= 0 && dup2(text, 3) == 3 && dup2(moved, 0) == 0 && dup2(moved, 1) == 1, "descriptors");
     // Help goes to standard error, and is to be read in a pager.
     must((!helps || dup2(3, 2) == 2) && !close_range(4, ~0U, 0), "descriptors");
-    words[count] = NULL, words[begin] = argv[0], words[begin + 1] = "--timeout", words[begin + 2] = (char *)timeout;
-    if (!text_named) words[3] = "--text", words[4] = "/dev/fd/3";
+    words[count] = NULL, words[begin] = argv[0], words[begin + 1] = "--wire", words[begin + 2] = "--timeout", words[begin + 3] = (char *)timeout;
+    if (!text_named) words[4] = "--text", words[5] = "/dev/fd/3";
     if (!program) program = program_beside();
 #ifdef BUILD
     if (is_among(words[count - 1], " -V --version ")) dprintf(3, "%s\n", BUILD);

@@ -5,17 +5,20 @@
 // lie in a slave's memory isn't said there, so it is read from the slave's EEPROM. A slave whose EEPROM doesn't say it, as behind a power cut
 // in the midst of its words, or that refuses a step, stays in Pre-Operational, without process data, and the others are cycled.
 //
-// Meanwhile it lends the wire to a station that it starts (`sii_wire .. --beside`; docs/EMBEDDING.md says what both may do). The station's
-// standard input is one end of a socket pair, of which each message is an Ethernet frame around an EtherCAT frame. Its datagrams ride in the
-// next cyclic frame, behind the master's own, or in a frame between two cycles, and come back as a message of the same form. Where the frame
-// is lost, or a datagram in it could disturb the line, no message comes back.
+// Meanwhile it lends the wire to a station that it starts (`sii_wire .. --beside --carry N`; docs/EMBEDDING.md says what both may do). The
+// station's standard input is one end of a socket pair, of which each message is an Ethernet frame around an EtherCAT frame. Its datagrams
+// ride in the next cyclic frame, after the master's own, if there is room, else in a frame between two cycles, and come back as a message of
+// the same form. Where the frame is lost, or a datagram in it could disturb the line, no message comes back. A cycle carries no more bytes of
+// them than the budget; a message for which none is left waits for the next cycle, and one that is longer than the budget or a frame is dropped.
 //   --period US      how long a cycle takes (1000)
+//   --budget BYTES   how many bytes a cycle carries for the station, each datagram with header and counter (14860: ten full frames)
 //   --seconds S      how long to work; 0: until the station has ended, or an interrupt (0)
 // An interface - is a socket that is descriptor 0 and takes Ethernet frames. The last line is
 // 'cycles N missed M lost L counters C states S delay D us, rides R': M deadlines were missed by a whole period, L frames weren't back by the
 // next one, C came back with another working counter than the layout's, S while not all slaves were Operational, and D is how much later
-// than its deadline a cycle began, at most. Slaves that stay in Pre-Operational aren't counted in C and S. The status is 0 where all of M, L,
-// C and S are 0.
+// than its deadline a cycle began, at most. Slaves that stay in Pre-Operational aren't counted in C and S. The status is the station's where
+// one ran and didn't end with 0 (128 and the signal's number where a signal ended it); else 6 where M, L, C or S isn't 0; else 0. What the
+// master can't begin is status 1, and wrong usage 2, before a station runs.
 #define _GNU_SOURCE
 #include <arpa/inet.h>
 #include <err.h>
@@ -38,6 +41,7 @@
 
 enum { ETHERNET = 14, LONGEST = 1514, SHORTEST = 60, HEADER = 10, COUNTER = 2, MORE = 0x8000 };
 enum { SPARE_NS = 300000 };  // so long before a cycle no other frame goes out
+enum { MOST = LONGEST - ETHERNET - 2 - HEADER - COUNTER };  // what fits a frame after a datagram without data
 enum { NOP = 0, APRD = 1, APWR = 2, FPRD = 4, FPWR = 5, BRD = 7, BWR = 8, LRW = 12 };
 enum { ADDRESS = 0x0010, AL_CONTROL = 0x0120, AL_STATUS = 0x0130, AL_CODE = 0x0134, SII_ACCESS = 0x0500, SII_CONTROL = 0x0502, SII_DATA = 0x0508,
        SII_END = 0x0510, FMMUS = 0x0600, MANAGERS = 0x0800, FIRST_ADDRESS = 1001, MAX_ROWS = 1024 };
@@ -51,6 +55,7 @@ static unsigned row_count, slave_count, image_size, wanted_counter, wanted_state
 static uint8_t is_left[65536];  // which slaves stay in Pre-Operational
 static uint8_t image[LONGEST];
 static int wire;
+static size_t budget = 14860;
 static volatile sig_atomic_t interrupted;
 static struct { unsigned long cycles, missed, lost, counters, states, rides; int64_t delay; } count;
 
@@ -252,8 +257,11 @@ static void read_layout(const char *name) {
 
 // ---- The wire that is lent
 
-// A message of the station, an Ethernet frame: its bytes, up to the end of its datagrams.
-struct ride { uint8_t bytes[LONGEST]; size_t length; };
+// A message of the station, an Ethernet frame: its bytes, up to the end of its datagrams; a length of 0 where there is none. How many bytes the
+// cycle has left for datagrams.
+struct ride { uint8_t bytes[LONGEST]; size_t length, left; };
+
+static size_t size_of(const struct ride *ride) { return ride->length - ETHERNET - 2; }
 
 // Whether a datagram of the station leaves the running line as it is: it counts the slaves, reads a station address, or is for the registers
 // of an EEPROM.
@@ -265,12 +273,9 @@ static int is_harmless(const uint8_t *at, size_t size) {
     return (at[0] == FPRD || at[0] == FPWR) && offset >= SII_ACCESS && offset + size <= SII_END;
 }
 
-// Takes a message of the station, if one is there, and all its datagrams are whole and harmless.
-static int take_message(int lent, struct ride *ride) {
-    ssize_t length = recv(lent, ride->bytes, sizeof ride->bytes, MSG_DONTWAIT);
-    if (length < ETHERNET + 2 || ride->bytes[12] != 0x88 || ride->bytes[13] != 0xa4) return 0;
-    ride->length = ETHERNET + 2 + (get16(ride->bytes + ETHERNET) & 0x7ff);
-    if (ride->length > (size_t)length) return 0;
+// Whether all datagrams of a message are whole and harmless.
+static int is_message(const struct ride *ride, size_t length) {
+    if (length < ETHERNET + 2 || ride->bytes[12] != 0x88 || ride->bytes[13] != 0xa4 || ride->length > length) return 0;
     size_t at = ETHERNET + 2;
     for (unsigned more = 1; more; more = get16(ride->bytes + at + 6) & MORE, at += HEADER + (get16(ride->bytes + at + 6) & 0x7ff) + COUNTER) {
         if (at + HEADER + COUNTER > ride->length) return 0;
@@ -281,19 +286,42 @@ static int take_message(int lent, struct ride *ride) {
     return 1;
 }
 
-// Puts the datagrams of a message behind those of the frame. Gives where they stand, or 0 where they don't fit.
-static size_t put_ride(struct frame *frame, const struct ride *ride) {
-    size_t size = ride->length - ETHERNET - 2, at = frame->length;
-    if (at + size > LONGEST) return 0;
-    memcpy(frame->bytes + at, ride->bytes + ETHERNET + 2, size);
-    frame->length += size;
+// Takes a message of the station, unless one waits already. Gives whether the cycle may carry it.
+static int take_message(int lent, struct ride *ride) {
+    if (!ride->length) {
+        ssize_t length = recv(lent, ride->bytes, sizeof ride->bytes, MSG_DONTWAIT);
+        if (length < ETHERNET + 2) return 0;
+        ride->length = ETHERNET + 2 + (get16(ride->bytes + ETHERNET) & 0x7ff);
+        if (!is_message(ride, (size_t)length) || size_of(ride) > budget || size_of(ride) > MOST) ride->length = 0;
+    }
+    return ride->length && size_of(ride) <= ride->left;
+}
+
+// Puts the datagrams of a message after those of the frame. Gives where they stand, or 0 where they don't fit.
+static size_t put_ride(struct frame *frame, struct ride *ride) {
+    size_t at = frame->length;
+    if (at + size_of(ride) > LONGEST) return 0;
+    memcpy(frame->bytes + at, ride->bytes + ETHERNET + 2, size_of(ride));
+    frame->length += size_of(ride);
+    ride->left -= size_of(ride);
     return at;
 }
 
 // Hands the datagrams back as they came.
-static void hand_back(int lent, struct ride *ride, const struct frame *frame, size_t at) {
-    memcpy(ride->bytes + ETHERNET + 2, frame->bytes + at, ride->length - ETHERNET - 2);
-    if (send(lent, ride->bytes, ride->length, MSG_DONTWAIT | MSG_NOSIGNAL) == (ssize_t)ride->length) count.rides++;
+static void hand_back(int lent, const struct ride *ride, const struct frame *frame, size_t at) {
+    uint8_t bytes[LONGEST];
+    memcpy(bytes, ride->bytes, ETHERNET + 2);
+    memcpy(bytes + ETHERNET + 2, frame->bytes + at, size_of(ride));
+    if (send(lent, bytes, ride->length, MSG_DONTWAIT | MSG_NOSIGNAL) == (ssize_t)ride->length) count.rides++;
+}
+
+// Sends a frame and waits for it, and hands back what rode in it. A message that rode is gone, whether it came back or not. Gives whether the
+// frame came back.
+static int pass(int lent, struct ride *ride, struct frame *frame, size_t riding, int64_t until) {
+    int is_back = send_frame(frame) && receive(frame, until);
+    if (riding && is_back) hand_back(lent, ride, frame, riding);
+    if (riding) ride->length = 0;
+    return is_back;
 }
 
 // Starts the station with its end of the pair as standard input. Gives the other one.
@@ -313,12 +341,12 @@ static void ride_between(int lent, struct ride *ride, uint8_t *index, int64_t un
         struct frame frame;
         struct pollfd ready = { .fd = lent, .events = POLLIN };
         struct timespec wait = { 0, left };
-        if (ppoll(&ready, 1, &wait, NULL) <= 0 || !take_message(lent, ride)) return;
+        if (!ride->length && ppoll(&ready, 1, &wait, NULL) <= 0) return;
+        if (!take_message(lent, ride)) return;
         begin(&frame);
         add(&frame, NOP, ++*index, 0, 0, NULL, 0);
         size_t riding = put_ride(&frame, ride);
-        if (!riding || !send_frame(&frame) || !receive(&frame, until)) return;
-        hand_back(lent, ride, &frame, riding);
+        if (!riding || !pass(lent, ride, &frame, riding, until)) return;
     }
 }
 
@@ -327,14 +355,14 @@ static void cycle(int lent, struct ride *ride, int64_t until) {
     static uint8_t index;
     struct frame frame;
     begin(&frame);
-    size_t data = add(&frame, LRW, ++index, 0, 0, image, image_size), states = add(&frame, BRD, index, 0, AL_STATUS, NULL, 2);
-    size_t riding = lent >= 0 && take_message(lent, ride) ? put_ride(&frame, ride) : 0;
+    size_t data = add(&frame, LRW, ++index, 0, 0, image, image_size), states = add(&frame, BRD, index, 0, AL_STATUS, NULL, 2), riding = 0;
+    if (ride) ride->left = budget;
+    if (lent >= 0 && take_message(lent, ride)) riding = put_ride(&frame, ride);
     count.cycles++;
-    if (!send_frame(&frame) || !receive(&frame, until)) { count.lost++; return; }
+    if (!pass(lent, ride, &frame, riding, until)) { count.lost++; return; }
     memcpy(image, frame.bytes + data, image_size);
     count.counters += get16(frame.bytes + data + image_size) != wanted_counter;
     count.states += get16(frame.bytes + states) != wanted_states || get16(frame.bytes + states + 2) != slave_count;
-    if (riding) hand_back(lent, ride, &frame, riding);
     if (lent >= 0) ride_between(lent, ride, &index, until);
 }
 
@@ -364,30 +392,32 @@ static void become_operational(int64_t period) {
     printf("%u slaves are Operational\n", slave_count - left_count);
 }
 
-// Whether the station has ended.
-static int has_ended(pid_t station) {
+// The station's status; -1 where it hasn't ended, and isn't waited for.
+static int status_of(pid_t station, int options) {
     int status;
-    if (waitpid(station, &status, WNOHANG) != station) return 0;
-    printf("the station ended with status %d\n", WIFEXITED(status) ? WEXITSTATUS(status) : 128 + WTERMSIG(status));
-    return 1;
+    if (waitpid(station, &status, options) != station) return -1;
+    status = WIFEXITED(status) ? WEXITSTATUS(status) : 128 + WTERMSIG(status);
+    printf("the station ended with status %d\n", status);
+    return status;
 }
 
-// Exchanges process data for so long, or until the station has ended. Each byte of outputs counts the seconds.
-static void run(int64_t period, int64_t seconds, char **words) {
+// Exchanges process data for so long, or until the station has ended. Each byte of outputs counts the seconds. Gives the station's status, 0
+// where there is none.
+static int run(int64_t period, int64_t seconds, char **words) {
     static struct ride ride;
     pid_t station = 0;
-    int lent = words[0] ? start_station(words, &station) : -1;
+    int lent = words[0] ? start_station(words, &station) : -1, status = words[0] ? -1 : 0;
     int64_t begun = now_ns(), deadline = begun;
     while (!interrupted && (!seconds || deadline - begun < seconds * 1000000000)) {
         deadline = wake_at(deadline + period, period);
         for (unsigned r = 0; r < row_count; r++)
             if (rows[r].is_output) memset(image + rows[r].offset, (int)((deadline - begun) / 1000000000 & 0xff), rows[r].size);
         cycle(lent, &ride, deadline + period);
-        if (!station || count.cycles % 16 || !has_ended(station)) continue;
-        station = 0;
-        if (!seconds) break;
+        if (status < 0 && count.cycles % 16 == 0 && (status = status_of(station, WNOHANG)) >= 0 && !seconds) break;
     }
-    if (station) kill(station, SIGTERM);
+    if (status >= 0) return status;
+    kill(station, SIGTERM);
+    return status_of(station, 0);
 }
 
 int main(int argc, char **argv) {
@@ -395,10 +425,11 @@ int main(int argc, char **argv) {
     int at = 1;
     for (; at + 1 < argc && !strncmp(argv[at], "--", 2) && argv[at][2]; at += 2)
         if (!strcmp(argv[at], "--period")) period = atol(argv[at + 1]);
+        else if (!strcmp(argv[at], "--budget")) budget = (size_t)atol(argv[at + 1]);
         else if (!strcmp(argv[at], "--seconds")) seconds = atol(argv[at + 1]);
         else errx(2, "%s: not taken", argv[at]);
     if (argc - at < 2 || (argc - at > 2 && strcmp(argv[at + 2], "--")) || period < 50 || seconds < 0)
-        errx(2, "usage: master [--period US] [--seconds S] INTERFACE LAYOUT [-- STATION [ARGUMENT..]]");
+        errx(2, "usage: master [--period US] [--budget BYTES] [--seconds S] INTERFACE LAYOUT [-- STATION [ARGUMENT..]]");
     struct sockaddr_ll place = { .sll_family = AF_PACKET, .sll_protocol = htons(0x88a4) };
     wire = strcmp(argv[at], "-") ? socket(AF_PACKET, SOCK_RAW | SOCK_CLOEXEC, 0) : 0;
     place.sll_ifindex = wire ? (int)if_nametoindex(argv[at]) : 0;
@@ -413,9 +444,9 @@ int main(int argc, char **argv) {
     mlockall(MCL_CURRENT | MCL_FUTURE);
     sched_setscheduler(0, SCHED_FIFO | SCHED_RESET_ON_FORK, &(struct sched_param){ .sched_priority = 50 });
     become_operational(period * 1000);
-    run(period * 1000, seconds, argc - at > 2 ? argv + at + 3 : argv + argc);
+    int status = run(period * 1000, seconds, argc - at > 2 ? argv + at + 3 : argv + argc);
     for (unsigned k = 0; k < slave_count; k++) change_state(k, INIT);
     printf("cycles %lu missed %lu lost %lu counters %lu states %lu delay %lld us, rides %lu\n", count.cycles, count.missed, count.lost,
            count.counters, count.states, (long long)count.delay / 1000, count.rides);
-    return count.missed || count.lost || count.counters || count.states;
+    return status ? status : count.missed || count.lost || count.counters || count.states ? 6 : 0;
 }

@@ -334,7 +334,9 @@ static size_t image_by_chance(uint8_t *image) {
 
 /* ---- the comparison */
 
-static unsigned long codes[7][128];
+enum { CALLS = 11, CODES = 320 };
+
+static unsigned long codes[CALLS][CODES];
 static unsigned long made;
 
 static void same(const char *what, int holds) {
@@ -372,8 +374,78 @@ static void compare_reading(const uint8_t *image, size_t length) {
         code = pz_category(image, length, k, &place);
         codes[2][code]++;
         if (all.cut) same("pz_category where the chain is cut off", code == PZ_RUNS_OUT && place.kind == 1 && place.at == 2);
-        else if (k >= all.count) same("pz_category behind the last", code == PZ_NO_SUCH_CATEGORY && place.count == 3);
+        else if (k >= all.count) same("pz_category after the last", code == PZ_NO_SUCH_CATEGORY && place.count == 3);
         else same("pz_category", code == PZ_OK && place.at == all.at[k] && place.kind == word(v, place.at) && place.count == word(v, place.at + 1));
+    }
+}
+
+/* The items of a content, read byte by byte. */
+static void compare_managers(const uint8_t *c, size_t n) {
+    size_t number = chance(12);
+    pz_sync_manager_row row = {1, 2, 3, 4, 5, 6};
+    pz_code code = pz_sync_manager(c, n, number, &row);
+    const uint8_t *b = c + 8 * number;
+    codes[7][code]++;
+    if (n % 2) same("pz_sync_manager of odd bytes", code == PZ_ODD_LENGTH && row.start == 1);
+    else if (number >= n / 8) same("pz_sync_manager after the last", code == PZ_NO_SUCH_ITEM && row.kind == 6);
+    else
+        same("pz_sync_manager", code == PZ_OK && row.start == (b[0] | (uint32_t)b[1] << 8) && row.length == (b[2] | (uint32_t)b[3] << 8) &&
+                                    row.control == b[4] && row.status == b[5] && row.enable == b[6] && row.kind == b[7]);
+}
+
+static void compare_pdos(const uint8_t *c, size_t n) {
+    size_t number = chance(6), at = chance(5), p = 0, left = number;
+    pz_pdo_row row = {1, 2, 3, 4, 5, 6};
+    pz_pdo_entry_row entry = {1, 2, 3, 4, 5, 6};
+    pz_code code = pz_pdo(c, n, number, &row), of_entry = pz_pdo_entry(c, n, number, at, &entry);
+    codes[8][code]++;
+    codes[9][of_entry]++;
+    if (n % 2 || !pdos_ok(c, n)) {
+        pz_code wanted = n % 2 ? PZ_ODD_LENGTH : PZ_BAD_CATEGORY;
+        same("pz_pdo of what can't be read", code == wanted && of_entry == wanted && row.entries == 1 && entry.index == 1);
+        return;
+    }
+    for (; n - p >= 8 && left > 0; left--) p += 8 + 8u * c[p + 2];
+    if (left > 0 || n - p < 8) {
+        same("pz_pdo after the last", code == PZ_NO_SUCH_ITEM && of_entry == PZ_NO_SUCH_ITEM && row.index == 2);
+        return;
+    }
+    const uint8_t *b = c + p, *e = b + 8 + 8 * at;
+    same("pz_pdo", code == PZ_OK && row.entries == b[2] && row.index == (b[0] | (uint32_t)b[1] << 8) && row.manager == b[3] &&
+                       row.synchronization == b[4] && row.name == b[5] && row.flags == (b[6] | (uint32_t)b[7] << 8));
+    if (at >= b[2]) same("pz_pdo_entry after the last", of_entry == PZ_NO_SUCH_ITEM && entry.flags == 6);
+    else
+        same("pz_pdo_entry", of_entry == PZ_OK && entry.index == (e[0] | (uint32_t)e[1] << 8) && entry.subindex == e[2] && entry.name == e[3] &&
+                                 entry.data_type == e[4] && entry.bits == e[5] && entry.flags == (e[6] | (uint32_t)e[7] << 8));
+}
+
+static void compare_strings(const uint8_t *c, size_t n) {
+    uint8_t text[8], before[8];
+    size_t number = chance(6), room = chance(9), size = 99, p = 1;
+    memset(text, 0xAA, sizeof text);
+    memcpy(before, text, sizeof text);
+    pz_code code = pz_string(c, n, number, text, room, &size);
+    codes[10][code]++;
+    pz_code wanted = n % 2 ? PZ_ODD_LENGTH : !strings_ok(c, n) ? PZ_BAD_CATEGORY : n == 0 || number == 0 || number > c[0] ? PZ_NO_SUCH_ITEM : PZ_OK;
+    for (size_t left = number; wanted == PZ_OK && left > 1; left--) p += 1u + c[p];
+    if (wanted == PZ_OK && c[p] > room) wanted = PZ_NO_SPACE;
+    if (wanted == PZ_OK) memcpy(before, c + p + 1, c[p]);
+    same("pz_string", code == wanted && memcmp(text, before, sizeof text) == 0 && size == (wanted == PZ_OK ? c[p] : 99u));
+}
+
+static void compare_contents(void) {
+    static uint8_t made[16384];
+    static const unsigned kinds[] = {10, 41, 50};
+    for (unsigned i = 0; i < 3; i++) {
+        size_t n = content_by_chance(kinds[i], made, sizeof made);
+        if (chance(50) == 0 && n > 0) n -= 1;
+        uint8_t *c = malloc(n ? n : 1);
+        if (!c) exit(2);
+        memcpy(c, made, n);
+        compare_strings(c, n);
+        compare_managers(c, n);
+        compare_pdos(c, n);
+        free(c);
     }
 }
 
@@ -442,7 +514,8 @@ static void compare_line(void) {
 }
 
 int main(int count, char **words) {
-    static const char *names[7] = {"pz_judge", "pz_read_head", "pz_category", "pz_set_alias", "pz_edit_category", "pz_edit_image", "pz_place_line"};
+    static const char *names[CALLS] = {"pz_judge",         "pz_read_head",  "pz_category",   "pz_set_alias", "pz_edit_category", "pz_edit_image",
+                                       "pz_place_line", "pz_sync_manager", "pz_pdo", "pz_pdo_entry", "pz_string"};
     unsigned long images = count > 1 ? strtoul(words[1], NULL, 10) : 1000;
     state = count > 2 ? strtoul(words[2], NULL, 10) : 1;
     static uint8_t image[MOST_BYTES];
@@ -457,10 +530,11 @@ int main(int count, char **words) {
         compare_alias(image, length);
         compare_edits(image, length);
         compare_line();
+        compare_contents();
     }
-    for (int call = 0; call < 7; call++) {
+    for (int call = 0; call < CALLS; call++) {
         printf("%-17s", names[call]);
-        for (unsigned code = 0; code < 128; code++) {
+        for (unsigned code = 0; code < CODES; code++) {
             if (codes[call][code]) printf(" %u: %lu", code, codes[call][code]);
         }
         printf("\n");

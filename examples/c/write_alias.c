@@ -39,9 +39,9 @@ static int exchange(uint8_t command, uint16_t adp, uint16_t ado, uint8_t *conten
 }
 
 /* Carries an access through, and answers how it ended. */
-static uint32_t run(pz_access *access, uint16_t station) {
+static pz_progress run(pz_access *access, uint16_t station) {
     pz_datagram datagram;
-    uint32_t code;
+    pz_progress code;
     while ((code = pz_next(access, &datagram)) == PZ_SEND) {
         int counter = exchange(datagram.command, station, datagram.ado, datagram.content, datagram.length);
         if (counter < 0) pz_lose(access);
@@ -50,39 +50,41 @@ static uint32_t run(pz_access *access, uint16_t station) {
     return code;
 }
 
-static uint32_t write_word(uint16_t station, uint16_t word, uint16_t value) {
+static pz_progress write_word(uint16_t station, uint16_t word, uint16_t value) {
     pz_access access;
-    uint32_t code = PZ_AGAIN;
+    pz_progress code = PZ_AGAIN;
     for (int tries = 0; tries < 3 && code == PZ_AGAIN; tries++) {
         pz_issue(&access, word, value);
-        uint32_t issued = run(&access, station);
+        pz_progress issued = run(&access, station);
         pz_settle(&access, issued == PZ_TAKEN);
         code = run(&access, station);
     }
     return code;
 }
 
-static uint32_t set_alias(uint16_t station, uint16_t alias) {
+/* What is wrong; or NULL where all changed words are written. */
+static const char *set_alias(uint16_t station, uint16_t alias) {
     uint8_t old[2 * WORDS], new[2 * WORDS];
     pz_access access;
     pz_open(&access);
-    uint32_t code = run(&access, station);
-    if (code != PZ_OPENED) return code;
+    pz_progress end = run(&access, station);
+    if (end != PZ_OPENED) return pz_text(end);
     for (uint16_t word = 0; word < WORDS; word += 2) {
         pz_read(&access, word);
-        if ((code = run(&access, station)) != PZ_READ) return code;
+        if ((end = run(&access, station)) != PZ_READ) return pz_text(end);
         old[2 * word] = (uint8_t)access.first, old[2 * word + 1] = (uint8_t)(access.first >> 8);
         old[2 * word + 2] = (uint8_t)access.second, old[2 * word + 3] = (uint8_t)(access.second >> 8);
     }
     memcpy(new, old, sizeof new);
-    if ((code = pz_set_alias(new, sizeof new, alias)) != PZ_OK) return code;
-    code = PZ_WRITTEN;
-    for (uint16_t word = 0; word < WORDS && code == PZ_WRITTEN; word++) {
+    pz_code code = pz_set_alias(new, sizeof new, alias);
+    if (code != PZ_OK) return pz_text(code);
+    end = PZ_WRITTEN;
+    for (uint16_t word = 0; word < WORDS && end == PZ_WRITTEN; word++) {
         if (memcmp(old + 2 * word, new + 2 * word, 2) == 0) continue;
-        code = write_word(station, word, (uint16_t)(new[2 * word] | new[2 * word + 1] << 8));
-        printf("word %u code %u\n", (unsigned)word, (unsigned)code);
+        end = write_word(station, word, (uint16_t)(new[2 * word] | new[2 * word + 1] << 8));
+        printf("word %u: %s\n", (unsigned)word, pz_text(end));
     }
-    return code;
+    return end == PZ_WRITTEN ? NULL : pz_text(end);
 }
 
 int main(int count, char **words) {
@@ -93,8 +95,8 @@ int main(int count, char **words) {
     if (wire < 0 || bind(wire, (struct sockaddr *)&at, sizeof at) < 0) return perror(words[1]), 3;
     uint8_t address[2] = {(uint8_t)station, (uint8_t)(station >> 8)};
     if (exchange(APWR, (uint16_t)-place, STATION, address, 2) != 1) return fprintf(stderr, "no slave at place %u\n", (unsigned)place), 4;
-    uint32_t code = set_alias(station, (uint16_t)atoi(words[3]));
+    const char *wrong = set_alias(station, (uint16_t)atoi(words[3]));
     close(wire);
-    if (code != PZ_WRITTEN) return fprintf(stderr, "code %u\n", (unsigned)code), 4;
+    if (wrong) return fprintf(stderr, "%s\n", wrong), 4;
     return 0;
 }

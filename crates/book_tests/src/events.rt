@@ -2,6 +2,7 @@
 
 use crate::asks::{Ask, submit};
 use crate::disk::{Disk, disk_comes};
+use crate::line::Memory;
 use crate::rom::{Rom, rom_comes};
 use book_core::Core;
 use book_model::{Fault, Status, SubmitRefusal};
@@ -11,7 +12,7 @@ use std::alloc::Global;
 #[derive(Clone, Copy)]
 pub(crate) enum Event {
     Submit(Ask, Result<u64, SubmitRefusal>),
-    /// The command is submitted to an empty book until it is refused, after this number of times.
+    /// The command is submitted this number of times, and each time it is accepted with the next number.
     Fill(Ask, u64),
     Disk(Disk),
     Rom(u16, Rom),
@@ -56,41 +57,45 @@ fn call_comes(core: &mut Core, call: &Call) -> Option<bool> {
     }
 }
 
-/// How often the command is accepted, each time with the next number.
-fn fill(alloc: Global, core: &mut Core, ask: &Ask) -> Option<u64> {
-    for number in 0..2000u64 {
-        if submit(alloc, core, ask)? != Ok(number) {
-            return Some(number);
-        }
-    }
-    Some(2000)
-}
-
 /// Whether the call gives what it must. None: memory was refused.
 fn comes(alloc: Global, core: &mut Core, event: &Event) -> Option<bool> {
     match event {
         Event::Submit(ask, wanted) => Some(submit(alloc, core, ask)? == *wanted),
-        Event::Fill(ask, wanted) => Some(fill(alloc, core, ask)? == *wanted),
+        Event::Fill(ask, _) => {
+            let next = core.status().accepted;
+            Some(submit(alloc, core, ask)? == Ok(next))
+        }
         Event::Disk(disk) => disk_comes(core, disk),
         Event::Rom(slave, rom) => Some(rom_comes(core, *slave, rom)),
         Event::Call(call) => call_comes(core, call),
     }
 }
 
-/// Whether the call gives what it must, at the second try if the first is refused memory, which must change nothing.
-fn comes_at_last(alloc: Global, core: &mut Core, event: &Event) -> bool {
+/// Whether the call gives what it must. Where a growth is refused on purpose, it changes nothing and is made again.
+fn is_told(alloc: Global, core: &mut Core, event: &Event, memory: Memory) -> bool {
     let before = core.status();
     match comes(alloc, core, event) {
         Some(is_told) => is_told,
-        None => core.status() == before && matches!(comes(alloc, core, event), Some(true)),
+        None if memory == Memory::Ample || core.status() != before => false,
+        None => matches!(comes(alloc, core, event), Some(true)),
+    }
+}
+
+/// How often an event comes.
+fn times_of(event: &Event) -> u64 {
+    match event {
+        Event::Fill(_, times) => *times,
+        _ => 1,
     }
 }
 
 /// Whether all calls give what they must.
-pub(crate) fn are_told(alloc: Global, core: &mut Core, events: &[Event]) -> bool {
+pub(crate) fn are_told(alloc: Global, core: &mut Core, events: &[Event], memory: Memory) -> bool {
     for event in events {
-        if !comes_at_last(alloc, core, event) {
-            return false;
+        for _time in 0..times_of(event) {
+            if !is_told(alloc, core, event, memory) {
+                return false;
+            }
         }
     }
     true

@@ -22,6 +22,15 @@ pub(crate) struct Line {
     pub second: &'static [u8],
 }
 
+/// What memory calls find.
+#[derive(Clone, Copy, PartialEq)]
+pub(crate) enum Memory {
+    /// Enough for each call.
+    Ample,
+    /// Too little for one growth, which is refused on purpose. What wanted it may be asked a second time.
+    RefusedOnce,
+}
+
 /// Writes bytes over others, from a place on, as far as there is room.
 pub(crate) fn patch(bytes: &mut [u8], from: usize, new: &[u8]) {
     for place in 0..new.len() {
@@ -94,10 +103,10 @@ fn book(alloc: Global, line: &Line) -> Option<Core> {
     }
 }
 
-/// The book of such a line, at the second try if the first is refused memory.
-pub(crate) fn book_at_last(alloc: Global, line: &Line) -> Option<Core> {
+/// The book of such a line. None: memory was refused on no purpose, or the line has no book.
+pub(crate) fn book_of(alloc: Global, line: &Line, memory: Memory) -> Option<Core> {
     match book(alloc, line) {
-        Some(core) => Some(core),
-        None => book(alloc, line),
+        None if memory == Memory::RefusedOnce => book(alloc, line),
+        opened => opened,
     }
 }

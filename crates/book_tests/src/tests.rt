@@ -1,8 +1,5 @@
-//! What books answer from their opening on, call by call.
-//!
-//! A call that is refused memory leaves the book as it was, and when it is made again it is answered as ever. The gate runs this with
-//! memory; `rt try --test --fail-alloc N` refuses the Nth allocation, and for each N all calls do so, but for those of
-//! `the_queue_holds_1024_commands`.
+//! What books answer from their opening on, call by call: with ample memory, which no call may want; and where a growth is refused. A call that is
+//! refused one leaves the book as it was, and when it is made again it is answered as ever. The gate refuses none; `tools/refuse_each` refuses each.
 
 use crate::asks::Ask::{Alias, Group, Image, Inputs, Swap};
 use crate::disk::Disk::{Append, Did, Done, Retire, Waits};
@@ -10,26 +7,35 @@ use crate::disk::Step::{Close, Idle, Open, Stop, Sync, Write};
 use crate::events::Call::{Fault, Finish, Migrate, Plan, Status};
 use crate::events::Event::{Call, Disk, Fill, Rom, Submit};
 use crate::events::{Event, are_told};
-use crate::line::{Line, Slave, book_at_last};
+use crate::line::Memory::{self, Ample, RefusedOnce};
+use crate::line::{Line, Slave, book_of};
 use crate::rom::Rom::{Next, Outcome, Serves, Writes};
 use book_model::{Fault as Faults, RomNext, RomOutcome, SubmitRefusal};
 use sii_edit::{Cause, Refusal};
 use site_core::{DeviceFault, Issued, Settled};
 use std::alloc::Global;
+use std::process::Abort;
 
 /// A line, and the calls of its book.
 type Case = (Line, &'static [Event]);
 
 /// Whether all calls of the case give what they must.
-fn is_told(alloc: Global, case: &Case) -> bool {
+fn is_told(alloc: Global, case: &Case, memory: Memory) -> bool {
     let (line, events) = case;
-    match book_at_last(alloc, line) {
+    match book_of(alloc, line, memory) {
         Some(mut core) => {
-            let are_told = are_told(alloc, &mut core, events);
+            let are_told = are_told(alloc, &mut core, events, memory);
             drop(core);
             are_told
         }
         None => false,
+    }
+}
+
+/// Checks that all calls of each case give what they must.
+fn all_told(rt: &impl Abort, alloc: Global, cases: &[Case], memory: Memory) {
+    for case in cases {
+        assert!(rt; is_told(alloc, case, memory));
     }
 }
 
@@ -227,9 +233,12 @@ const SERVED: &[Case] = &[
 
 #[test]
 fn commands_are_served(rt: HostRuntime) {
-    for case in SERVED {
-        assert!(rt; is_told(rt.alloc(), case));
-    }
+    all_told(&rt, rt.alloc(), SERVED, Ample);
+}
+
+#[test]
+fn commands_are_served_behind_a_refused_growth(rt: HostRuntime) {
+    all_told(&rt, rt.alloc(), SERVED, RefusedOnce);
 }
 
 /// The last byte of a half of 2,048 bytes stays free: a batch has an even number of bytes, and a closed gate behind it.
@@ -371,9 +380,12 @@ const HALVES: &[Case] = &[
 
 #[test]
 fn halves_are_filled_and_retired(rt: HostRuntime) {
-    for case in HALVES {
-        assert!(rt; is_told(rt.alloc(), case));
-    }
+    all_told(&rt, rt.alloc(), HALVES, Ample);
+}
+
+#[test]
+fn halves_are_filled_behind_a_refused_growth(rt: HostRuntime) {
+    all_told(&rt, rt.alloc(), HALVES, RefusedOnce);
 }
 
 /// A slave gets alias 1, as a batch of version 1.
@@ -499,9 +511,12 @@ const OLD: &[Case] = &[
 
 #[test]
 fn old_journals_are_migrated_and_the_process_image_follows(rt: HostRuntime) {
-    for case in OLD {
-        assert!(rt; is_told(rt.alloc(), case));
-    }
+    all_told(&rt, rt.alloc(), OLD, Ample);
+}
+
+#[test]
+fn old_journals_are_migrated_behind_a_refused_growth(rt: HostRuntime) {
+    all_told(&rt, rt.alloc(), OLD, RefusedOnce);
 }
 
 const WIDE: Line = Line {
@@ -524,7 +539,10 @@ const QUEUES: &[Case] = &[(WIDE, QUEUED)];
 
 #[test]
 fn the_queue_holds_1024_commands(rt: HostRuntime) {
-    for case in QUEUES {
-        assert!(rt; is_told(rt.alloc(), case));
-    }
+    all_told(&rt, rt.alloc(), QUEUES, Ample);
+}
+
+#[test]
+fn the_queue_is_filled_behind_a_refused_growth(rt: HostRuntime) {
+    all_told(&rt, rt.alloc(), QUEUES, RefusedOnce);
 }

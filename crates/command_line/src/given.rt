@@ -6,6 +6,7 @@ use crate::typed_commands::typed_text;
 use crate::unread::Flaw;
 use clap::ArgMatches;
 use std::alloc::{AllocError, Global};
+use std::time::Duration;
 
 /// What the words of a command line give: a subcommand, and the arguments that are there.
 #[derive(Drop)]
@@ -102,6 +103,14 @@ impl<'a> Given<'a> {
             return Ok(None);
         }
         Ok(Some(typed_text(alloc, &self.commands)?))
+    }
+
+    /// The milliseconds of this option, if it is there and they aren't 0.
+    pub fn milliseconds(&self, id: &str) -> Option<Duration> {
+        match self.text(id)?.parse::<u16>() {
+            Ok(0) | Err(_) => None,
+            Ok(milliseconds) => Some(Duration::from_millis(u64::from(milliseconds))),
+        }
     }
 
     /// A power cut behind so many units, as this option and `--left` say. `--left` is checked even without the option.

@@ -5,8 +5,11 @@
 
 mod argument;
 mod completions;
+mod escaped;
+mod explaining;
 mod given;
 mod input_script;
+mod launched;
 mod manual;
 mod program;
 mod reading;
@@ -17,8 +20,11 @@ mod unread;
 
 pub use argument::{Argument, Kind};
 pub use completions::{Shell, completion_script};
+pub use escaped::Escaped;
+pub use explaining::EXPLAIN;
 pub use given::{Cut, Given, is_digits};
 pub use input_script::{INPUT, InputScript, Script, TYPED};
+pub use launched::{TEXT, TIMEOUT, WIRE};
 pub use manual::manual_page;
 pub use program::Program;
 pub use reading::{read_typed, read_words, refuse};

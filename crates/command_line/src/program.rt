@@ -5,7 +5,7 @@ use crate::subcommand::{Subcommand, described_arguments, with_subcommands};
 use clap::Command;
 use std::alloc::{AllocError, Global};
 
-/// A program with subcommands.
+/// A program, mostly with subcommands.
 #[derive(Clone, Copy)]
 pub struct Program<'p> {
     /// Its name.
@@ -16,7 +16,7 @@ pub struct Program<'p> {
     pub version: &'static str,
     /// What stands at the end of its help.
     pub after_help: &'static str,
-    /// The options that stand before the subcommand.
+    /// The options that stand before the subcommand; where there are no subcommands, all arguments.
     pub options: &'static [Argument],
     /// The subcommands, in the order of the help.
     pub subcommands: &'p [Subcommand],
@@ -42,5 +42,5 @@ fn named<'a>(alloc: Global, program: Program<'_>) -> Command<'a> {
         .about(program.about)
         .version(program.version)
         .after_help(program.after_help)
-        .subcommand_required(true)
+        .subcommand_required(!program.subcommands.is_empty())
 }

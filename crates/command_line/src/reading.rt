@@ -46,14 +46,15 @@ fn read_with<'a>(
     Ok(given?)
 }
 
-/// The subcommand that was given, with its arguments, behind the options of the program.
+/// The options of the program, and the subcommand that was given, if there are any, with its arguments.
 fn given_by<'a>(
     alloc: Global,
     program: Program<'_>,
     matches: &ArgMatches<'a>,
 ) -> Result<Given<'a>, AllocError> {
-    let Some((name, found)) = matches.subcommand() else {
-        return Ok(Given::of(alloc, ""));
+    let (name, found) = match matches.subcommand() {
+        Some((name, found)) => (name, found),
+        None => ("", matches),
     };
     let mut given = Given::of(alloc, name);
     given.take_all(program.options, matches)?;

@@ -1,5 +1,6 @@
 //! Why a command line asks for nothing that can be carried out.
 
+use crate::escaped::Escaped;
 use clap::Error;
 use clap::error::ErrorKind;
 use station_files::{ExitStatus, Fault, report_fault};
@@ -65,21 +66,14 @@ impl Unread {
                 ExitStatus::Done
             }
             Unread::Wrong(text) => {
-                write_escaped(text.as_str(), faults);
+                let text = Escaped {
+                    text: text.as_str(),
+                    has_lines: true,
+                };
+                let _ = write!(faults, "{text}");
                 ExitStatus::Usage
             }
         }
-    }
-}
-
-/// Writes a text that may hold what a user has typed: what controls a terminal is escaped, but for ends of lines.
-fn write_escaped<E: Write>(text: &str, faults: &mut E) {
-    for letter in text.chars() {
-        let _ = if letter.is_control() && letter != '\n' {
-            write!(faults, "{}", letter.escape_default())
-        } else {
-            write!(faults, "{letter}")
-        };
     }
 }
 

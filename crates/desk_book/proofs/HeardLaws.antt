@@ -4,6 +4,7 @@ use Rattle.book_model.specs.declared.next.DiskNext.{DiskNext}
 use Rattle.book_model.specs.declared.next.DiskNext.TheVariants as disk
 use Rattle.book_model.specs.declared.next.RomNext.{RomNext}
 use Rattle.book_model.specs.declared.next.RomNext.TheVariants as rom
+use Rattle.book_model.specs.declared.status.Status.{Status}
 use Rattle.desk_book.specs.declared.call.Call.{Call}
 use Rattle.book_model.specs.Book.{Book}
 use Rattle.book_core.specs.Wear.{IssuesFew}
@@ -28,11 +29,11 @@ rom-idle (rom.Issue word value) none apart = absurd cc
 rom-idle (rom.Settle taken) none apart = absurd cc
 
 -- the history has one more call, and nothing else changes
-pub noted-call : (calls later : List Call) (tickets refusals : ℕ) (pool : Pooled) (stopped : Bool) (old : Serving) (noted call : Call)
-    → record { calls = calls; tickets = tickets; refusals = refusals; pool = pool; has_stopped = stopped } ≡ old → later ≡ calls ++ noted ∷ [] → noted ≡ call
-    → record { calls = later; tickets = tickets; refusals = refusals; pool = pool; has_stopped = stopped } ≡ with_call old call
-noted-call calls later tickets refusals pool stopped old noted call is more same =
-    let with_calls : List Call → Serving = λ l. record { calls = l; tickets = tickets; refusals = refusals; pool = pool; has_stopped = stopped } in
+pub noted-call : (calls later : List Call) (tickets refusals : ℕ) (pool : Pooled) (stopped : Bool) (seen : Status) (old : Serving) (noted call : Call)
+    → record { calls = calls; tickets = tickets; refusals = refusals; pool = pool; has_stopped = stopped; seen = seen } ≡ old → later ≡ calls ++ noted ∷ [] → noted ≡ call
+    → record { calls = later; tickets = tickets; refusals = refusals; pool = pool; has_stopped = stopped; seen = seen } ≡ with_call old call
+noted-call calls later tickets refusals pool stopped seen old noted call is more same =
+    let with_calls : List Call → Serving = λ l. record { calls = l; tickets = tickets; refusals = refusals; pool = pool; has_stopped = stopped; seen = seen } in
     subst (λ (s : Serving). with_calls later ≡ with_call s call) is (ap with_calls (more ∙ ap (λ (c : Call). calls ++ c ∷ []) same))
 
 -- what is heard of an answer that the history has

@@ -2,6 +2,7 @@
 use Rattle.std.specs.Prelude.{◌≡◌, ◌≢◌, ◌<◌, ◌^◌, ℕ, Bool, List, [], ◌++◌, ◌∷◌, length, count_by, slice_index_or}
 use Rattle.book_model.specs.declared.next.RomNext.{RomNext}
 use Rattle.book_model.specs.declared.next.RomOutcome.{RomOutcome}
+use Rattle.book_model.specs.declared.status.Status.{Status}
 use Rattle.book_model.specs.Book.{Book}
 use Rattle.station_jobs.specs.declared.cycle.CycleNote.{CycleNote}
 use Rattle.desk_book.specs.declared.call.Call.{Call}
@@ -20,14 +21,15 @@ pub record ShareCounts : Type 0 where
   pub tickets : ℕ
   pub refusals : ℕ
 
--- The calls of the book since the desk was made, the totals of the two ledgers, and their parts; and whether the jobs have stopped for
--- want of memory.
+-- The calls of the book since the desk was made, the totals of the two ledgers, and their parts; whether the jobs have stopped for want of
+-- memory; and the status that `progress` answered last, or at first that of the open.
 pub record Serving : Type 0 where
   pub calls : List Call
   pub tickets : ℕ
   pub refusals : ℕ
   pub pool : Pooled
   pub has_stopped : Bool
+  pub seen : Status
 
 -- The calls, each answered as the book answers it, led from the book that the desk was made of to this one.
 pub record IsReplayed (opened book : Book) (calls : List Call) : Type 0 where

@@ -1,7 +1,8 @@
 //! Reads the book's progress, and turns tickets into receipts.
 
-ghost use Rattle.std.specs.Prelude.{◌≡◌, true, IsTrue, IfOk, IfErr, length};
+ghost use Rattle.std.specs.Prelude.{◌≡◌, ◌↔◌, true, IsTrue, IfOk, IfErr, length};
 ghost use Rattle.book_model.specs.Book.{is_closed};
+ghost use Rattle.book_model.specs.Reading.{status};
 ghost use Rattle.desk_book.specs.Calls.{replayed, AreAnswered};
 ghost use Rattle.desk_book.specs.Closing.{StandsAt};
 ghost use Rattle.desk_book.specs.Waiting.{is_pending};
@@ -15,7 +16,9 @@ use std::mem::replace;
 
 impl<T: Tickets, R: Refusals> Served<T, R> {
     /// How many commands are accepted, durable and settled, and how many bytes of the journal are live.
-    pub fn status(&self) -> Status {
+    pub fn status(&self) -> Status
+        ensures { result ≡ status (replayed T.opened self.now.calls) }
+    {
         self.core.status()
     }
 
@@ -24,7 +27,9 @@ impl<T: Tickets, R: Refusals> Served<T, R> {
     /// Looking for the settled prefix takes a time that grows with the slaves, so who compares the status before a call and behind it
     /// asks once for both.
     pub fn progress(&mut self) -> (Status, Status)
-        ensures same { self.new ≡ self.old }
+        ensures before { result.0 ≡ self.old.seen }
+        ensures now { result.1 ≡ status (replayed T.opened self.old.calls) }
+        ensures seen { self.new ≡ record self.old { seen = status (replayed T.opened self.old.calls) } }
     {
         let now = self.core.status();
         (replace(&mut self.seen, now), now)
@@ -77,7 +82,7 @@ impl<T: Tickets, R: Refusals> Served<T, R> {
     fn is_durable(&self, ticket: &Ticket) -> bool
         ensures answered { AreAnswered T.opened self.now.calls }
         ensures stands { IsTrue result
-            → StandsAt (replayed T.opened self.now.calls).accepted (replayed T.opened self.now.calls).durable ticket.now }
+            ↔ StandsAt (replayed T.opened self.now.calls).accepted (replayed T.opened self.now.calls).durable ticket.now }
     {
         let durable = self.core.durable();
         stands_at(
@@ -99,6 +104,8 @@ impl<T: Tickets, R: Refusals> Served<T, R> {
         ensures stands { IfOk result
             (λ receipt. StandsAt (replayed T.opened self.now.calls).accepted (replayed T.opened self.now.calls).durable receipt) }
         ensures answered { AreAnswered T.opened self.now.calls }
+        ensures refused { IfErr result
+            (λ refused. ¬ StandsAt (replayed T.opened self.now.calls).accepted (replayed T.opened self.now.calls).durable ticket) }
         ensures handed_back { IfErr result (λ refused. refused.ticket ≡ ticket) }
     {
         if !self.is_durable(&ticket) {

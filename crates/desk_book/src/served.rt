@@ -2,6 +2,7 @@
 
 ghost use Rattle.std.specs.Prelude.{◌≡◌, ◌⊎◌, ◌≤◌, ◌-◌, ◌+◌, [], false, length, IfOk, IfSome, IfNone, OnSome};
 ghost use Rattle.book_model.specs.Book.{contents_of};
+ghost use Rattle.book_model.specs.Reading.{status};
 ghost use Rattle.desk_book.specs.Serving.{AreRomLogs, with_call};
 
 use crate::call::Call;
@@ -48,6 +49,7 @@ impl<T: Tickets, R: Refusals> Model for Served<T, R> {
       refusals = s.refusals.total;
       pool = s.pool;
       has_stopped = s.is_out_of_memory;
+      seen = s.seen;
     } };
 
     ghost invariant = { λ s. IsReplayed T.opened s.core s.history × AreCounted s.core s.history s.tickets.total s.refusals.total
@@ -92,6 +94,7 @@ impl<T: Tickets, R: Refusals> Served<T, R> {
           refusals = 0;
           pool = record { tickets = tickets.count; refusals = refusals.count; given = 0 };
           has_stopped = false;
+          seen = status T.opened;
         }) }
     {
         let Ok(slaves) = no_notes(alloc, core.contents().len()) else {
@@ -121,6 +124,7 @@ impl<T: Tickets, R: Refusals> Served<T, R> {
           refusals = 0;
           pool = record { tickets = tickets.count; refusals = refusals.count; given = 0 };
           has_stopped = false;
+          seen = status T.opened;
         } }
     {
         let (ticket_book, refusal_book, pool) = Pool::open(tickets, refusals);

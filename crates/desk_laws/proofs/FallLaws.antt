@@ -10,7 +10,7 @@ use Rattle.desk_book.specs.declared.call.Call.TheVariants.{Submitted, DiskAsked,
 use Rattle.desk_book.specs.Calls.{after, AreAnswered, turn_of}
 use Rattle.desk_book.specs.Logs.{turn_noted}
 use Rattle.desk_laws.specs.Turns.{NeverFallFrom, AppendsNext}
-use Rattle.desk_laws.proofs.GoesLaws.{GoesOn, applied-stays, same-on, command-on, disk-asked-on, disk-told-on, slave-asked-on, slave-told-on}
+use Rattle.desk_laws.proofs.GoesLaws.{GoesAndAppends, applied-stays, same-on, command-on, disk-asked-on, disk-told-on, slave-asked-on, slave-told-on}
 
 -- ---- lists of turns
 
@@ -39,11 +39,11 @@ prefix-is book turn (Some image) has is =
 -- ---- call by call
 
 -- the book after a finish
-finished-on : (book : Book) → GoesOn book (after book Finished)
+finished-on : (book : Book) → GoesAndAppends book (after book Finished)
 finished-on book = let on = same-on book in record { goes = record { found = refl; next = on.goes.next; entries = on.goes.entries; count = refl; owes = on.goes.owes }; appends = λ appends. appends }
 
 -- after a call that hands out no cycle
-on : (book : Book) (call : Call) (least : ℕ) → GoesOn book (after book call) → AppendsNext book → least ≤ applied book → AppendsNext (after book call) × (least ≤ applied (after book call))
+on : (book : Book) (call : Call) (least : ℕ) → GoesAndAppends book (after book call) → AppendsNext book → least ≤ applied book → AppendsNext (after book call) × (least ≤ applied (after book call))
 on book call least goes appends le =
     let more = applied-stays book (after book call) goes.goes in
     (goes.appends appends, omega (arith, le, more))

@@ -64,12 +64,12 @@ still-next : (book later : Book) → Stays book later → AppendsNext book → A
 still-next book later stays appends place entries is = rw (stays.words, stays.found, stays.accepted, stays.durable) (appends place entries (sym stays.doing ∙ is))
 
 -- Such a call, which leaves what is to be appended.
-pub record GoesOn (book later : Book) : Type 0 where
+pub record GoesAndAppends (book later : Book) : Type 0 where
   pub goes : Goes book later
   pub appends : AppendsNext book → AppendsNext later
 
 -- one slave's words are owed no more
-slave-on : (book later : Book) (i : ℕ) (s : Slave) → Stays book later → later.slaves ≡ set book.slaves i s → OweLess (slave_at book i).cells s.cells → GoesOn book later
+slave-on : (book later : Book) (i : ℕ) (s : Slave) → Stays book later → later.slaves ≡ set book.slaves i s → OweLess (slave_at book i).cells s.cells → GoesAndAppends book later
 slave-on book later i s stays is less = record {
   goes = record {
     found = stays.found;
@@ -82,7 +82,7 @@ slave-on book later i s stays is less = record {
 }
 
 -- nothing is owed more
-rest-on : (book later : Book) → Stays book later → later.slaves ≡ book.slaves → GoesOn book later
+rest-on : (book later : Book) → Stays book later → later.slaves ≡ book.slaves → GoesAndAppends book later
 rest-on book later stays is = record {
   goes = record {
     found = stays.found;
@@ -97,7 +97,7 @@ rest-on book later stays is = record {
 same : (book : Book) → Stays book book
 same book = record { words = refl; found = refl; accepted = refl; durable = refl; doing = refl }
 
-pub same-on : (book : Book) → GoesOn book book
+pub same-on : (book : Book) → GoesAndAppends book book
 same-on book = rest-on book book (same book) refl
 
 -- ---- a command
@@ -120,7 +120,7 @@ takes-more zero xs ys = record { more = []; all = refl }
 takes-more (suc n) [] ys = record { more = take (suc n) ys; all = refl }
 takes-more (suc n) (x ∷ xs) ys = let others = takes-more n xs ys in record { more = others.more; all = ap (λ (l : List Entry). x ∷ l) others.all }
 
-pub command-on : (book : Book) (command : Command) → GoesOn book (with_command book command)
+pub command-on : (book : Book) (command : Command) → GoesAndAppends book (with_command book command)
 command-on book command =
     let pushed = entries-push 0 (base_of book) book.accepted command in
     let last = entry_after 0 (base_of book) book.accepted command ∷ [] in
@@ -173,7 +173,7 @@ next-appends book VersionSync is appends place entries there = absurd (cc there)
 abbrev out_of : Book → Book
 out_of book = record book { doing = doing_next book book.doing; is_handed_out = true }
 
-out-on : (book : Book) → GoesOn book (out_of book)
+out-on : (book : Book) → GoesAndAppends book (out_of book)
 out-on book = record {
   goes = record { found = refl; next = []; entries = sym (append-nil (all_entries book)); count = refl; owes = λ k at. omega arith };
   appends = λ appends place entries is. next-appends book book.doing refl appends place entries is;
@@ -187,15 +187,15 @@ asked-is book false true action o f a = inl (rw (o, f) refl)
 asked-is book false false None o f a = inl (rw (o, f, a) refl)
 asked-is book false false (Some next) o f a = inr (rw (o, f, a) refl)
 
-pub disk-asked-on : (book : Book) → GoesOn book (disk_next book).1
+pub disk-asked-on : (book : Book) → GoesAndAppends book (disk_next book).1
 disk-asked-on book = from (asked-is book book.is_handed_out (is_some book.fault) (action_of book (doing_next book book.doing)) refl refl refl)
   where
-    from : ((disk_next book).1 ≡ book) ⊎ ((disk_next book).1 ≡ out_of book) → GoesOn book (disk_next book).1
-    from (inl is) = subst (GoesOn book) (sym is) (same-on book)
-    from (inr is) = subst (GoesOn book) (sym is) (out-on book)
+    from : ((disk_next book).1 ≡ book) ⊎ ((disk_next book).1 ≡ out_of book) → GoesAndAppends book (disk_next book).1
+    from (inl is) = subst (GoesAndAppends book) (sym is) (same-on book)
+    from (inr is) = subst (GoesAndAppends book) (sym is) (out-on book)
 
 -- the later book has the same entries and slaves, and appends nothing
-nothing-on : (book later : Book) → later.words ≡ book.words → later.found ≡ book.found → later.accepted ≡ book.accepted → later.durable ≡ book.durable → later.slaves ≡ book.slaves → appended later.doing ≡ None → GoesOn book later
+nothing-on : (book later : Book) → later.words ≡ book.words → later.found ≡ book.found → later.accepted ≡ book.accepted → later.durable ≡ book.durable → later.slaves ≡ book.slaves → appended later.doing ≡ None → GoesAndAppends book later
 nothing-on book later words found accepted durable slaves none = record {
   goes = record {
     found = found;
@@ -207,7 +207,7 @@ nothing-on book later words found accepted durable slaves none = record {
   appends = λ appends place entries is. absurd (let no : None ≡ Some (place, entries) = sym none ∙ is in cc no);
 }
 
-live-on : (book : Book) (place : Place) (entries : List Entry) → book.doing ≡ OpenSync place entries → AppendsNext book → GoesOn book (went_on (rested book) (OpenSync place entries))
+live-on : (book : Book) (place : Place) (entries : List Entry) → book.doing ≡ OpenSync place entries → AppendsNext book → GoesAndAppends book (went_on (rested book) (OpenSync place entries))
 live-on book place entries is appends =
     let next : take (length entries) (drop book.durable (own book)) ≡ entries = appends place entries (ap appended is) in
     record {
@@ -223,7 +223,7 @@ live-on book place entries is appends =
       appends = λ appended_next at others no. absurd (cc no);
     }
 
-step-on : (book : Book) (doing : Doing) → book.doing ≡ doing → AppendsNext book → GoesOn book (went_on (rested book) doing)
+step-on : (book : Book) (doing : Doing) → book.doing ≡ doing → AppendsNext book → GoesAndAppends book (went_on (rested book) doing)
 step-on book Resting is appends = rest-on book (rested book) (record { words = refl; found = refl; accepted = refl; durable = refl; doing = refl }) refl
 step-on book (Payload place entries) is appends = rest-on book (went_on (rested book) (Payload place entries)) (record { words = refl; found = refl; accepted = refl; durable = refl; doing = ap appended (sym is) }) refl
 step-on book (PayloadSync place entries) is appends = rest-on book (went_on (rested book) (PayloadSync place entries)) (record { words = refl; found = refl; accepted = refl; durable = refl; doing = ap appended (sym is) }) refl
@@ -238,34 +238,34 @@ step-on book Version is appends = nothing-on book (went_on (rested book) Version
 step-on book VersionSync is appends = nothing-on book (went_on (rested book) VersionSync) refl refl refl refl refl refl
 
 -- a fault closes the book
-fault-rests : (book : Book) (why : Fault) → GoesOn book (with_fault (rested book) why)
+fault-rests : (book : Book) (why : Fault) → GoesAndAppends book (with_fault (rested book) why)
 fault-rests book why = rest-on book (with_fault (rested book) why) (record { words = refl; found = refl; accepted = refl; durable = refl; doing = refl }) refl
 
-told-on : (book : Book) (out : Bool) (result : Result (Unit {0}) DeviceFault) → book.is_handed_out ≡ out → AppendsNext book → GoesOn book (disk_done book result)
-told-on book false result o appends = let is : disk_done book result ≡ book = rw o refl in subst (GoesOn book) (sym is) (same-on book)
-told-on book true (Ok done) o appends = let is : disk_done book (Ok done) ≡ went_on (rested book) book.doing = rw o refl in subst (GoesOn book) (sym is) (step-on book book.doing refl appends)
-told-on book true (Err Disk) o appends = let is : disk_done book (Err Disk) ≡ with_fault (rested book) faults.Disk = rw o refl in subst (GoesOn book) (sym is) (fault-rests book faults.Disk)
-told-on book true (Err Stopped) o appends = let is : disk_done book (Err Stopped) ≡ with_fault (rested book) faults.Stopped = rw o refl in subst (GoesOn book) (sym is) (fault-rests book faults.Stopped)
-told-on book true (Err Lost) o appends = let is : disk_done book (Err Lost) ≡ book = rw o refl in subst (GoesOn book) (sym is) (same-on book)
+told-on : (book : Book) (out : Bool) (result : Result (Unit {0}) DeviceFault) → book.is_handed_out ≡ out → AppendsNext book → GoesAndAppends book (disk_done book result)
+told-on book false result o appends = let is : disk_done book result ≡ book = rw o refl in subst (GoesAndAppends book) (sym is) (same-on book)
+told-on book true (Ok done) o appends = let is : disk_done book (Ok done) ≡ went_on (rested book) book.doing = rw o refl in subst (GoesAndAppends book) (sym is) (step-on book book.doing refl appends)
+told-on book true (Err Disk) o appends = let is : disk_done book (Err Disk) ≡ with_fault (rested book) faults.Disk = rw o refl in subst (GoesAndAppends book) (sym is) (fault-rests book faults.Disk)
+told-on book true (Err Stopped) o appends = let is : disk_done book (Err Stopped) ≡ with_fault (rested book) faults.Stopped = rw o refl in subst (GoesAndAppends book) (sym is) (fault-rests book faults.Stopped)
+told-on book true (Err Lost) o appends = let is : disk_done book (Err Lost) ≡ book = rw o refl in subst (GoesAndAppends book) (sym is) (same-on book)
 
-pub disk-told-on : (book : Book) (result : Result (Unit {0}) DeviceFault) → AppendsNext book → GoesOn book (disk_done book result)
+pub disk-told-on : (book : Book) (result : Result (Unit {0}) DeviceFault) → AppendsNext book → GoesAndAppends book (disk_done book result)
 disk-told-on book result appends = told-on book book.is_handed_out result refl appends
 
 -- ---- a slave
 
 -- these entries, and this slave in the place of another
-same-but : (book : Book) (i : ℕ) (s : Slave) → OweLess (slave_at book i).cells s.cells → GoesOn book (record book { slaves = set book.slaves i s })
+same-but : (book : Book) (i : ℕ) (s : Slave) → OweLess (slave_at book i).cells s.cells → GoesAndAppends book (record book { slaves = set book.slaves i s })
 same-but book i s less = slave-on book (record book { slaves = set book.slaves i s }) i s (record { words = refl; found = refl; accepted = refl; durable = refl; doing = refl }) refl less
 
-errand-on : (book : Book) (i : ℕ) (errand : Errand) → GoesOn book (with_errand book i errand)
+errand-on : (book : Book) (i : ℕ) (errand : Errand) → GoesAndAppends book (with_errand book i errand)
 errand-on book i errand = same-but book i (record (slave_at book i) { errand = errand }) (owe-same (slave_at book i).cells)
 
-fault-on : (book : Book) (i : ℕ) (errand : Errand) (why : Fault) → GoesOn book (with_fault (with_errand book i errand) why)
+fault-on : (book : Book) (i : ℕ) (errand : Errand) (why : Fault) → GoesAndAppends book (with_fault (with_errand book i errand) why)
 fault-on book i errand why =
     slave-on book (with_fault (with_errand book i errand) why) i (record (slave_at book i) { errand = errand }) (record { words = refl; found = refl; accepted = refl; durable = refl; doing = refl }) refl (owe-same (slave_at book i).cells)
 
 next-on : (book : Book) (i : ℕ) (inside failed : Bool) (errand : Errand) (todo : List (ℕ × ℕ)) → nat_lt i (length book.slaves) ≡ inside → (slave_at book i).errand ≡ errand → is_some book.fault ≡ failed → to_do book i ≡ todo
-    → GoesOn book (rom_next book i).1
+    → GoesAndAppends book (rom_next book i).1
 next-on book i false failed errand todo n e f t = rw n (same-on book)
 next-on book i true true Free todo n e f t = rw (n, e, f) (same-on book)
 next-on book i true false Free [] n e f t = rw (n, e, f, t) (same-on book)
@@ -275,14 +275,14 @@ next-on book i true true (Unsettled word value taken) todo n e f t = rw (n, e, f
 next-on book i true false (Unsettled word value taken) todo n e f t = rw (n, e, f) (errand-on book i (Settling word value taken))
 next-on book i true failed (Settling word value taken) todo n e f t = rw (n, e) (same-on book)
 
-pub slave-asked-on : (book : Book) (i : ℕ) → GoesOn book (rom_next book i).1
+pub slave-asked-on : (book : Book) (i : ℕ) → GoesAndAppends book (rom_next book i).1
 slave-asked-on book i = next-on book i (nat_lt i (length book.slaves)) (is_some book.fault) (slave_at book i).errand (to_do book i) refl refl refl refl
 
-again-on : (book : Book) (i word : ℕ) (last : Bool) → is_last (cell_of (slave_at book i).cells word).known ≡ last → GoesOn book (with_again book i word)
+again-on : (book : Book) (i word : ℕ) (last : Bool) → is_last (cell_of (slave_at book i).cells word).known ≡ last → GoesAndAppends book (with_again book i word)
 again-on book i word true is = rw is (fault-on book i Free (faults.SlaveDead i))
 again-on book i word false is = rw is (errand-on book i Free)
 
-back-on : (book : Book) (i : ℕ) (errand : Errand) (outcome : RomOutcome) → (slave_at book i).errand ≡ errand → GoesOn book (rom_done book i outcome)
+back-on : (book : Book) (i : ℕ) (errand : Errand) (outcome : RomOutcome) → (slave_at book i).errand ≡ errand → GoesAndAppends book (rom_done book i outcome)
 back-on book i Free outcome is = rw is (same-on book)
 back-on book i (Unsettled word value taken) outcome is = rw is (same-on book)
 back-on book i (Issuing word value) (outcomes.Issued how) is = rw is (errand-on book i (Unsettled word value (was_taken how)))
@@ -294,5 +294,5 @@ back-on book i (Settling word value taken) (outcomes.Settled Again) is = rw is (
 back-on book i (Settling word value taken) (outcomes.Settled Dead) is = rw is (fault-on book i Free (faults.SlaveDead i))
 back-on book i (Settling word value taken) outcomes.Stopped is = rw is (fault-on book i Free faults.Stopped)
 
-pub slave-told-on : (book : Book) (i : ℕ) (outcome : RomOutcome) → GoesOn book (rom_done book i outcome)
+pub slave-told-on : (book : Book) (i : ℕ) (outcome : RomOutcome) → GoesAndAppends book (rom_done book i outcome)
 slave-told-on book i outcome = back-on book i (slave_at book i).errand outcome refl

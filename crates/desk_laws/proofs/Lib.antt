@@ -1,4 +1,6 @@
 pub mod EventLaws
+pub mod Happening
+pub mod LostLaws
 pub mod TurnLaws
 pub mod OwedLaws
 pub mod GoesLaws

@@ -1,15 +1,18 @@
-ghost use Rattle.std.specs.Prelude.{◌≡◌, ◌<◌, ℕ, List, Some, length, true};
+ghost use Rattle.std.specs.Prelude.{◌≡◌, ◌↔◌, ◌<◌, ℕ, List, Some, Err, length, true};
 ghost use Rattle.std.specs.List.{AllByRecursion};
 ghost use Rattle.site_core.specs.State.{Seen};
+ghost use Rattle.site_core.specs.declared.fault.DeviceFault.TheVariants as device;
 ghost use Rattle.book_model.specs.Book.{Book, Resting, base_of};
+ghost use Rattle.station_jobs.specs.Flushing.{IsFlushed};
 ghost use Rattle.station_jobs.specs.Working.{IsWorked};
 ghost use Rattle.world_law.specs.World.{Told, World};
 ghost use Rattle.world_law.specs.Happenings.{HappensUp};
 ghost use Rattle.desk_book.specs.declared.call.Call.{Call};
+ghost use Rattle.desk_book.specs.declared.call.Call.TheVariants.{DiskTold};
 ghost use Rattle.desk_book.specs.Calls.{after, AreAnswered, IsAnswered, replayed};
 ghost use Rattle.desk_book.specs.Closing.{is_served};
-ghost use Rattle.desk_book.specs.Logs.{cycle_log, rom_log};
-ghost use Rattle.desk_laws.specs.Events.{event_of};
+ghost use Rattle.desk_book.specs.Logs.{DiskEntry, cycle_log, rom_log};
+ghost use Rattle.desk_laws.specs.Events.{CanHappen, IsOfItsJob, NoneIsLost, event_of};
 ghost use Rattle.desk_laws.specs.Slaves.{IsJustOpened, IsAsOpened, ReadsAsContents};
 ghost use Rattle.desk_laws.specs.Turns.{IsTurnOf, NeverFall, AppendsNext};
 
@@ -20,6 +23,19 @@ ghost use Rattle.desk_laws.specs.Turns.{IsTurnOf, NeverFall, AppendsNext};
 pub fn desk_calls_are_events()
     ensures { (book : Book) (call : Call) (world later : World) (told : Told) → world.book ≡ Some book → IsAnswered book call
         → HappensUp (event_of call) book world told later → later.book ≡ Some (after book call) }
+{}
+
+/// There is a world of the book in which the event of an answered call happens, exactly if the outcome that it reports is of its job's kind.
+pub fn answered_calls_can_happen()
+    ensures { (book : Book) (call : Call) → IsAnswered book call → (CanHappen (event_of call) book ↔ IsOfItsJob book call) }
+{}
+
+/// A disk that is told `Lost` is no event. It leaves the book as it is: the action stays handed out, and the disk gets no other.
+///
+/// No work done on a site comes to that: none of the disk's actions ends with `Lost`.
+pub fn a_lost_disk_changes_nothing()
+    ensures same { (book : Book) → after book (DiskTold (Err device.Lost)) ≡ book }
+    ensures never { (log : List DiskEntry) (old new : Seen) → IsFlushed log old new → NoneIsLost log }
 {}
 
 /// Each process data cycle that was handed out has the process image of the contents after a prefix of the accepted commands.

@@ -6,7 +6,8 @@ mod laws;
 mod together;
 
 pub use laws::{
-    desk_calls_are_events, resting_appends_next, served_slaves_read_as_the_contents,
-    turns_have_their_images, turns_never_fall,
+    a_lost_disk_changes_nothing, answered_calls_can_happen, desk_calls_are_events,
+    resting_appends_next, served_slaves_read_as_the_contents, turns_have_their_images,
+    turns_never_fall,
 };
 pub use together::what_a_desk_leaves_is_kept;

@@ -1,9 +1,18 @@
-//! Memory for a test's own values: asked for a second time if it is refused once.
+//! What memory a scenario finds, and memory for a test's own values: asked for a second time if it is refused once.
 
 ghost use Rattle.std.specs.Prelude.{◌≡◌, length};
 
 use std::alloc::Global;
 use std::process::Abort;
+
+/// What memory a scenario finds.
+#[derive(Clone, Copy, PartialEq)]
+pub(crate) enum Memory {
+    /// Enough for each call.
+    Ample,
+    /// Too little for one growth, which is refused on purpose. What wanted it may be asked a second time.
+    RefusedOnce,
+}
 
 /// Puts an item behind the others.
 pub(crate) fn put<T: Drop>(rt: &impl Abort, items: &mut Vec<T>, item: T) {

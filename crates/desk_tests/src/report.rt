@@ -1,11 +1,12 @@
 //! How a desk was closed, and what its line holds then.
 
-use crate::memory::put;
+use crate::memory::{Memory, put};
 use esc_model::RomHalf;
 use runner_cases::runs::{Way, kept_by};
-use runner_cases::sites::{aliases_of, recovered_at_last};
+use runner_cases::sites::{aliases_of, is_memory, recovery};
 use sii_words::Plant;
 use site_mem::{MemSite, Parts};
+use station_alone::OpenFault;
 use station_jobs::{CycleLog, CycleNote, End, SlaveLog};
 use station_threads::{
     CloseFault, Closed, Desk, Ends, NotClosed, Receipt, Refusals, Served, Share, Tickets, close,
@@ -137,9 +138,18 @@ fn place_of(aliases: [u16; 3]) -> Option<u64> {
     None
 }
 
+/// The line after a recovery, and its fault, with a second try where a growth is refused on purpose.
+fn recovered(alloc: Global, line: Parts, memory: Memory) -> Option<(Parts, Option<OpenFault>)> {
+    let (left, fault) = recovery(alloc, line)?;
+    match fault {
+        Some(fault) if memory == Memory::RefusedOnce && is_memory(fault) => recovery(alloc, left),
+        _ => Some((left, fault)),
+    }
+}
+
 /// The prefix of the three commands after which a recovery leaves the line. None: it isn't recovered, or its aliases fit no prefix.
-fn place_left(alloc: Global, line: Parts) -> Option<u64> {
-    let (left, fault) = recovered_at_last(alloc, line)?;
+fn place_left(alloc: Global, line: Parts, memory: Memory) -> Option<u64> {
+    let (left, fault) = recovered(alloc, line, memory)?;
     let aliases = aliases_of(&left);
     drop(left);
     if fault.is_some() {
@@ -155,6 +165,7 @@ fn completed<T: Tickets, R: Refusals>(
     begun: Report,
     book: Served<T, R>,
     ends: Ends<MemSite>,
+    memory: Memory,
 ) -> Report {
     let line = put_together(rt, alloc, &ends);
     let byte = byte_left(rt, alloc, &ends.cycle);
@@ -162,7 +173,7 @@ fn completed<T: Tickets, R: Refusals>(
     let accepted = book.accepted().len();
     let reads = reads_as(&line, book.contents());
     drop(book);
-    let place = place_left(alloc, line);
+    let place = place_left(alloc, line, memory);
     Report {
         accepted,
         reads,
@@ -179,6 +190,7 @@ pub(crate) fn report_of<T: Tickets, R: Refusals>(
     desk: Desk<T, R>,
     held: (Vec<Share<T, R>>, Vec<Receipt>),
     ends: Ends<MemSite>,
+    memory: Memory,
 ) -> Report {
     let (shares, receipts) = held;
     let begun = Report {
@@ -194,7 +206,7 @@ pub(crate) fn report_of<T: Tickets, R: Refusals>(
     match close(desk, shares, receipts, ends) {
         Ok(closed) => {
             let Closed { book, ends } = closed;
-            completed(rt, alloc, begun, book, ends)
+            completed(rt, alloc, begun, book, ends, memory)
         }
         Err(left) => {
             let NotClosed {
@@ -204,7 +216,7 @@ pub(crate) fn report_of<T: Tickets, R: Refusals>(
                 ..
             } = left;
             let fault = Some(fault);
-            completed(rt, alloc, Report { fault, ..begun }, book, ends)
+            completed(rt, alloc, Report { fault, ..begun }, book, ends, memory)
         }
     }
 }

@@ -2,6 +2,7 @@
 
 use crate::line::Plan;
 use crate::meeting::Meeting;
+use crate::memory::Memory;
 use crate::report::Report;
 use crate::session::{LeftOut, Scenario, Way, session};
 use crate::sites::Trouble;
@@ -59,6 +60,7 @@ const HUNDRED: Scenario = Scenario {
     way: Way::Threads,
     trouble: Trouble::Nothing,
     left_out: LeftOut::Nothing,
+    memory: Memory::Ample,
 };
 
 /// The scenario `HUNDRED` without process data.

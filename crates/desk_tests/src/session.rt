@@ -6,7 +6,7 @@ ghost use Rattle.site_shadow.specs.Site.{SiteValue};
 
 use crate::alone::serve_alone;
 use crate::line::{Plan, book_of};
-use crate::memory::{put, room};
+use crate::memory::{Memory, put, room};
 use crate::report::{Report, report_of};
 use crate::sites::{Trouble, sites_of};
 use crate::submitter::{Driver, Pace, Submitter, ended, start_submitting};
@@ -54,6 +54,7 @@ pub(crate) struct Scenario {
     pub(crate) way: Way,
     pub(crate) trouble: Trouble,
     pub(crate) left_out: LeftOut,
+    pub(crate) memory: Memory,
 }
 
 /// A desk, the scenario in which it is served, and the hook of its workers.
@@ -85,7 +86,7 @@ fn try_serve<
     serve_line(rt, alloc, desk, sites, hook, driver)
 }
 
-/// Serves the line while the driver submits, with a second try if memory was refused.
+/// Serves the line while the driver submits, with a second try where a growth is refused on purpose.
 fn serve<
     T: Tickets + Send + Sync,
     R: Refusals + Send + Sync,
@@ -102,9 +103,12 @@ fn serve<
     let sites = sites_of(rt, alloc, &scenario.plan, scenario.trouble);
     match try_serve(rt, alloc, desk, sites, hook, driver) {
         Ok(ends) => ends,
-        Err(sites) => try_serve(rt, alloc, desk, sites, hook, driver)
-            .ok()
-            .expect(rt, "memory"),
+        Err(sites) => {
+            assert!(rt; scenario.memory == Memory::RefusedOnce);
+            try_serve(rt, alloc, desk, sites, hook, driver)
+                .ok()
+                .expect(rt, "memory")
+        }
     }
 }
 
@@ -264,7 +268,7 @@ fn serve_by<
         return None;
     };
     let (held, ends) = serve_at(rt, alloc, &desk, scenario, hook);
-    Some(report_of(rt, alloc, desk, held, ends))
+    Some(report_of(rt, alloc, desk, held, ends, scenario.memory))
 }
 
 /// Serves the line, and closes its desk. None: memory for the desk was refused.
@@ -287,7 +291,7 @@ fn try_session<G: Hook + Sync, W: Wait + Threads + Sync + Abort>(
     )
 }
 
-/// Serves the line, and closes its desk.
+/// Serves the line, and closes its desk, with a second try where a growth is refused on purpose.
 pub(crate) fn session<G: Hook + Sync, W: Wait + Threads + Sync + Abort>(
     rt: &W,
     alloc: Global,
@@ -296,6 +300,9 @@ pub(crate) fn session<G: Hook + Sync, W: Wait + Threads + Sync + Abort>(
 ) -> Report {
     match try_session(rt, alloc, scenario, hook) {
         Some(report) => report,
-        None => try_session(rt, alloc, scenario, hook).expect(rt, "memory"),
+        None => {
+            assert!(rt; scenario.memory == Memory::RefusedOnce);
+            try_session(rt, alloc, scenario, hook).expect(rt, "memory")
+        }
     }
 }

@@ -1,6 +1,7 @@
 //! One part of a line stops at each of its writes, and then the line is recovered.
 
 use crate::line::Plan;
+use crate::memory::Memory;
 use crate::report::Report;
 use crate::session::{LeftOut, Scenario, Way, session};
 use crate::sites::{Part, Trouble};
@@ -34,6 +35,7 @@ const STOPPING: Scenario = Scenario {
     way: Way::Threads,
     trouble: Trouble::Nothing,
     left_out: LeftOut::Nothing,
+    memory: Memory::Ample,
 };
 
 /// Whether the line was stopped. None if a promise was broken:
@@ -125,18 +127,24 @@ fn any_part_may_stop(rt: HostRuntime) {
     }
 }
 
-/// `rt ci` runs this with enough memory; `rt try --test --fail-alloc N` refuses the Nth allocation. Then it is tried again, or the disk's
-/// failure closes the book, and a recovery finds what was acknowledged.
+/// Three commands are queued, and a growth is refused.
+const REFUSED: Scenario = Scenario {
+    memory: Memory::RefusedOnce,
+    ..STOPPING
+};
+
+/// The gate refuses no growth; `tools/refuse_each` refuses each. Then what wanted it is tried again, or the disk's failure closes the book, and a
+/// recovery finds what was acknowledged.
 #[test]
 fn a_refused_growth_loses_nothing(rt: HostRuntime) {
-    assert!(rt; is_stopped(&rt, rt.alloc(), &STOPPING).is_some());
+    assert!(rt; is_stopped(&rt, rt.alloc(), &REFUSED).is_some());
 }
 
 /// Three commands are queued, and the disk stops at its first write.
 const ALONE: Scenario = Scenario {
     way: Way::Alone,
     trouble: Trouble::Stops(Part::Disk, 0, Pattern::Old),
-    ..STOPPING
+    ..REFUSED
 };
 
 /// Like `a_refused_growth_loses_nothing`, on one thread, so that a desk's allocations come in the same order each time.

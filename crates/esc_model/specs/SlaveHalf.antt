@@ -206,6 +206,13 @@ rested_by Idle rest half = half
 rested_by Reading rest half = half
 rested_by (Writing word value) rest half = ended rest half word value
 
+-- the half once its read has ended, in error or not; without a read it stays as it is
+abbrev pub reading_ended : Activity → (failed : Bool) → SlaveHalf → SlaveHalf
+reading_ended Idle failed half = half
+reading_ended Reading false half = record half { activity = Idle }
+reading_ended Reading true half = with_errors (record half { activity = Idle }) true half.registers.enable_error
+reading_ended (Writing word value) failed half = half
+
 -- `Well` and `Failed` are ways to become idle, and `Torn` is what a power cut may do.
 abbrev pub EndsAs : Rest → SlaveHalf → SlaveHalf → Type 0
 EndsAs Well half later = MayRest half later

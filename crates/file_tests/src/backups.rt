@@ -1,10 +1,11 @@
-//! The files of a backup of two slaves, which stand on a wire in memory: what may be there before, and that one which failed or was cut can be made
-//! again.
+//! The files of a backup of two slaves, which stand on a wire in memory: what may be there before, that one which failed or was cut can be made
+//! again, and what is printed of its folder.
 
 use station_cases::{Pattern, Shelf, Trouble};
 use station_files::{Fault, Store};
 use station_listing::Code;
-use station_troubles::{Files, LineNames, Remembering, reason_of};
+use station_serve::wire::back_up_to;
+use station_troubles::{Noting, OUTPUT, Told};
 use std::alloc::{AllocError, Global};
 use std::rt::Clock;
 use wire_bringup::Sizes;
@@ -69,12 +70,8 @@ const CASES: &[(&[File], Option<&str>)] = &[
     ),
 ];
 
-/// The names of the call.
-const NAMES: LineNames<'static> = LineNames {
-    line: "c.toml",
-    script: None,
-    capture: None,
-};
+/// The name of the line file.
+const NAME: &str = "c.toml";
 
 /// The alias of slave 1, which never changes.
 const OTHER: u16 = 9;
@@ -123,9 +120,9 @@ fn back_up<R: Clock + AllocGlobal, S: Store>(
     let mut wire = NumberedWire::new(PracticeWire::new(line, &clock), 7);
     let mut text = Vec::new(rt.alloc());
     let sizes = Sizes::unknown();
-    let backed_up = backup_line(rt, &mut wire, &sizes, NAMES.line, store, &mut text);
+    let backed_up = backup_line(rt, &mut wire, &sizes, NAME, store, &mut text);
     match backed_up {
-        Ok(()) => Ok(begin_journal(rt.alloc(), NAMES.line, store, &mut text).err()),
+        Ok(()) => Ok(begin_journal(rt.alloc(), NAME, store, &mut text).err()),
         Err(fault) => Ok(Some(fault)),
     }
 }
@@ -171,16 +168,16 @@ fn ends_so<R: Clock + AllocGlobal>(
             area = 4096;
         }
     }
-    let mut known = Remembering::new(alloc, &mut shelf, true);
-    let ended = back_up(rt, 1, &mut known)?;
-    let told = reason_of(alloc, Code::Exists, Files::Line(NAMES), &mut known);
-    drop(known);
-    match (refused, told) {
-        (Some(name), Some(told)) => {
-            Ok(is_refused(ended) && told.as_str().starts_with(name) && shelf.writes == 0)
-        }
-        (Some(_), None) => Ok(false),
-        (None, _) => Ok(ended.is_none() && is_backup(alloc, &shelf, 1, area)?),
+    let mut noting = Noting::new(alloc, &mut shelf, true);
+    let ended = back_up(rt, 1, &mut noting)?;
+    let is_told = match (refused, noting.told(Code::Exists, OUTPUT)) {
+        (Some(name), Some(Told::Wrong(text))) => text.starts_with(name),
+        _ => false,
+    };
+    drop(noting);
+    match refused {
+        Some(_) => Ok(is_told && is_refused(ended) && shelf.writes == 0),
+        None => Ok(ended.is_none() && is_backup(alloc, &shelf, 1, area)?),
     }
 }
 
@@ -241,4 +238,38 @@ fn a_backup_that_failed_can_be_made_again(rt: HostRuntime) {
     }
     // Six files are written: two images, the line file, the journal, and the images once more.
     assert!(rt; failed == 36);
+}
+
+/// What a backup into this folder prints; nothing where it fails.
+fn printed_of<R: Clock + AllocGlobal>(rt: &R, folder: &str) -> Result<Vec<u8>, AllocError> {
+    let alloc = rt.alloc();
+    let clock = PracticeClock::new();
+    let mut wire = NumberedWire::new(PracticeWire::new(line_of(alloc, 1)?, &clock), 7);
+    let mut shelf = Shelf::new(alloc)?;
+    let mut text = Vec::new(alloc);
+    let sizes = Sizes::unknown();
+    match back_up_to(rt, folder, &sizes, &mut wire, &mut shelf, &mut text) {
+        Ok(_) => Ok(text),
+        Err(_) => Ok(Vec::new(alloc)),
+    }
+}
+
+/// Whether a backup into this folder prints its name so, on one line with the name of the line file.
+fn is_printed_as<R: Clock + AllocGlobal>(
+    rt: &R,
+    folder: &str,
+    shown: &str,
+) -> Result<bool, AllocError> {
+    let text = printed_of(rt, folder)?;
+    let lines = text.iter().filter(|byte| **byte == b'\n').count();
+    Ok(text.starts_with(shown.as_bytes()) && text.ends_with(b".toml\n") && lines == 2)
+}
+
+#[test]
+fn a_folder_is_printed_on_one_line(rt: HostRuntime) {
+    assert!(rt; is_printed_as(&rt, "copies", "formatted 65536\nline copies/") == Ok(true));
+    // What else controls a terminal can't stand in a line file.
+    assert!(rt;
+        is_printed_as(&rt, "a\t\u{9b}2J", "formatted 65536\nline a\\t\\u{9b}2J/") == Ok(true)
+    );
 }

@@ -104,7 +104,11 @@ fn try_call<'a>(
     if !wrong.is_empty() {
         return Ok(Ended::Wrong(wrong));
     }
-    let durable = durable_of(&bench.printed);
+    let told = durable_of(&bench.printed);
+    if told.is_some() != run.count("totals").is_some_and(|first| call >= first) {
+        return Ok(Ended::Wrong("whether the totals are told"));
+    }
+    let durable = told.unwrap_or(0);
     let has_come = shelf.troubles.has_come();
     if matches!(mishap, Mishap::Mended) {
         shelf.trouble(Trouble::Nothing, run.pattern()?)?;
@@ -142,17 +146,22 @@ fn is_told(printed: &Printed) -> bool {
 }
 
 /// What a run prints if this many commands are durable.
-const TOLD: &[(&str, usize)] = &[(" durable 1 ", 1), (" durable 2 ", 2), (" durable 3 ", 3)];
+const TOLD: &[(&str, usize)] = &[
+    (" durable 0 ", 0),
+    (" durable 1 ", 1),
+    (" durable 2 ", 2),
+    (" durable 3 ", 3),
+];
 
-/// How many commands are durable by the output of a run.
-fn durable_of(printed: &Printed) -> usize {
+/// How many commands are durable by the totals that a run printed. None: it printed no totals.
+fn durable_of(printed: &Printed) -> Option<usize> {
     let text = str::from_utf8(&printed.output).unwrap_or("");
     for (words, count) in TOLD {
         if text.contains(*words) {
-            return *count;
+            return Some(*count);
         }
     }
-    0
+    None
 }
 
 /// Tries what is run behind a run, over what a power cut leaves; where the run says so, also behind a cut in each call of a first such try.

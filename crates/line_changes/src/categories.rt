@@ -1,142 +1,74 @@
 //! The categories in which two images differ: item by item, and word by word where a content isn't read.
-ghost use Rattle.std.specs.Prelude.{IfErr};
-ghost use Rattle.station_files.specs.Faults.{IsOfStream};
 
-use station_files::Fault;
-use station_listing::{CategoryLines, Field, ItemListing, Label, Line};
-use std::fmt;
-use std::fmt::Write;
+use station_rows::{
+    CategoryItems, Cell, ItemListing, Line, Rows, Value, bare, data, lines_of, named, printed, said,
+};
+use std::alloc::AllocError;
 
-/// One of the two images.
+/// One of the two images: its key in JSON, and what text calls it.
 #[derive(Clone, Copy)]
-pub enum Side {
-    /// The first.
-    A,
-    /// The second.
-    B,
+struct Side {
+    key: &'static str,
+    letter: &'static str,
 }
 
-/// A thing in which the categories of two images differ.
-#[derive(Clone, Copy)]
-pub enum CategoryChange<'a> {
-    /// The chain of this image is cut off at word `at`.
-    RunsOut {
-        image: Side,
-        at: usize,
-    },
-    /// Only this image has the category, with so many words.
-    Lonely {
-        image: Side,
-        kind: u16,
-        count: usize,
-    },
-    /// The category has so many words in each image.
-    Count {
-        kind: u16,
-        old: usize,
-        new: usize,
-    },
-    /// A word of a content, counted from 0 there.
-    Word {
-        kind: u16,
-        at: usize,
-        old: u16,
-        new: u16,
-    },
-    /// Only this image has the item.
-    LonelyItem {
-        image: Side,
-        item: &'a Line,
-    },
-    /// A field of an item.
-    Field {
-        item: Label,
-        old: &'a Field,
-        new: &'a Field,
-    },
-}
+/// The first image.
+const FIRST: Side = Side {
+    key: "a",
+    letter: "A",
+};
 
-/// Who is told what the categories of two images differ in.
-pub trait CategoryTeller {
-    /// Takes one thing in which they differ.
-    ///
-    /// # Errors
-    ///
-    /// `File` or `Memory`, as what it is written to answers.
-    fn tell(&mut self, change: CategoryChange<'_>) -> Result<(), Fault>
-        ensures { IfErr result IsOfStream };
-}
+/// The second image.
+const SECOND: Side = Side {
+    key: "b",
+    letter: "B",
+};
 
-/// Appends a line for each.
-impl CategoryTeller for String {
-    fn tell(&mut self, change: CategoryChange<'_>) -> Result<(), Fault> {
-        match writeln!(self, "{change}") {
-            Ok(()) => Ok(()),
-            Err(_) => Err(Fault::Memory),
-        }
-    }
-}
-
-/// Tells what the categories of two images differ in, in the order of the first; behind this what only the second one has. Where the chain of
+/// Puts what the categories of two images differ in, in the order of the first; behind this what only the second one has. Where the chain of
 /// one of them is cut off, only that.
 ///
 /// # Errors
 ///
-/// The first fault of the teller.
-pub fn tell_categories<T: CategoryTeller>(
+/// Memory was refused.
+pub(crate) fn put_categories(
+    rows: &mut Rows,
     old: &ItemListing,
     new: &ItemListing,
-    teller: &mut T,
-) -> Result<(), Fault>
-    ensures { IfErr result IsOfStream }
-{
+) -> Result<(), AllocError> {
     match (old.runs_out, new.runs_out) {
-        (None, None) => tell_chains(&old.categories, &new.categories, teller),
+        (None, None) => put_chains(rows, old, new),
         (one, other) if one == other => Ok(()),
         (one, other) => {
-            tell_cut(Side::A, one, teller)?;
-            tell_cut(Side::B, other, teller)
+            put_cut(rows, FIRST, one)?;
+            put_cut(rows, SECOND, other)
         }
     }
 }
 
-fn tell_cut<T: CategoryTeller>(image: Side, cut: Option<usize>, teller: &mut T) -> Result<(), Fault>
-    ensures { IfErr result IsOfStream }
-{
-    match cut {
-        Some(at) => teller.tell(CategoryChange::RunsOut { image, at }),
-        None => Ok(()),
-    }
+fn put_cut(rows: &mut Rows, side: Side, cut: Option<usize>) -> Result<(), AllocError> {
+    let Some(at) = cut else {
+        return Ok(());
+    };
+    let row = [
+        said("", "runs out"),
+        data("image", side.key),
+        named("at", at),
+        said("in", side.letter),
+    ];
+    rows.put("runs_out", &row)
 }
 
-/// Tells what two chains differ in. A category is compared with the one of its type that has as many others of this type before it.
-fn tell_chains<T: CategoryTeller>(
-    old: &[CategoryLines],
-    new: &[CategoryLines],
-    teller: &mut T,
-) -> Result<(), Fault>
-    ensures { IfErr result IsOfStream }
-{
-    for (place, category) in old.iter().enumerate() {
-        match partner_of(old, place, new) {
-            Some(other) => tell_category(category, other, teller)?,
-            None => teller.tell(lonely(Side::A, category))?,
+/// Puts what two chains differ in. A category is compared with the one of its type that has as many others of this type before it.
+fn put_chains(rows: &mut Rows, old: &ItemListing, new: &ItemListing) -> Result<(), AllocError> {
+    for (place, category) in old.categories.iter().enumerate() {
+        match partner_of(&old.categories, place, &new.categories) {
+            Some(other) => put_category(rows, (old, category), (new, other))?,
+            None => put_lonely(rows, FIRST, category)?,
         }
     }
-    tell_others(old, new, teller)
-}
-
-/// Tells the categories that only the second image has.
-fn tell_others<T: CategoryTeller>(
-    old: &[CategoryLines],
-    new: &[CategoryLines],
-    teller: &mut T,
-) -> Result<(), Fault>
-    ensures { IfErr result IsOfStream }
-{
-    for (place, category) in new.iter().enumerate() {
-        if partner_of(new, place, old).is_none() {
-            teller.tell(lonely(Side::B, category))?;
+    for (place, category) in new.categories.iter().enumerate() {
+        if partner_of(&new.categories, place, &old.categories).is_none() {
+            put_lonely(rows, SECOND, category)?;
         }
     }
     Ok(())
@@ -144,10 +76,10 @@ fn tell_others<T: CategoryTeller>(
 
 /// The category of the other image that is compared with the one at this place.
 fn partner_of<'a>(
-    categories: &[CategoryLines],
+    categories: &[CategoryItems],
     place: usize,
-    others: &'a [CategoryLines],
-) -> Option<&'a CategoryLines> {
+    others: &'a [CategoryItems],
+) -> Option<&'a CategoryItems> {
     let kind = categories.get(place)?.kind;
     let mut before = 0usize;
     for category in categories.iter().take(place) {
@@ -159,7 +91,7 @@ fn partner_of<'a>(
 }
 
 /// The category of this type that has so many others of it before it.
-fn of_kind(categories: &[CategoryLines], kind: u16, before: usize) -> Option<&CategoryLines> {
+fn of_kind(categories: &[CategoryItems], kind: u16, before: usize) -> Option<&CategoryItems> {
     let mut passed = 0usize;
     for category in categories {
         let is_same = category.kind == kind;
@@ -171,150 +103,141 @@ fn of_kind(categories: &[CategoryLines], kind: u16, before: usize) -> Option<&Ca
     None
 }
 
-fn lonely<'a>(image: Side, category: &CategoryLines) -> CategoryChange<'a> {
-    CategoryChange::Lonely {
-        image,
-        kind: category.kind,
-        count: category.words.len(),
-    }
+/// Puts a category that only this image has.
+fn put_lonely(rows: &mut Rows, side: Side, category: &CategoryItems) -> Result<(), AllocError> {
+    let row = [
+        named("category", category.kind),
+        said("", "words"),
+        bare(side.key, category.words.len()),
+        said("only in", side.letter),
+    ];
+    rows.put("category", &row)
 }
 
-fn tell_category<T: CategoryTeller>(
-    old: &CategoryLines,
-    new: &CategoryLines,
-    teller: &mut T,
-) -> Result<(), Fault>
-    ensures { IfErr result IsOfStream }
-{
-    let (was, is) = (old.words.len(), new.words.len());
+/// Puts what two categories of one type differ in, each with its image.
+fn put_category(
+    rows: &mut Rows,
+    old: (&ItemListing, &CategoryItems),
+    new: (&ItemListing, &CategoryItems),
+) -> Result<(), AllocError> {
+    let (was, is) = (old.1.words.len(), new.1.words.len());
     if was != is {
-        teller.tell(CategoryChange::Count {
-            kind: old.kind,
-            old: was,
-            new: is,
-        })?;
+        let row = [
+            named("category", old.1.kind),
+            said("", "words"),
+            bare("a", was),
+            bare("b", is),
+        ];
+        rows.put("category", &row)?;
     }
-    if old.is_read && new.is_read {
-        return tell_items(&old.lines, &new.lines, teller);
+    if !old.1.items.are_read() || !new.1.items.are_read() {
+        return put_words(rows, old.1, new.1);
     }
-    tell_words(old, new, teller)
+    let olds = lines_of(rows.alloc(), old.0, old.1)?;
+    let news = lines_of(rows.alloc(), new.0, new.1)?;
+    put_items(rows, &olds, &news)
 }
 
-/// Tells the words in which two contents differ, of those that both have.
-fn tell_words<T: CategoryTeller>(
-    old: &CategoryLines,
-    new: &CategoryLines,
-    teller: &mut T,
-) -> Result<(), Fault>
-    ensures { IfErr result IsOfStream }
-{
-    for (at, was) in old.words.iter().enumerate() {
-        match new.words.get(at) {
-            Some(is) if *was != *is => teller.tell(CategoryChange::Word {
-                kind: old.kind,
-                at,
-                old: *was,
-                new: *is,
-            })?,
-            _ => {}
+/// Puts the words in which two contents differ, of those that both have.
+fn put_words(rows: &mut Rows, old: &CategoryItems, new: &CategoryItems) -> Result<(), AllocError> {
+    for (at, (was, is)) in old.words.iter().zip(new.words.iter()).enumerate() {
+        if *was != *is {
+            let row = [
+                named("category", old.kind),
+                named("word", at),
+                bare("a", Value::Word(*was)),
+                bare("b", Value::Word(*is)),
+            ];
+            rows.put("content", &row)?;
         }
     }
     Ok(())
 }
 
-fn tell_items<T: CategoryTeller>(old: &[Line], new: &[Line], teller: &mut T) -> Result<(), Fault>
-    ensures { IfErr result IsOfStream }
-{
-    let image = Side::A;
+fn put_items(rows: &mut Rows, old: &[Line<'_>], new: &[Line<'_>]) -> Result<(), AllocError> {
     for (place, item) in old.iter().enumerate() {
-        match find_item(new, place, item.label) {
-            Some(other) => tell_fields(item, other, teller)?,
-            None => teller.tell(CategoryChange::LonelyItem { image, item })?,
+        match find_item(new, place, item.item.as_str()) {
+            Some(other) => put_fields(rows, item, other)?,
+            None => put_lonely_item(rows, FIRST, item)?,
         }
     }
-    tell_other_items(old, new, teller)
-}
-
-/// Tells the items that only the second image has.
-fn tell_other_items<T: CategoryTeller>(
-    old: &[Line],
-    new: &[Line],
-    teller: &mut T,
-) -> Result<(), Fault>
-    ensures { IfErr result IsOfStream }
-{
-    let image = Side::B;
     for (place, item) in new.iter().enumerate() {
-        if find_item(old, place, item.label).is_none() {
-            teller.tell(CategoryChange::LonelyItem { image, item })?;
+        if find_item(old, place, item.item.as_str()).is_none() {
+            put_lonely_item(rows, SECOND, item)?;
         }
     }
     Ok(())
 }
 
-/// The item with this label: the one at this place, if it has it, or else the first.
-fn find_item(items: &[Line], place: usize, label: Label) -> Option<&Line> {
+/// The item that is called so: the one at this place, if it is, or else the first.
+fn find_item<'l, 'a>(items: &'l [Line<'a>], place: usize, name: &str) -> Option<&'l Line<'a>> {
     match items.get(place) {
-        Some(item) if item.label == label => return Some(item),
+        Some(item) if item.item.as_str() == name => return Some(item),
         _ => {}
     }
-    for item in items {
-        if item.label == label {
-            return Some(item);
-        }
-    }
-    None
+    items.iter().find(|item| item.item.as_str() == name)
 }
 
-/// Tells the fields in which two items differ.
-fn tell_fields<T: CategoryTeller>(old: &Line, new: &Line, teller: &mut T) -> Result<(), Fault>
-    ensures { IfErr result IsOfStream }
-{
-    for (was, is) in old.fields.iter().zip(new.fields.iter()) {
-        tell_field(old.label, was, is, teller)?;
+/// Puts an item that only this image has: in text on a line, in JSON a row for each field.
+fn put_lonely_item(rows: &mut Rows, side: Side, item: &Line<'_>) -> Result<(), AllocError> {
+    let alloc = rows.alloc();
+    let mut line = item.cells.to_vec(alloc)?;
+    line.push(said("only in", side.letter))?;
+    rows.say(&line)?;
+    for cell in item.cells.iter().skip(item.labels) {
+        let value = printed(alloc, cell.value)?;
+        let row = [
+            data("item", item.item.as_str()),
+            data("field", field_of(*cell)),
+            data(side.key, cell.value.or_text(value.as_str())),
+        ];
+        rows.put("item", &row)?;
     }
     Ok(())
 }
 
-/// Tells a field if its values differ.
-fn tell_field<T: CategoryTeller>(
-    item: Label,
-    old: &Field,
-    new: &Field,
-    teller: &mut T,
-) -> Result<(), Fault>
-    ensures { IfErr result IsOfStream }
-{
-    if old.value.as_str() == new.value.as_str() {
+/// Puts the fields in which two items differ.
+fn put_fields(rows: &mut Rows, old: &Line<'_>, new: &Line<'_>) -> Result<(), AllocError> {
+    for (was, is) in old.cells.iter().zip(new.cells.iter()) {
+        put_field(rows, old.item.as_str(), *was, *is)?;
+    }
+    Ok(())
+}
+
+/// Puts a field if its values differ.
+fn put_field(rows: &mut Rows, item: &str, old: Cell<'_>, new: Cell<'_>) -> Result<(), AllocError> {
+    let was = printed(rows.alloc(), old.value)?;
+    let is = printed(rows.alloc(), new.value)?;
+    if was.as_str() == is.as_str() {
         return Ok(());
     }
-    teller.tell(CategoryChange::Field { item, old, new })
+    put_change(rows, item, old, was.as_str(), new, is.as_str())
 }
 
-impl fmt::Display for Side {
-    fn fmt<W: fmt::Write>(&self, f: &mut fmt::Formatter<W>) -> fmt::Result {
-        match self {
-            Side::A => f.write_str("A"),
-            Side::B => f.write_str("B"),
-        }
-    }
+/// Puts a field, whose values text prints so.
+fn put_change<'c>(
+    rows: &mut Rows,
+    item: &'c str,
+    old: Cell<'c>,
+    was: &'c str,
+    new: Cell<'c>,
+    is: &'c str,
+) -> Result<(), AllocError> {
+    let row = [
+        bare("item", item),
+        said(old.name(), was),
+        said("", is),
+        data("field", field_of(old)),
+        data("a", old.value.or_text(was)),
+        data("b", new.value.or_text(is)),
+    ];
+    rows.put("item", &row)
 }
 
-impl fmt::Display for CategoryChange<'_> {
-    fn fmt<W: fmt::Write>(&self, f: &mut fmt::Formatter<W>) -> fmt::Result {
-        match self {
-            CategoryChange::RunsOut { image, at } => write!(f, "runs out at {at} in {image}"),
-            CategoryChange::Lonely { image, kind, count } => {
-                write!(f, "category {kind} words {count} only in {image}")
-            }
-            CategoryChange::Count { kind, old, new } => {
-                write!(f, "category {kind} words {old} {new}")
-            }
-            CategoryChange::Word { kind, at, old, new } => {
-                write!(f, "category {kind} word {at} 0x{old:04x} 0x{new:04x}")
-            }
-            CategoryChange::LonelyItem { image, item } => write!(f, "{item} only in {image}"),
-            CategoryChange::Field { item, old, new } => write!(f, "{item}{old} {}", new.value),
-        }
+/// The name of a field in JSON: `value` where an item has one field alone.
+fn field_of(cell: Cell<'_>) -> &str {
+    match cell.name() {
+        "" => "value",
+        name => name,
     }
 }

@@ -4,10 +4,8 @@ ghost use Rattle.sii_words.specs.Plant.{words_of};
 ghost use Rattle.line_changes.specs.Changes.{change_at, changes_between, changes_of};
 
 use sii_words::Plant;
+use station_rows::{Rows, Value, data, said, said_place};
 use std::alloc::{AllocError, Global};
-use std::fmt::Display;
-use std::io;
-use std::io::Write;
 
 /// The longest run of words that is printed word by word.
 pub const MOST_PRINTED: usize = 8;
@@ -84,18 +82,26 @@ fn note_word(
     Ok(())
 }
 
-/// Writes a line for each run of changed words with consecutive addresses. A long run has only its number of words.
+/// Puts a row for each changed word. Text has a line for each run of them with consecutive addresses, and of a long run only its number of
+/// words.
 ///
 /// # Errors
 ///
-/// As the output answers.
-pub fn write_changes<W: Write>(changes: &[ChangedWord], output: &mut W) -> io::Result<()> {
-    let mut written = 0;
+/// Memory was refused.
+pub fn put_changes(rows: &mut Rows, changes: &[ChangedWord]) -> Result<(), AllocError> {
+    let mut put = 0;
     for at in 0..changes.len() {
+        let change = changes[at];
+        let row = [
+            data("slave", change.slave),
+            data("word", change.at),
+            data("old", change.old),
+            data("new", change.new),
+        ];
+        rows.put("change", &row)?;
         if ends_run(changes, at) {
-            let run = changes.get(written..at + 1).unwrap_or(&[]);
-            write_run(run, output)?;
-            written = at + 1;
+            say_run(rows, changes.get(put..at + 1).unwrap_or(&[]))?;
+            put = at + 1;
         }
     }
     Ok(())
@@ -113,38 +119,20 @@ fn ends_run(changes: &[ChangedWord], at: usize) -> bool
     }
 }
 
-fn write_run<W: Write>(run: &[ChangedWord], output: &mut W) -> io::Result<()> {
-    let (Some(first), Some(last)) = (run.first(), run.last()) else {
+/// Says a run of changed words on a line.
+fn say_run(rows: &mut Rows, run: &[ChangedWord]) -> Result<(), AllocError> {
+    let Some(first) = run.first() else {
         return Ok(());
     };
-    write_range(first.slave, first.at, last.at, output)?;
+    let alloc = rows.alloc();
+    let olds: Vec<u16> = run.iter().map(|word| word.old).collect(alloc)?;
+    let news: Vec<u16> = run.iter().map(|word| word.new).collect(alloc)?;
+    let slave = said("slave", first.slave);
+    let [from, to] = said_place(first.at, run.len());
     if run.len() > MOST_PRINTED {
-        return writeln!(output, " count {}", run.len());
+        return rows.say(&[slave, from, to, said("count", run.len())]);
     }
-    write_values(run, false, output)?;
-    write_values(run, true, output)?;
-    writeln!(output)
-}
-
-/// Writes the new values of a run of words, or the old ones.
-fn write_values<W: Write>(run: &[ChangedWord], is_new: bool, output: &mut W) -> io::Result<()> {
-    output.write_all(if is_new { b" new" } else { b" old" })?;
-    for word in run {
-        let value = if is_new { word.new } else { word.old };
-        write!(output, " 0x{value:04x}")?;
-    }
-    Ok(())
-}
-
-/// Writes the slave and the addresses of a run of words, without the end of the line.
-///
-/// # Errors
-///
-/// As the output answers.
-pub fn write_range<W: Write>(slave: u16, first: u16, last: u16, output: &mut W) -> io::Result<()> {
-    if first == last {
-        write!(output, "slave {slave} word 0x{first:04x}")
-    } else {
-        write!(output, "slave {slave} words 0x{first:04x} to 0x{last:04x}")
-    }
+    let old = said("old", Value::Words(&olds));
+    let new = said("new", Value::Words(&news));
+    rows.say(&[slave, from, to, old, new])
 }

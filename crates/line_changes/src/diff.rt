@@ -3,46 +3,64 @@ ghost use Rattle.std.specs.Prelude.{◌≡◌, IfOk, IfErr, option_map};
 ghost use Rattle.line_changes.specs.Diff.{IfKnown, IsStatusOf, IsStatusOfPair, RefusesPair, TellsDifference};
 ghost use Rattle.station_files.specs.Faults.{IsOfStream};
 
-use crate::categories::tell_categories;
+use crate::categories::put_categories;
 use crate::difference::{Difference, compare};
-use crate::head::print_heads;
+use crate::head::put_heads;
+use crate::words::put_words;
 use sii_words::ImageFile;
-use station_files::{ExitStatus, Fault, Store, print_listing, read_image};
-use std::alloc::Global;
-use std::fmt;
+use station_files::{ExitStatus, Fault, Store, read_image};
+use station_rows::{Form, Rows};
+use std::alloc::{AllocError, Global};
 use std::io::{Read, Write};
 
-/// Reads two EEPROM images and prints what they differ in. Each is read from the file of its name, or, where no name is given, from the input;
-/// that is meant for one of them, since the input is read to its end. With `hex` both texts are hexadecimal. The status is `Done` where the
-/// images have the same words, and `Refused` where they differ.
+/// Which images are compared, and how.
+#[derive(Clone, Copy)]
+pub struct Compared<'a> {
+    /// Whether the images are hexadecimal text.
+    pub hex: bool,
+    /// Text, or rows of JSON.
+    pub form: Form,
+    /// The name of the first image's file; `None` for the input.
+    pub old: Option<&'a str>,
+    /// The name of the second image's file; `None` for the input.
+    pub new: Option<&'a str>,
+}
+
+/// Reads two EEPROM images and prints what they differ in. The input is meant for one of them, since it is read to its end. The status is
+/// `Done` where the images have the same words, and `Refused` where they differ.
 ///
 /// # Errors
 ///
-/// As for `read_image`, of the first image and then of the second; then `Memory`, where the images can't be compared; then as for
-/// `print_listing`. Nothing is printed before the comparison is complete.
+/// As for `read_image`, of the first image and then of the second; then `Memory`, where the images can't be compared; then `File` or `Memory`,
+/// as the output answers. Nothing is printed before the comparison is complete.
 pub fn diff_images<R: Read, S: Store, W: Write>(
     alloc: Global,
-    hex: bool,
-    old: Option<&str>,
-    new: Option<&str>,
+    compared: Compared<'_>,
     input: &mut R,
     store: &mut S,
     output: &mut W,
 ) -> Result<ExitStatus, Fault>
-    ensures status { IfOk result (λ status. IfKnown (option_map (λ name. name.now) old.entry) (option_map (λ name. name.now) new.entry)
-        (R.remaining input.old) (S.files store.old) (λ first second. TellsDifference hex first second status)) }
-    ensures refused { IfErr result (λ fault. IfKnown (option_map (λ name. name.now) old.entry) (option_map (λ name. name.now) new.entry)
-        (R.remaining input.old) (S.files store.old) (λ first second. RefusesPair hex first second fault)) }
+    ensures status { IfOk result (λ status. IfKnown (option_map (λ name. name.now) compared.entry.old) (option_map (λ name. name.now) compared.entry.new)
+        (R.remaining input.old) (S.files store.old) (λ first second. TellsDifference compared.entry.hex first second status)) }
+    ensures refused { IfErr result (λ fault. IfKnown (option_map (λ name. name.now) compared.entry.old) (option_map (λ name. name.now) compared.entry.new)
+        (R.remaining input.old) (S.files store.old) (λ first second. RefusesPair compared.entry.hex first second fault)) }
     ensures same { S.files store.new ≡ S.files store.old }
 {
+    let Compared {
+        hex,
+        form,
+        old,
+        new,
+    } = compared;
     let first = read_image(alloc, hex, old, input, store)?;
     let second = read_image(alloc, hex, new, input, store)?;
-    print_difference(alloc, &first, &second, output)
+    print_difference(alloc, form, &first, &second, output)
 }
 
 /// Prints what two images differ in, and returns the status.
 fn print_difference<W: Write>(
     alloc: Global,
+    form: Form,
     first: &ImageFile,
     second: &ImageFile,
     output: &mut W,
@@ -51,44 +69,18 @@ fn print_difference<W: Write>(
     ensures failed { IfErr result IsOfStream }
 {
     let difference = compare(alloc, first, second)?;
-    print_compared(alloc, &difference, output)?;
+    let rows = rows_of(alloc, form, &difference)?;
+    rows.write(output)?;
     Ok(difference.status())
 }
 
-fn print_compared<W: Write>(
-    alloc: Global,
-    difference: &Difference,
-    output: &mut W,
-) -> Result<(), Fault>
-    ensures failed { IfErr result IsOfStream }
-{
-    let mut categories = String::new(alloc);
-    tell_categories(
-        &difference.old_items,
-        &difference.new_items,
-        &mut categories,
-    )?;
-    let shown = Shown {
-        difference,
-        categories: categories.as_str(),
-    };
-    print_listing(alloc, &shown, output)
-}
-
-/// What is printed: what two images differ in.
-#[derive(Clone, Copy)]
-struct Shown<'a> {
-    difference: &'a Difference,
-    /// What the categories differ in, as text.
-    categories: &'a str,
-}
-
-impl fmt::Display for Shown<'_> {
-    fn fmt<W: fmt::Write>(&self, f: &mut fmt::Formatter<W>) -> fmt::Result {
-        print_heads(f, self.difference.old, self.difference.new)?;
-        f.write_str(self.categories)?;
-        write!(f, "{}", self.difference.words)
-    }
+/// The rows of what two images differ in.
+fn rows_of(alloc: Global, form: Form, difference: &Difference) -> Result<Rows, AllocError> {
+    let mut rows = Rows::new(alloc, form);
+    put_heads(&mut rows, difference.old, difference.new)?;
+    put_categories(&mut rows, &difference.old_items, &difference.new_items)?;
+    put_words(&mut rows, &difference.words)?;
+    Ok(rows)
 }
 
 impl Difference {

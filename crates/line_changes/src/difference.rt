@@ -5,7 +5,7 @@ ghost use Rattle.line_changes.specs.Difference.{Compares, NothingDiffers, NamesD
 use crate::head::Head;
 use crate::words::{WordChanges, compare_words};
 use sii_words::ImageFile;
-use station_listing::{ItemListing, list_items};
+use station_rows::{ItemListing, list_items};
 use std::alloc::{AllocError, Global};
 
 /// What two images differ in.

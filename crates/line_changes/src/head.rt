@@ -2,7 +2,8 @@
 ghost use Rattle.line_changes.specs.Difference.{IsHead};
 
 use sii_words::{Identity, ImageFile};
-use std::fmt;
+use station_rows::{Rows, Value, bare};
+use std::alloc::AllocError;
 
 /// The length of an image, and what its first words say (ETG.1000.6, slave information interface).
 #[derive(Clone, Copy)]
@@ -33,45 +34,64 @@ impl Head {
     }
 }
 
-/// Prints a line for each number in which two heads differ: its name, and both values.
-pub fn print_heads<W: fmt::Write>(f: &mut fmt::Formatter<W>, old: Head, new: Head) -> fmt::Result {
-    print_decimal(f, "words", old.count, new.count)?;
-    print_decimal(f, "alias", usize::from(old.alias), usize::from(new.alias))?;
-    print_check(f, old.check, new.check)?;
+/// Puts a row for each number in which two heads differ: its name, and both values.
+///
+/// # Errors
+///
+/// Memory was refused.
+pub(crate) fn put_heads(rows: &mut Rows, old: Head, new: Head) -> Result<(), AllocError> {
     let (was, is) = (old.identity, new.identity);
-    print_number(f, "vendor", was.vendor, is.vendor)?;
-    print_number(f, "product", was.product, is.product)?;
-    print_number(f, "revision", was.revision, is.revision)?;
-    print_number(f, "serial", was.serial, is.serial)
-}
-
-fn print_decimal<W: fmt::Write>(
-    f: &mut fmt::Formatter<W>,
-    name: &str,
-    old: usize,
-    new: usize,
-) -> fmt::Result {
-    if old == new {
-        return Ok(());
+    let fields = [
+        (
+            old.count != new.count,
+            "words",
+            old.count.into(),
+            new.count.into(),
+        ),
+        (
+            old.alias != new.alias,
+            "alias",
+            old.alias.into(),
+            new.alias.into(),
+        ),
+        (
+            old.check != new.check,
+            "check",
+            Value::Byte(old.check),
+            Value::Byte(new.check),
+        ),
+        (
+            was.vendor != is.vendor,
+            "vendor",
+            Value::Long(was.vendor),
+            Value::Long(is.vendor),
+        ),
+        (
+            was.product != is.product,
+            "product",
+            Value::Long(was.product),
+            Value::Long(is.product),
+        ),
+        (
+            was.revision != is.revision,
+            "revision",
+            Value::Long(was.revision),
+            Value::Long(is.revision),
+        ),
+        (
+            was.serial != is.serial,
+            "serial",
+            Value::Long(was.serial),
+            Value::Long(is.serial),
+        ),
+    ];
+    for (differs, field, a, b) in &fields {
+        if *differs {
+            rows.put(
+                "head",
+                &[bare("field", *field), bare("a", *a), bare("b", *b)],
+            )?;
+        }
     }
-    writeln!(f, "{name} {old} {new}")
-}
-
-fn print_check<W: fmt::Write>(f: &mut fmt::Formatter<W>, old: u8, new: u8) -> fmt::Result {
-    if old == new {
-        return Ok(());
-    }
-    writeln!(f, "check 0x{old:02x} 0x{new:02x}")
-}
-
-fn print_number<W: fmt::Write>(
-    f: &mut fmt::Formatter<W>,
-    name: &str,
-    old: u32,
-    new: u32,
-) -> fmt::Result {
-    if old == new {
-        return Ok(());
-    }
-    writeln!(f, "{name} 0x{old:08x} 0x{new:08x}")
+    Ok(())
 }

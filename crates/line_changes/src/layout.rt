@@ -7,18 +7,55 @@ use sii_image::ImageFault;
 use sii_words::Plant;
 use station_files::{Fault, Store};
 use station_listing::{Code, list_layout};
-use station_text::LineFile;
+use station_rows::{Form, Rows, bare, data, put_layout, said};
 use std::alloc::{AllocError, Global};
 use std::io;
 use std::io::Write;
 
-/// The process image of a line with these contents, as `layout` prints it.
-pub fn spell_layout(alloc: Global, plant: &Plant) -> Result<String, AllocError> {
-    match list_layout(alloc, plant) {
-        Ok(listing) => format!(in alloc; "{listing}"),
-        Err(ImageFault::ImageOverLimit) => format!(in alloc; "none: {}\n", Code::ImageOverLimit),
+/// Puts the process image of a line with these contents, as `layout` lists it, or that there is none. `image` says which one it is.
+///
+/// # Errors
+///
+/// Memory was refused.
+fn put_image(rows: &mut Rows, image: &str, plant: &Plant) -> Result<(), AllocError> {
+    match list_layout(rows.alloc(), plant) {
+        Ok(listing) => put_layout(rows, Some(image), &listing),
+        Err(ImageFault::ImageOverLimit) => {
+            let code = Code::ImageOverLimit;
+            let row = [
+                said("", "none:"),
+                data("image", image),
+                bare("code", code.number()),
+                bare("name", code.entry().name),
+            ];
+            rows.put("no_image", &row)
+        }
         Err(ImageFault::Memory) => Err(AllocError {}),
     }
+}
+
+/// The process image of a line with these contents, as text.
+fn image_of(alloc: Global, plant: &Plant) -> Result<Rows, AllocError> {
+    let mut rows = Rows::new(alloc, Form::Text);
+    put_image(&mut rows, "", plant)?;
+    Ok(rows)
+}
+
+/// Puts the process images of a line with the contents `before` and `after`, if they differ.
+///
+/// # Errors
+///
+/// Memory was refused.
+pub fn put_images(rows: &mut Rows, before: &Plant, after: &Plant) -> Result<(), AllocError> {
+    let old = image_of(rows.alloc(), before)?;
+    let new = image_of(rows.alloc(), after)?;
+    if old.as_str() == new.as_str() {
+        return Ok(());
+    }
+    rows.say(&[said("", "process image before")])?;
+    put_image(rows, "before", before)?;
+    rows.say(&[said("", "process image after")])?;
+    put_image(rows, "after", after)
 }
 
 /// Prints the process image of a line, if it is another one than `before`: a line that says how many follow it, and then the image as `layout`
@@ -36,31 +73,23 @@ pub fn print_image<S: Store, W: Write>(
     ensures failed { IfErr result IsOfStream }
     ensures same { S.files store.new ≡ S.files store.old }
 {
-    let now = layout_now(alloc, &before.line, store)?;
-    print_other(alloc, &before.words, now.as_str(), output)
+    let after = words_now(alloc, &before.line, store)?;
+    print_other(alloc, &before.words, &after, output)
 }
 
-/// The process image of a line with the words that its image files hold.
-fn layout_now<S: Store>(alloc: Global, line: &LineFile, store: &mut S) -> Result<String, Fault>
-    ensures failed { IfErr result IsOfStream }
-    ensures same { S.files store.new ≡ S.files store.old }
-{
-    let words = words_now(alloc, line, store)?;
-    Ok(spell_layout(alloc, &words)?)
-}
-
-/// Prints a process image, if it is another one than that of these contents.
+/// Prints the process image of a line with the contents `after`, if it is another one than with `before`.
 fn print_other<W: Write>(
     alloc: Global,
     before: &Plant,
-    now: &str,
+    after: &Plant,
     output: &mut W,
 ) -> Result<(), Fault>
     ensures failed { IfErr result IsOfStream }
 {
-    let old = spell_layout(alloc, before)?;
-    if old.as_str() != now {
-        write_image(now, output)?;
+    let old = image_of(alloc, before)?;
+    let new = image_of(alloc, after)?;
+    if old.as_str() != new.as_str() {
+        write_image(new.as_str(), output)?;
     }
     Ok(())
 }

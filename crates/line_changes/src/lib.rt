@@ -13,14 +13,13 @@ mod report;
 mod said;
 mod words;
 
-pub use categories::{CategoryChange, CategoryTeller, Side, tell_categories};
-pub use changes::{ChangedWord, MOST_PRINTED, changed_words, write_changes, write_range};
+pub use changes::{ChangedWord, MOST_PRINTED, changed_words, put_changes};
 pub use checks::check_of;
 pub use commands::{Resize, resizes};
-pub use diff::diff_images;
+pub use diff::{Compared, diff_images};
 pub use difference::{Difference, compare};
 pub use head::Head;
-pub use layout::{print_image, spell_layout};
+pub use layout::{print_image, put_images};
 pub use report::{Before, REPORT, Report, changes_since, look_before, print_report, report_behind};
 pub use said::size_said;
 pub use words::WordChanges;

@@ -4,14 +4,14 @@ ghost use Rattle.station_files.specs.Faults.{IsOfStream};
 ghost use Rattle.station_files.specs.LineFiles.{SpellsLine, SpellsSlaves};
 ghost use Rattle.line_changes.specs.Report.{Reports};
 
-use crate::changes::{ChangedWord, changed_words, write_changes};
+use crate::changes::{ChangedWord, changed_words, put_changes};
 use crate::checks::checks_of;
 use sii_words::Plant;
 use station_files::{ExitStatus, Fault, Store, load_line, load_slaves};
 use station_listing::CheckByte;
+use station_rows::{Form, Rows, named, said};
 use station_text::LineFile;
-use std::alloc::Global;
-use std::io;
+use std::alloc::{AllocError, Global};
 use std::io::Write;
 
 /// The help text on the option that asks for a report.
@@ -98,33 +98,33 @@ pub fn print_report<S: Store, W: Write>(
     ensures same { S.files store.new ≡ S.files store.old }
 {
     let report = changes_since(alloc, before, store)?;
-    write_report(&report, output)?;
-    Ok(())
+    let rows = rows_of(alloc, &report)?;
+    rows.write(output)
 }
 
-fn write_report<W: Write>(report: &Report, output: &mut W) -> io::Result<()> {
-    write_changes(&report.changes, output)?;
+/// The rows of a report.
+fn rows_of(alloc: Global, report: &Report) -> Result<Rows, AllocError> {
+    let mut rows = Rows::new(alloc, Form::Text);
+    put_changes(&mut rows, &report.changes)?;
     let mut wrong = 0usize;
     for (slave, check) in report.checks.iter().enumerate() {
-        writeln!(output, "slave {slave} check {check}")?;
+        rows.put("check", &[named("slave", slave), named("check", *check)])?;
         if *check != CheckByte::Right {
             wrong = wrong.saturating_add(1);
         }
     }
-    write_end(wrong, output)?;
-    output.flush()
+    say_end(&mut rows, wrong)?;
+    Ok(rows)
 }
 
-/// Writes the last line of a report on a line with so many wrong check bytes.
-fn write_end<W: Write>(wrong: usize, output: &mut W) -> io::Result<()> {
-    match wrong {
-        0 => write!(output, "line in order")?,
-        _ => write!(output, "line not in order, wrong check bytes {wrong}")?,
-    }
-    writeln!(
-        output,
-        "; a slave acts on its new words only when it starts again"
-    )
+/// Says whether a line with so many wrong check bytes is in order.
+fn say_end(rows: &mut Rows, wrong: usize) -> Result<(), AllocError> {
+    let starts = "a slave acts on its new words only when it starts again";
+    let line = match wrong {
+        0 => format!(in rows.alloc(); "line in order; {starts}")?,
+        _ => format!(in rows.alloc(); "line not in order, wrong check bytes {wrong}; {starts}")?,
+    };
+    rows.say(&[said("", line.as_str())])
 }
 
 /// Reads a line and its words as its files hold them, if a report is asked for. No file changes.

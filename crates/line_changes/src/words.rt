@@ -4,8 +4,8 @@ ghost use Rattle.sii_words.specs.Run.{stretches};
 ghost use Rattle.line_changes.specs.Difference.{AreChanges};
 
 use sii_words::{Run, push_stretches};
+use station_rows::{Rows, Value, data, said, said_place};
 use std::alloc::{AllocError, Global};
-use std::fmt;
 
 /// The words in which two images differ, of those that both have: the longest stretches of them, in rising order.
 #[derive(Drop)]
@@ -49,60 +49,43 @@ fn compare_same(alloc: Global, old: &[u16], new: &[u16]) -> Result<WordChanges, 
 /// How many words of a stretch stand on one line.
 const WORDS_OF_A_LINE: usize = 8;
 
-impl fmt::Display for WordChanges {
-    fn fmt<W: fmt::Write>(&self, f: &mut fmt::Formatter<W>) -> fmt::Result {
-        for (old, new) in self.old.iter().zip(self.new.iter()) {
-            print_stretch(f, old, new)?;
+/// Puts the words that differ. Text has neighbouring ones on a line, some at a time.
+///
+/// # Errors
+///
+/// Memory was refused.
+pub(crate) fn put_words(rows: &mut Rows, changes: &WordChanges) -> Result<(), AllocError> {
+    for (old, new) in changes.old.iter().zip(changes.new.iter()) {
+        let mut at = old.first;
+        let old_lines = old.words.as_slice().chunks(WORDS_OF_A_LINE);
+        let new_lines = new.words.as_slice().chunks(WORDS_OF_A_LINE);
+        for (olds, news) in old_lines.zip(new_lines) {
+            say_line(rows, at, olds, news)?;
+            put_line(rows, at, olds, news)?;
+            at = at.saturating_add(WORDS_OF_A_LINE as u16);
         }
-        Ok(())
-    }
-}
-
-fn print_stretch<W: fmt::Write>(f: &mut fmt::Formatter<W>, old: &Run, new: &Run) -> fmt::Result {
-    let mut at = usize::from(old.first);
-    let old_lines = old.words.as_slice().chunks(WORDS_OF_A_LINE);
-    let new_lines = new.words.as_slice().chunks(WORDS_OF_A_LINE);
-    for (olds, news) in old_lines.zip(new_lines) {
-        print_words(f, at, olds, news)?;
-        at = at.saturating_add(olds.len());
     }
     Ok(())
 }
 
-/// Prints a line for neighbouring words, from word `at` on: the number of a single word, and both values; or the numbers of the first and
-/// the last word, and all old and all new values.
-fn print_words<W: fmt::Write>(
-    f: &mut fmt::Formatter<W>,
-    at: usize,
-    olds: &[u16],
-    news: &[u16],
-) -> fmt::Result {
+/// Says neighbouring words, from word `at` on: the number of a single word, and both values; or the numbers of the first and the last word,
+/// and all old and all new values.
+fn say_line(rows: &mut Rows, at: u16, olds: &[u16], news: &[u16]) -> Result<(), AllocError> {
     let (was, is) = match olds.len() {
         1 => ("", ""),
-        _ => (" old", " new"),
+        _ => ("old", "new"),
     };
-    print_range(f, at, olds.len())?;
-    print_values(f, was, olds)?;
-    print_values(f, is, news)?;
-    f.write_str("\n")
+    let [from, to] = said_place(at, olds.len());
+    let old = said(was, Value::Words(olds));
+    let new = said(is, Value::Words(news));
+    rows.say(&[from, to, old, new])
 }
 
-fn print_range<W: fmt::Write>(f: &mut fmt::Formatter<W>, at: usize, count: usize) -> fmt::Result {
-    if count == 1 {
-        return write!(f, "word 0x{at:04x}");
-    }
-    let last = at.saturating_add(count).saturating_sub(1);
-    write!(f, "words 0x{at:04x} to 0x{last:04x}")
-}
-
-fn print_values<W: fmt::Write>(
-    f: &mut fmt::Formatter<W>,
-    name: &str,
-    words: &[u16],
-) -> fmt::Result {
-    f.write_str(name)?;
-    for word in words {
-        write!(f, " 0x{word:04x}")?;
+/// Puts a row for each of neighbouring words, from word `at` on.
+fn put_line(rows: &mut Rows, at: u16, olds: &[u16], news: &[u16]) -> Result<(), AllocError> {
+    for (place, (a, b)) in olds.iter().zip(news.iter()).enumerate() {
+        let word = usize::from(at).saturating_add(place);
+        rows.put("word", &[data("word", word), data("a", *a), data("b", *b)])?;
     }
     Ok(())
 }

@@ -3,9 +3,10 @@
 use crate::devices::{BOTH, Device, INPUTS, NOTHING, bytes_of, line_of, words_of};
 use crate::tests::rom_half;
 use esc_model::{ProcessHalf, RomHalf};
+use sii_edit::{Command, Edit, EditList, Expect, GuardedEdit, GuardedEditList, is_same_command};
 use sii_words::{
-    ImageFile, ItemList, Plant, Words, bytes_of_words, is_device_size, is_image_size,
-    words_of_bytes,
+    ImageFile, ItemList, Plant, Run, WordList, Words, bytes_of_words, is_device_size,
+    is_image_size, words_of_bytes,
 };
 use std::alloc::Global;
 
@@ -151,6 +152,148 @@ fn are_read(alloc: Global) -> bool {
         Ok(words) => list_is_copied(alloc, &ItemList::from_vec(words)),
         Err(_refused) => false,
     }
+}
+
+/// What an edit does.
+#[derive(Clone, Copy)]
+enum Kind {
+    Alias,
+    Category,
+    Image,
+}
+
+/// The form of a command. A group has one edit.
+#[derive(Clone, Copy)]
+enum Form {
+    One,
+    Swap,
+    Group,
+    Guarded,
+}
+
+/// Each form of a command, with what its edit does.
+const COMMANDS: &[(Form, Kind)] = &[
+    (Form::One, Kind::Alias),
+    (Form::One, Kind::Category),
+    (Form::One, Kind::Image),
+    (Form::Swap, Kind::Alias),
+    (Form::Group, Kind::Category),
+    (Form::Guarded, Kind::Image),
+];
+
+/// `WORDS` as a list.
+fn word_list(alloc: Global) -> Option<WordList> {
+    match WORDS.to_vec(alloc) {
+        Ok(words) => Some(WordList::from_vec(words)),
+        Err(_refused) => None,
+    }
+}
+
+/// An edit of slave 1 that gives it alias 0x0203, the category 50 of `WORDS` or an image of 128 bytes.
+fn edit(alloc: Global, kind: Kind) -> Option<Edit> {
+    let slave = 1;
+    match kind {
+        Kind::Alias => Some(Edit::Alias {
+            slave,
+            value: 0x0203,
+        }),
+        Kind::Category => Some(Edit::Category {
+            slave,
+            kind: 50,
+            words: word_list(alloc)?,
+        }),
+        Kind::Image => Some(Edit::Image {
+            slave,
+            image: ImageFile::from_bytes(alloc, &[0x5A; 128]).ok()?,
+        }),
+    }
+}
+
+/// The edit, guarded by an identity.
+fn guarded(edit: Edit) -> GuardedEdit {
+    let expect = Expect {
+        vendor: 1,
+        product: 2,
+        revision: 3,
+    };
+    GuardedEdit {
+        expect: Some(expect),
+        edit,
+    }
+}
+
+/// The command of this row.
+fn command(alloc: Global, (form, kind): (Form, Kind)) -> Option<Command> {
+    let edit = edit(alloc, kind)?;
+    match form {
+        Form::One => Some(Command::One(edit)),
+        Form::Swap => {
+            drop(edit);
+            Some(Command::Swap { a: 1, b: 2 })
+        }
+        Form::Group => Some(Command::Group(EditList::from_vec(Vec::from_array(
+            alloc,
+            [edit],
+        ).ok()?))),
+        Form::Guarded => Some(Command::Guarded(GuardedEditList::from_vec(Vec::from_array(
+            alloc,
+            [guarded(edit)],
+        ).ok()?))),
+    }
+}
+
+/// A copy of the command of this row, which is gone by then.
+fn command_copy(alloc: Global, row: (Form, Kind)) -> Option<Command> {
+    match command(alloc, row) {
+        Some(command) => command.try_copy().ok(),
+        None => None,
+    }
+}
+
+/// Whether a copy of the command of this row is the one of `other`.
+fn is_copy(alloc: Global, row: (Form, Kind), other: (Form, Kind)) -> Option<bool> {
+    let copy = command_copy(alloc, row)?;
+    match command(alloc, other) {
+        Some(command) => Some(is_same_command(&copy, &command)),
+        None => None,
+    }
+}
+
+/// Whether a copy of each command is this one, and no other.
+fn commands_are_copied(alloc: Global) -> bool {
+    for (place, row) in COMMANDS.iter().enumerate() {
+        for (at, other) in COMMANDS.iter().enumerate() {
+            if is_copy(alloc, *row, *other) != Some(at == place) {
+                return false;
+            }
+        }
+    }
+    true
+}
+
+/// Whether a copy of a run has its slave, its first word and its values.
+fn run_is_copied(run: &Run) -> bool {
+    match run.try_copy() {
+        Ok(copy) => copy.slave == 1 && copy.first == 0x0708 && copy.words.as_slice() == WORDS,
+        Err(_refused) => false,
+    }
+}
+
+/// Whether a copy of a run of `WORDS` does so.
+fn words_are_copied_in_a_run(alloc: Global) -> bool {
+    match word_list(alloc) {
+        Some(words) => run_is_copied(&Run {
+            slave: 1,
+            first: 0x0708,
+            words,
+        }),
+        None => false,
+    }
+}
+
+#[test]
+fn commands_and_runs_are_copied(rt: HostRuntime) {
+    assert!(rt; commands_are_copied(rt.alloc()) && words_are_copied_in_a_run(rt.alloc()));
 }
 
 #[test]

@@ -1,7 +1,7 @@
 //! Layouts that are changed, slave by slave, to those of a line worked out by hand.
 
 use crate::devices::{BOTH, Device, INPUTS, NOTHING, line_of, words_of};
-use sii_image::{Layout, NewLayout, NewLayouts, ProcessImage, Segment, SlaveLayout};
+use sii_image::{Layout, NewLayout, NewLayouts, Segment, SlaveLayout};
 use std::alloc::Global;
 
 const SEGMENTS: &[Segment] = &[
@@ -37,11 +37,28 @@ const SEGMENTS: &[Segment] = &[
     },
 ];
 
-fn is_whole(image: &ProcessImage) -> bool {
-    image.segments() == SEGMENTS
-        && image.outputs() == 1
-        && image.inputs() == 6
-        && image.expected_counter() == 4
+/// The line once its first slave is `INPUTS`, and has nothing behind it.
+const CHANGED: &[Segment] = &[Segment {
+    slave: 0,
+    manager: 0,
+    output: false,
+    offset: 0,
+    size: 2,
+    bits: 12,
+    start: 0x1000,
+    control: 0x20,
+}];
+
+/// Whether a layout has the process image of these segments, with so many bytes of outputs and inputs, and this working counter.
+fn has_image(layout: &Layout, segments: &[Segment], sizes: (usize, usize), counter: u16) -> bool {
+    match layout.image() {
+        Ok(image) => {
+            image.segments() == segments
+                && (image.outputs(), image.inputs()) == sizes
+                && image.expected_counter() == counter
+        }
+        Err(_fault) => false,
+    }
 }
 
 /// The layout of a device.
@@ -69,26 +86,25 @@ fn both_layouts(alloc: Global) -> Option<NewLayouts> {
     Some(NewLayouts::of(layouts))
 }
 
-/// Changes the first slave of a layout to `INPUTS`. There is no third one, so that nothing else is changed.
-fn change(alloc: Global, layout: &mut Layout) -> bool {
-    match words_of(alloc, &INPUTS) {
-        Some(inputs) => layout.change(0, &inputs).is_ok() && layout.change(2, &inputs).is_ok(),
-        None => false,
-    }
+/// Whether the first slave of a layout is changed to `INPUTS`. There is no third one, so nothing else is changed.
+fn first_is_changed(alloc: Global, layout: &mut Layout) -> bool {
+    let Some(inputs) = words_of(alloc, &INPUTS) else {
+        return false;
+    };
+    layout.change(0, &inputs).is_ok()
+        && layout.change(2, &inputs).is_ok()
+        && has_image(layout, CHANGED, (0, 2), 1)
 }
 
 /// Whether this layout has the process image of the line once both slaves are changed.
 fn becomes_whole(layout: &mut Layout, new: NewLayouts) -> bool {
     let is_within = layout.has_process_image_with(&new);
     layout.put_all(new);
-    match layout.image() {
-        Ok(image) => is_within && is_whole(&image),
-        Err(_fault) => false,
-    }
+    is_within && has_image(layout, SEGMENTS, (1, 6), 4)
 }
 
 fn is_changed(alloc: Global, layout: &mut Layout) -> bool {
-    let is_changed = change(alloc, layout);
+    let is_changed = first_is_changed(alloc, layout);
     match both_layouts(alloc) {
         Some(new) => becomes_whole(layout, new) && is_changed,
         None => false,

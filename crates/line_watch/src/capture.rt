@@ -5,7 +5,7 @@ ghost use Rattle.line_watch.specs.Pcap.{IsRecord};
 use crate::ethernet::Way;
 use crate::pcap::{BEGIN, Record, file_header};
 use crate::time::Time;
-use ecat_frame::{Frame, MAX_LEN};
+use ecat_frame::MAX_LEN;
 use site_file::RandomAccessFile;
 use std::io;
 use std::rt::Clock;
@@ -65,14 +65,9 @@ impl<F: RandomAccessFile + Drop> Capture<F> {
         })
     }
 
-    /// Writes down a frame that goes this way now.
-    pub fn note<R: Wait + Clock>(&self, rt: &R, way: Way, frame: &Frame) {
-        self.note_bytes(rt, way, frame.as_bytes());
-    }
-
     /// Writes down a frame with these bytes, 1,500 at most, that goes this way now. They may be any, as those of a frame that was falsified
     /// on a wire.
-    pub fn note_bytes<R: Wait + Clock>(&self, rt: &R, way: Way, frame: &[u8])
+    pub fn note<R: Wait + Clock>(&self, rt: &R, way: Way, frame: &[u8])
         requires { length frame.now ≤ MAX_LEN }
     {
         let mut end = self.end.lock(rt);

@@ -181,7 +181,7 @@ fn acted<'f>(alloc: Global, site: Wired<'f>, act: Act) -> (TestWire<'f>, Left) {
     (wire, left)
 }
 
-/// What a step by threads has left. None if the line isn't brought up, or memory was refused.
+/// What a step by threads has left. None if the line isn't brought up, memory was refused, or a station that was opened told no totals.
 fn ran_by_threads<'f, R: Wait + Threads + Sync>(
     rt: &R,
     alloc: Global,
@@ -196,7 +196,7 @@ fn ran_by_threads<'f, R: Wait + Threads + Sync>(
     let reason = locked.reason(rt);
     let mut wire = locked.into_line().into_wire();
     let is_done = told.is_all && reason.is_none();
-    let left = left_on(&mut wire, before, is_done, Some(told.durable), reason);
+    let left = left_on(&mut wire, before, is_done, told.durable, reason);
     Some((wire, left))
 }
 

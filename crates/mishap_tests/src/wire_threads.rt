@@ -52,51 +52,62 @@ fn commands(alloc: Global) -> Vec<Command> {
 }
 
 /// What is printed of how many durable commands.
-const DURABLE: &[(&str, u64)] = &[(" durable 1 ", 1), (" durable 2 ", 2), (" durable 3 ", 3)];
+const DURABLE: &[(&str, u64)] = &[
+    (" durable 0 ", 0),
+    (" durable 1 ", 1),
+    (" durable 2 ", 2),
+    (" durable 3 ", 3),
+];
 
 /// What a run told.
 #[derive(Clone, Copy)]
 pub(crate) struct Told {
     /// Whether it is all that a run without trouble prints.
     pub is_all: bool,
-    /// How many commands are durable.
-    pub durable: u64,
+    /// How many commands are durable. None: no station was opened.
+    pub durable: Option<u64>,
 }
 
-/// What a run that printed this told.
-fn told_in(text: &[u8]) -> Told {
+/// What a run without a station tells.
+const NOTHING: Told = Told {
+    is_all: false,
+    durable: None,
+};
+
+/// What a run that printed this told. None: it has no totals.
+fn told_in(text: &[u8]) -> Option<Told> {
     let text = str::from_utf8(text).unwrap_or("");
-    let mut durable = 0u64;
     for (told, count) in DURABLE {
-        if durable == 0 && text.contains(*told) {
-            durable = *count;
+        if text.contains(*told) {
+            return Some(Told {
+                is_all: text == ANSWERS,
+                durable: Some(*count),
+            });
         }
     }
-    Told {
-        is_all: text == ANSWERS,
-        durable,
-    }
+    None
 }
 
-/// Runs the commands by threads on this site. None: memory was refused.
+/// Runs the commands by threads on this site. None: memory was refused, or a station that was opened told no totals.
 fn told_by_threads<D: Lends + Send, R: Wait + Threads + Sync>(
     rt: &R,
     alloc: Global,
     site: ShadowSite<D>,
 ) -> Option<Told> {
+    let Some(station) = opened(alloc, site) else {
+        return Some(NOTHING);
+    };
+    let work = Work {
+        commands: commands(alloc),
+        tells_events: false,
+    };
+    let task = Task { work, turns: false };
     let mut text = Vec::new(alloc);
-    if let Some(station) = opened(alloc, site) {
-        let work = Work {
-            commands: commands(alloc),
-            tells_events: false,
-        };
-        let task = Task { work, turns: false };
-        drop(serve_task(rt, alloc, station, 3, task, &mut text).ok()?);
-    }
-    Some(told_in(&text))
+    drop(serve_task(rt, alloc, station, 3, task, &mut text).ok()?);
+    told_in(&text)
 }
 
-/// What a run by threads on this line told. None: memory was refused, or the parts aren't a line's.
+/// What a run by threads on this line told. None: memory was refused, the parts aren't a line's, or a station that was opened told no totals.
 pub(crate) fn told_on<R: Wait + Threads + Sync, W: Wire + Send>(
     rt: &R,
     alloc: Global,

@@ -1,11 +1,15 @@
 //! What C calls. `include/pilzhoon.h` says it in C's words.
 
-ghost use Rattle.std.specs.Prelude.{◌≡◌, ◌==◌, not, Err};
+ghost use Rattle.std.specs.Prelude.{◌≡◌, ◌≤◌, ◌==◌, not, Err};
+ghost use Rattle.pilzhoon.specs.Numbers.{IsNumberOf, Numbers};
 ghost use Rattle.sii_words.specs.CheckByte.{IsChecked};
 ghost use Rattle.sii_words.specs.Words.{IsDeviceSize, IsImageSize, bytes_of};
 ghost use Rattle.sii_edit.specs.Alias.{with_alias};
 ghost use Rattle.sii_bytes.specs.Bytes.{Answers};
 ghost use Rattle.sii_bytes.specs.Category.{HasCategory, LacksCategory};
+ghost use Rattle.sii_cats.specs.Contents.{AreManagers};
+ghost use Rattle.sii_cats.specs.Pdos.{ArePdos};
+ghost use Rattle.sii_bytes.specs.Content.{IsManager, IsPdo, ReadsEntry, ReadsItem, ReadsString};
 ghost use Rattle.sii_bytes.specs.Editing.{Edits, RefusesCategory, RefusesImage, category_edit, image_edit};
 ghost use Rattle.sii_bytes.specs.Head.{IsHead};
 ghost use Rattle.sii_bytes.specs.Judging.{Judges};
@@ -15,7 +19,7 @@ ghost use Rattle.rom_steps.specs.Remaining.{IssueCourse, OpenCourse, ReadCourse,
 ghost use Rattle.site_core.specs.declared.fault.DeviceFault.TheVariants as device;
 
 use rom_steps::{Access, ToSend};
-use sii_bytes::{CategoryPlace, Head, ImageSizes, PlacedSegment};
+use sii_bytes::{CategoryPlace, EntryRow, Head, ImageSizes, PdoRow, PlacedSegment, SyncManager};
 use std::alloc::Global;
 
 /// Reads the head of an image, as `sii_bytes::read_head` does.
@@ -95,6 +99,55 @@ pub extern "C" fn pz_place_line(
     sii_bytes::place_line(alloc, devices, lengths, segments, sizes)
 }
 
+/// Reads a sync manager of a content, as `sii_bytes::read_manager` does.
+#[unsafe(no_mangle)]
+pub extern "C" fn pz_sync_manager(
+    alloc: Global,
+    content: &[u8],
+    number: usize,
+    manager: &mut SyncManager,
+) -> u32
+    ensures { ReadsItem AreManagers content.now number result (λ item. IsManager item manager.new) (manager.new ≡ manager.old) }
+{
+    sii_bytes::read_manager(alloc, content, number, manager)
+}
+
+/// Reads a PDO of a content, as `sii_bytes::read_pdo` does.
+#[unsafe(no_mangle)]
+pub extern "C" fn pz_pdo(alloc: Global, content: &[u8], number: usize, pdo: &mut PdoRow) -> u32
+    ensures { ReadsItem ArePdos content.now number result (λ item. IsPdo item pdo.new) (pdo.new ≡ pdo.old) }
+{
+    sii_bytes::read_pdo(alloc, content, number, pdo)
+}
+
+/// Reads an entry of a PDO of a content, as `sii_bytes::read_entry` does.
+#[unsafe(no_mangle)]
+pub extern "C" fn pz_pdo_entry(
+    alloc: Global,
+    content: &[u8],
+    pdo: usize,
+    number: usize,
+    entry: &mut EntryRow,
+) -> u32
+    ensures { ReadsEntry content.now pdo number result entry.new (entry.new ≡ entry.old) }
+{
+    sii_bytes::read_entry(alloc, content, pdo, number, entry)
+}
+
+/// Reads a string of a content, as `sii_bytes::read_string` does.
+#[unsafe(no_mangle)]
+pub extern "C" fn pz_string(
+    alloc: Global,
+    content: &[u8],
+    number: usize,
+    text: &mut [u8],
+    size: &mut usize,
+) -> u32
+    ensures { ReadsString content.now number text.old result text.new size.new ((text.new ≡ text.old) × (size.new ≡ size.old)) }
+{
+    sii_bytes::read_string(alloc, content, number, text, size)
+}
+
 /// Begins to open a slave, as `rom_steps::calls::open` does.
 #[unsafe(no_mangle)]
 pub extern "C" fn pz_open(access: &mut Access)
@@ -127,34 +180,48 @@ pub extern "C" fn pz_settle(access: &mut Access, taken: u32)
     rom_steps::calls::settle(access, taken != 0)
 }
 
-/// Tells what is to be done next, as `rom_steps::calls::next` does.
+/// The library's number of a code that a call on steps answers.
+fn number_of(code: u32, by: u32) -> u32
+    requires { by ≤ 200 }
+    ensures { IsNumberOf by code result }
+{
+    if code < 100 {
+        return code;
+    }
+    if code >= 200 {
+        return code;
+    }
+    code + by
+}
+
+/// Tells what is to be done next, as `rom_steps::calls::next` does; its codes from 100 on are 200 higher.
 #[unsafe(no_mangle)]
 pub extern "C" fn pz_next(access: &Access, datagram: &mut ToSend) -> u32
-    ensures { TellsNext access.now result datagram.new (datagram.new ≡ datagram.old) }
+    ensures { Numbers 200 (λ code. TellsNext access.now code datagram.new (datagram.new ≡ datagram.old)) result }
 {
-    rom_steps::calls::next(access, datagram)
+    number_of(rom_steps::calls::next(access, datagram), 200)
 }
 
-/// Takes in the frame that came back, as `rom_steps::calls::take_answer` does.
+/// Takes in the frame that came back, as `rom_steps::calls::take_answer` does; its codes from 100 on are 100 higher.
 #[unsafe(no_mangle)]
 pub extern "C" fn pz_take(access: &mut Access, counter: u16, content: &[u8]) -> u32
-    ensures { StepsWith access.old result access.new counter content.now }
+    ensures { Numbers 100 (λ code. StepsWith access.old code access.new counter content.now) result }
 {
-    rom_steps::calls::take_answer(access, counter, content)
+    number_of(rom_steps::calls::take_answer(access, counter, content), 100)
 }
 
-/// Takes in that the frame was lost, as `rom_steps::calls::take_loss` does.
+/// Takes in that the frame was lost, as `rom_steps::calls::take_loss` does; its codes from 100 on are 100 higher.
 #[unsafe(no_mangle)]
 pub extern "C" fn pz_lose(access: &mut Access) -> u32
-    ensures { Steps access.old result access.new (λ came. came ≡ Err device.Lost) }
+    ensures { Numbers 100 (λ code. Steps access.old code access.new (λ came. came ≡ Err device.Lost)) result }
 {
-    rom_steps::calls::take_loss(access)
+    number_of(rom_steps::calls::take_loss(access), 100)
 }
 
-/// Takes in that the line has stopped, as `rom_steps::calls::take_stop` does.
+/// Takes in that the line has stopped, as `rom_steps::calls::take_stop` does; its codes from 100 on are 100 higher.
 #[unsafe(no_mangle)]
 pub extern "C" fn pz_stop(access: &mut Access) -> u32
-    ensures { Steps access.old result access.new (λ came. came ≡ Err device.Stopped) }
+    ensures { Numbers 100 (λ code. Steps access.old code access.new (λ came. came ≡ Err device.Stopped)) result }
 {
-    rom_steps::calls::take_stop(access)
+    number_of(rom_steps::calls::take_stop(access), 100)
 }

@@ -1,5 +1,5 @@
 -- What remains of a word access at each of its steps.
-use Rattle.std.specs.Prelude.{◌≡◌, ℕ, ◌+◌, ◌*◌, ◌<◌, Bool, true, false, List, [], ◌∷◌, length, take, is_some, Option, Some, None, Result, IsErr}
+use Rattle.std.specs.Prelude.{◌≡◌, ℕ, ◌+◌, ◌-◌, ◌*◌, ◌<◌, Bool, true, false, List, [], ◌∷◌, length, take, drop, replicate, is_some, Option, Some, None, Result, IsErr}
 use Rattle.ecat_frame.specs.Frame.{Pdu}
 use Rattle.esc_model.specs.Orders.{address_of, access_order, poll_order, clear_order, read_order, fetch_order, write_order}
 use Rattle.site_core.specs.declared.fault.DeviceFault.{DeviceFault}
@@ -128,10 +128,15 @@ IsNext slave Tidies order = order ≡ clear_order slave
 IsNext slave (Ended end) order = ⊥
 IsNext slave Stopped order = ⊥
 
--- This is the datagram that is sent next, whichever slave it is sent to, and its length is that of its content.
+-- The bytes behind its content are 0.
+abbrev pub IsZeroBehind : ToSend → Type 0
+IsZeroBehind datagram = drop datagram.length datagram.content ≡ replicate (8 - datagram.length) 0
+
+-- This is the datagram that is sent next, whichever slave it is sent to. Its length is that of its content, behind which its bytes are 0.
 pub record IsToSend (step : Step) (datagram : ToSend) : Type 0 where
   pub next : (slave : ℕ) → IsNext slave step (pdu_to slave datagram)
   pub long : length (take datagram.length datagram.content) ≡ datagram.length
+  pub behind : IsZeroBehind datagram
 
 -- Nothing more is sent.
 abbrev pub IsOver : Step → Type 0

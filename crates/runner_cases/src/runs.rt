@@ -2,7 +2,7 @@
 
 use crate::asks::Ask;
 use crate::line::{THREE, parts_of};
-use crate::sites::{Trouble, aliases_of, holds, off, open, recovered_at_last, site_of};
+use crate::sites::{Trouble, aliases_of, holds, off, open, recovery, site_of};
 use crate::stations::{fault_of, serve, status_of, submit};
 use book_model::Fault;
 use site_core::Site;
@@ -117,10 +117,9 @@ pub fn is_found(parts: &Parts, kept: &[[u16; 3]]) -> bool {
     is_empty_journal(parts) && is_one_of(aliases_of(parts), kept)
 }
 
-/// Whether a recovery completes, at the second try if the first is refused memory, leaves nothing live, and the aliases are one of these
-/// rows.
+/// Whether a recovery completes, leaves nothing live, and the aliases are one of these rows.
 pub fn recovers(alloc: Global, parts: Parts, kept: &[[u16; 3]]) -> bool {
-    let Some((left, fault)) = recovered_at_last(alloc, parts) else {
+    let Some((left, fault)) = recovery(alloc, parts) else {
         return false;
     };
     let is_found = is_found(&left, kept);

@@ -91,19 +91,10 @@ pub fn is_memory(fault: OpenFault) -> bool {
 }
 
 /// The parts of a line after a recovery, and its fault. None if a part is missing.
-fn recovery(alloc: Global, parts: Parts) -> Option<(Parts, Option<OpenFault>)> {
+pub fn recovery(alloc: Global, parts: Parts) -> Option<(Parts, Option<OpenFault>)> {
     let site = site_of(alloc, parts, &Trouble::Nothing)?;
     let (site, came) = recovered(alloc, site);
     Some((site.into_parts(), came.err()))
-}
-
-/// The parts of a line after a recovery, and its fault, at the second try if the first is refused memory. None if a part is missing.
-pub fn recovered_at_last(alloc: Global, parts: Parts) -> Option<(Parts, Option<OpenFault>)> {
-    let (left, fault) = recovery(alloc, parts)?;
-    match fault {
-        Some(fault) if is_memory(fault) => recovery(alloc, left),
-        _ => Some((left, fault)),
-    }
 }
 
 fn alias_of(halves: &[Option<RomHalf>], slave: usize) -> u16 {

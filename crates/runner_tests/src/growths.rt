@@ -1,17 +1,12 @@
-//! Refused memory: an allocation that is refused loses nothing, wherever it is. The gate runs this with memory; `rt try --test
-//! --fail-alloc N` refuses the Nth allocation. Then one call answers that memory was refused, or with the disk's fault if the disk
-//! needed it, and does the same as ever when it is made again.
+//! Refused memory: a growth that is refused loses nothing, wherever it is. The gate refuses none; `tools/refuse_each` refuses each. Then one call
+//! answers that memory was refused, or with the disk's fault if the disk needed it, and does the same as ever when it is made again.
 
 use book_model::Fault;
-use esc_rom::RomFault;
-use jrn_format::JournalFault;
 use runner_cases::asks::Ask;
 use runner_cases::line::{THREE, parts_of};
 use runner_cases::runs::{ASKS, End, SERVED, Way, end_of, is_found, kept_by, recovers};
-use runner_cases::sites::{Trouble, aliases_of, off, open, recovered, site_of};
+use runner_cases::sites::{Trouble, aliases_of, is_memory, off, open, recovered, site_of};
 use runner_cases::stations::{fault_of, serve, status_of, submit};
-use site_core::DeviceFault;
-use site_journal::ReadFault;
 use site_mem::{MemSite, Parts};
 use station_alone::{Alone, Answer, Choice, OpenFault};
 use std::alloc::Global;
@@ -23,18 +18,6 @@ enum Work {
     Serve,
     /// Their batch is appended, and the station is dropped.
     Append,
-}
-
-/// Whether a station wasn't opened because it or the disk was refused memory.
-fn is_memory(fault: OpenFault) -> bool {
-    matches!(
-        fault,
-        OpenFault::Memory
-            | OpenFault::Slave(RomFault::Memory)
-            | OpenFault::Journal(
-                ReadFault::Journal(JournalFault::Memory) | ReadFault::Device(DeviceFault::Disk),
-            )
-    )
 }
 
 /// Opens a station, at the second try if the first is refused memory.

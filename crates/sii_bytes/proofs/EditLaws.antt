@@ -1,5 +1,5 @@
 -- A line of one device.
-use Rattle.std.proofs.Common.{◌≡◌, ◌⊎◌, ℕ, ◌*◌, List, [], ◌∷◌, length, Result, Ok, Err, refl, sym, ap, subst, ◌∙◌, inl, inr, arith}
+use Rattle.std.proofs.Common.{◌≡◌, ℕ, ◌*◌, List, [], ◌∷◌, length, Ok, Err, refl, ap, subst, ◌∙◌, inl, inr, arith}
 use Rattle.sii_words.specs.Words.{bytes_of}
 use Rattle.sii_words.specs.Plant.{words_of}
 use Rattle.sii_words.specs.Redo.{redone, SameShape}

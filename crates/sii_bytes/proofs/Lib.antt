@@ -6,3 +6,4 @@ pub mod EditRefusals
 pub mod LineRead
 pub mod LineWritten
 pub mod LinePlaced
+pub mod ContentItems

@@ -1,5 +1,5 @@
 -- The process image of a line that was read.
-use Rattle.std.proofs.Common.{◌≡◌, ◌⊎◌, ℕ, ◌<◌, List, length, map, Some, None, Result, Ok, Err, refl, sym, ap, subst, ◌∙◌, inl, inr}
+use Rattle.std.proofs.Common.{◌≡◌, ℕ, ◌<◌, List, length, Some, None, Ok, Err, refl, sym, ap, ◌∙◌, inl, inr}
 use Rattle.sii_image.specs.ProcessImage.{ProcessImageParts, process_image}
 use Rattle.sii_bytes.specs.declared.line.ImageSizes.{ImageSizes}
 use Rattle.sii_bytes.specs.declared.line.PlacedSegment.{PlacedSegment}
@@ -16,7 +16,7 @@ module _ (lengths bytes : List ℕ) (old new : List PlacedSegment) (sizes : Imag
     line-over none same = over_limit refl read.0 read.1.0 (sym (ap process_image read.1.1) ∙ none) same
 
     module _ (image : ProcessImageParts) (has : process_image plant ≡ Some image) where
-      pub line-spaceless : length old < length image.segments → Unchanged → PlacesLine lengths bytes old 113 new sizes Unchanged
+      pub line-spaceless : length old < length image.segments → Unchanged → PlacesLine lengths bytes old 213 new sizes Unchanged
       line-spaceless few same = no_space image refl read.0 read.1.0 (sym (ap process_image read.1.1) ∙ has) few same
 
       pub line-done : Writes image old new sizes → PlacesLine lengths bytes old 0 new sizes Unchanged

@@ -1,5 +1,5 @@
 -- One edit of a device.
-use Rattle.std.specs.Prelude.{◌≡◌, ◌⊎◌, ℕ, ◌%◌, List, [], ◌∷◌, length, Ok, Err}
+use Rattle.std.specs.Prelude.{◌≡◌, ℕ, ◌%◌, List, [], ◌∷◌, length, Ok, Err}
 use Rattle.sii_words.specs.Words.{IsImageSize, bytes_of}
 use Rattle.sii_edit.specs.declared.command.Command.TheVariants.{One}
 use Rattle.sii_edit.specs.declared.command.Edit.{Edit}

@@ -5,3 +5,4 @@ pub mod Judging
 pub mod Category
 pub mod Editing
 pub mod Line
+pub mod Content

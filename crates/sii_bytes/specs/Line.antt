@@ -28,10 +28,10 @@ abbrev pub ReadsEach : List (List ℕ) → Result (List (List ℕ)) ℕ → Type
 ReadsEach pieces (Ok plant) = All (AreWords IsDeviceSize) pieces × (plant ≡ map words_in pieces)
 ReadsEach pieces (Err code) = FirstRefused pieces code
 
--- The line is read; or 112: there are no such slaves.
+-- The line is read; or 212: there are no such slaves.
 abbrev pub ReadsLine : (lengths bytes : List ℕ) → Result (List (List ℕ)) ℕ → Type 0
 ReadsLine lengths bytes (Ok plant) = IsLine lengths bytes × ReadsEach (pieces lengths bytes) (Ok plant)
-ReadsLine lengths bytes (Err code) = ((code ≡ 112) × ¬ IsLine lengths bytes)
+ReadsLine lengths bytes (Err code) = ((code ≡ 212) × ¬ IsLine lengths bytes)
     ⊎ (IsLine lengths bytes × ReadsEach (pieces lengths bytes) (Err code))
 
 -- a segment with all its values as numbers
@@ -59,19 +59,19 @@ pub record Writes (image : ProcessImageParts) (old new : List PlacedSegment) (si
   pub segments : new ≡ map placed_segment image.segments ++ drop (length image.segments) old
   pub sizes_are : IsSizes image sizes
 
--- What placing a line answers: 0, this is its process image; 112, there are no such slaves; the code of the first slave that can't be read;
--- 19, it has no process image; 113, there is no room for its segments; or 20, memory was refused. With another code than 0 nothing is
+-- What placing a line answers: 0, this is its process image; 212, there are no such slaves; the code of the first slave that can't be read;
+-- 19, it has no process image; 213, there is no room for its segments; or 20, memory was refused. With another code than 0 nothing is
 -- changed.
 pub data PlacesLine (lengths bytes : List ℕ) (old : List PlacedSegment) (code : ℕ) (new : List PlacedSegment) (sizes : ImageSizes)
     (Unchanged : Type 0) : Type 0 where
   done : (image : ProcessImageParts) → code ≡ 0 → IsLine lengths bytes → All (AreWords IsDeviceSize) (pieces lengths bytes)
       → process_image (map words_in (pieces lengths bytes)) ≡ Some image → Writes image old new sizes
       → PlacesLine lengths bytes old code new sizes Unchanged
-  no_line : code ≡ 112 → ¬ IsLine lengths bytes → Unchanged → PlacesLine lengths bytes old code new sizes Unchanged
+  no_line : code ≡ 212 → ¬ IsLine lengths bytes → Unchanged → PlacesLine lengths bytes old code new sizes Unchanged
   refused : IsLine lengths bytes → FirstRefused (pieces lengths bytes) code → Unchanged → PlacesLine lengths bytes old code new sizes Unchanged
   over_limit : code ≡ 19 → IsLine lengths bytes → All (AreWords IsDeviceSize) (pieces lengths bytes)
       → process_image (map words_in (pieces lengths bytes)) ≡ None → Unchanged → PlacesLine lengths bytes old code new sizes Unchanged
-  no_space : (image : ProcessImageParts) → code ≡ 113 → IsLine lengths bytes → All (AreWords IsDeviceSize) (pieces lengths bytes)
+  no_space : (image : ProcessImageParts) → code ≡ 213 → IsLine lengths bytes → All (AreWords IsDeviceSize) (pieces lengths bytes)
       → process_image (map words_in (pieces lengths bytes)) ≡ Some image → length old < length image.segments → Unchanged
       → PlacesLine lengths bytes old code new sizes Unchanged
   memory : code ≡ 20 → Unchanged → PlacesLine lengths bytes old code new sizes Unchanged

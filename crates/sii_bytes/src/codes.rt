@@ -28,10 +28,13 @@ pub const OVER_LIMIT: u32 = 19;
 pub const MEMORY: u32 = 20;
 
 /// There are no such slaves: none, or more than 64, or their lengths don't make up the bytes.
-pub const BAD_LINE: u32 = 112;
+pub const BAD_LINE: u32 = 212;
 
-/// There is no room for the segments.
-pub const NO_SPACE: u32 = 113;
+/// There is no room for the answer.
+pub const NO_SPACE: u32 = 213;
+
+/// The content has no item of this number.
+pub const NO_SUCH_ITEM: u32 = 214;
 
 /// The code of bytes that can't be read as words.
 pub fn words_code(fault: WordsFault) -> u32

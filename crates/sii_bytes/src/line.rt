@@ -145,9 +145,9 @@ fn sizes_of(image: &ProcessImage) -> ImageSizes
 /// the other in the order of the line, and `lengths` how many bytes each has.
 ///
 /// Answers 0; then the segments are in the first places of `segments`, outputs first, and the others stay. Or the first code that
-/// applies, and nothing is changed: 112 if there isn't a slave, or there are more than 64, or the lengths don't make up the bytes; 1 or 2
+/// applies, and nothing is changed: 212 if there isn't a slave, or there are more than 64, or the lengths don't make up the bytes; 1 or 2
 /// for the first slave whose number of bytes is odd, or that hasn't 64 to 4,096 words, a multiple of 64; 19 if the process image would
-/// have more than 1,486 bytes, or a slave more than 8 segments; 113 if `segments` is too short for them (8 for each slave always do).
+/// have more than 1,486 bytes, or a slave more than 8 segments; 213 if `segments` is too short for them (8 for each slave always do).
 /// Or 20 in place of any answer if memory was refused.
 pub fn place_line(
     alloc: Global,

@@ -1,20 +1,36 @@
-//! The program `sii_station`: passes its arguments and streams to the library, and exits with the status that the library returns.
+//! The program `sii_station`: passes its arguments and streams to the library, and exits with the status that the library returns. With `--wire`
+//! before all others its standard input and output are a wire; the launcher `sii_wire` calls it so.
 #![tactic(auto)]
 
+use station_serve::wire::{
+    Arguments, Connection, Screen, read_arguments, refuse_text, serve_on_wire,
+};
 use station_serve::{Streams, refuse_words, serve};
 use std::fs::{File, Files};
-use std::io::{BufWriter, Input, IsTerminal, Print, Write};
+use std::io::{BufWriter, Input, IsTerminal, Print, Read, Write};
 use std::process::ExitCode;
 use std::rt::Clock;
 use std::sync::Wait;
 use std::thread::Threads;
+use std::time::SystemTime;
 use std::{env, io};
-use system_files::{FileStore, hold_streams};
+use system_files::{FileStore, Text, hold_streams};
+use wire_frames::EthernetWire;
 
 fn main(rt: HostRuntime) -> ExitCode {
     let status = match hold_streams(&rt) {
         Ok(_held) => match words(&rt) {
-            Ok(words) => serve_words(&rt, &words, &mut rt.stderr()),
+            Ok(words) => {
+                if is_on_wire(&words) {
+                    let connection = Connection {
+                        wire: EthernetWire::new(rt.stdin(), rt.stdout()),
+                        number: first_number(&rt),
+                    };
+                    serve_wire(&rt, &words, connection, &mut rt.stderr())
+                } else {
+                    serve_files(&rt, &words, &mut rt.stderr())
+                }
+            }
             Err(error) => refuse_words(&error, &mut rt.stderr()),
         },
         Err(error) => refuse_words(&error, &mut rt.stderr()),
@@ -28,8 +44,13 @@ fn words(rt: &HostRuntime) -> io::Result<Vec<String>> {
     Ok(words)
 }
 
-/// Carries out the arguments, with the output buffered.
-fn serve_words<
+/// Whether the arguments begin with `--wire`.
+fn is_on_wire(words: &[String]) -> bool {
+    words.get(1).is_some_and(|word| word.as_str() == "--wire")
+}
+
+/// Carries out the arguments on files, with the output buffered.
+fn serve_files<
     H: Files<File = File> + Input + Print + Wait + Threads + Clock + AllocGlobal + Sync,
     E: Write + IsTerminal + Copy + Send + Drop,
 >(rt: &H, words: &[String], faults: &mut E) -> u8 {
@@ -48,5 +69,57 @@ fn serve_words<
             serve(rt, words, &mut rt.reader(), &mut files, streams, terminal)
         }
         Err(error) => refuse_words(&error, faults),
+    }
+}
+
+/// Carries out the arguments over this connection. The text goes to the file that they name, or to the stream for faults.
+fn serve_wire<
+    H: Files<File = File> + Wait + Threads + Clock + AllocGlobal + Sync,
+    R: Read + Send + Drop,
+    W: Write + Send + Drop,
+    E: Write + IsTerminal + Copy + Send + Drop,
+>(rt: &H, words: &[String], connection: Connection<R, W>, faults: &mut E) -> u8 {
+    match read_arguments(rt.alloc(), words) {
+        Ok(arguments) => match Text::open(rt, arguments.text, *faults) {
+            Ok(mut text) => serve_task(rt, arguments, connection, &mut text, faults),
+            Err(error) => refuse_text(error, faults),
+        },
+        Err(unread) => unread.report(faults) as u8,
+    }
+}
+
+/// Carries out what the arguments ask for on a wire, with its text in this stream.
+fn serve_task<
+    H: Files<File = File> + Wait + Threads + Clock + AllocGlobal + Sync,
+    R: Read + Send + Drop,
+    W: Write + Send + Drop,
+    O: Write,
+    E: Write + IsTerminal + Copy + Send + Drop,
+>(
+    rt: &H,
+    arguments: Arguments<'_>,
+    connection: Connection<R, W>,
+    text: &mut O,
+    faults: &mut E,
+) -> u8 {
+    let mut files = FileStore::new(rt.alloc(), rt);
+    let is_terminal = faults.is_terminal();
+    let terminal = if is_terminal { Some(*faults) } else { None };
+    let screen = Screen {
+        faults,
+        is_told: arguments.is_verbose || is_terminal,
+        terminal,
+    };
+    serve_on_wire(rt, arguments, screen, connection, &mut files, text) as u8
+}
+
+/// The nanoseconds of the time, which no earlier program on this wire has likely numbered its frames from.
+fn first_number(rt: &HostRuntime) -> u32 {
+    match SystemTime::now(rt) {
+        Ok(now) => match now.duration_since(SystemTime::UNIX_EPOCH) {
+            Ok(since) => since.subsec_nanos(),
+            Err(_) => 0,
+        },
+        Err(_) => 0,
     }
 }

@@ -19,7 +19,7 @@ use Rattle.site_core.proofs.StopImages.{StopImage-synced}
 use Rattle.site_shadow.specs.declared.device.Passing.{Passing}
 use Rattle.site_shadow.specs.declared.device.Passing.TheVariants.{Passes}
 use Rattle.site_shadow.specs.Following as shadow
-use Rattle.site_shadow.specs.Following.{Extends, KeepsContents, GoesOn, LeftTowards, begin_of, state_at}
+use Rattle.site_shadow.specs.Following.{Extends, KeepsContents, GoesOn, IsTold, LeftTowards, begin_of, state_at}
 use Rattle.site_shadow.proofs.Keeping.{Extends-by}
 use Rattle.site_shadow.proofs.Towards.{last_left, Extends-now, Extends-towards, Extends-clock}
 use Rattle.site_file.specs.declared.asking.LineFile.{LineFile}
@@ -358,6 +358,13 @@ write_held state at bytes Journal mid file holds becomes =
     })
 write_held state at bytes (Image slave) mid file holds becomes = subst (λ (f : File). HoldsWords state.halves slave f) (sym becomes) holds
 
+-- a call that was passed has not failed
+told_well : (count : ℕ) (passing : Passing) (given : Result (Unit {0}) DeviceFault) → IsTold count passing given → passing ≡ Passes
+    → IsErrOf given faults.Disk → ⊥
+told_well count passing (Ok done) told passed failed = absurd cc
+told_well count passing (Err fault) told passed failed =
+    absurd (let well : Err fault ≡ Ok tt = subst (λ (p : Passing). IsTold count p (Err fault)) passed told in cc)
+
 -- the state after a write that was passed, where the site goes on
 write_done : (old new : Seen) (at : ℕ) (bytes : List ℕ) (given : Result (Unit {0}) DeviceFault) → WritesDisk old at bytes given new
     → (IsErrOf given faults.Disk → ⊥) → ¬ IsTrue new.is_stopped
@@ -404,13 +411,13 @@ module _ {F : Type 0} (since : ℕ) (owned : LineFile → Bool) (begun : LineFil
 
   pub write_step : (old new : Seen) (d later : FileDevice F) (at : ℕ) (bytes : List ℕ) (passing : Passing) (given : Result (Unit {0}) DeviceFault)
       → at ≤ length old.state.disk.bytes → old.is_stopped ≡ false → WritesDisk old at bytes given new
-      → (passing ≡ Passes → IsErrOf given faults.Disk → ⊥) → device.CallsJournal (writes at bytes) d passing later
+      → IsTold old.faults passing given → device.CallsJournal (writes at bytes) d passing later
       → FilesFollow since owned begun d old → FilesFollow since owned begun later new
   write_step old new d later at bytes passing given inside running wrote passes (device.over failed stops same) follows =
       over since owned begun old new d later (ap (λ (x : FileDevice F). x.asking.calls) same)
       (subst (λ (x : FileDevice F). IsTrue x.has_failed) (sym same) refl) (Extends-by old new wrote.middle given wrote.call) follows
   write_step old new d later at bytes passing given inside running wrote passes (device.passes going asks passed going_on) follows =
-      write_asked old new d later at bytes given true inside running wrote going (λ done. passes passed) (λ e. absurd cc) asks follows
+      write_asked old new d later at bytes given true inside running wrote going (λ done. told_well old.faults passing given passes passed) (λ e. absurd cc) asks follows
   write_step old new d later at bytes passing given inside running wrote passes (device.fails going asks fails failed) follows =
       write_asked old new d later at bytes given false inside running wrote going (λ e. absurd cc) (λ e. failed) asks follows
 
@@ -471,12 +478,12 @@ module _ {F : Type 0} (since : ℕ) (owned : LineFile → Bool) (begun : LineFil
 
   pub sync_step : (old new : Seen) (d later : FileDevice F) (passing : Passing) (given : Result (Unit {0}) DeviceFault)
       → old.is_stopped ≡ false → SyncsDisk old given new
-      → (passing ≡ Passes → IsErrOf given faults.Disk → ⊥) → device.CallsJournal syncs d passing later
+      → IsTold old.faults passing given → device.CallsJournal syncs d passing later
       → FilesFollow since owned begun d old → FilesFollow since owned begun later new
   sync_step old new d later passing given running syncs_it passes (device.over failed stops same) follows =
       over since owned begun old new d later (ap (λ (x : FileDevice F). x.asking.calls) same)
       (subst (λ (x : FileDevice F). IsTrue x.has_failed) (sym same) refl) (Extends-by old new [] given syncs_it.call) follows
   sync_step old new d later passing given running syncs_it passes (device.passes going asks passed going_on) follows =
-      sync_asked old new d later given true running syncs_it going (λ done. passes passed) (λ e. absurd cc) asks follows
+      sync_asked old new d later given true running syncs_it going (λ done. told_well old.faults passing given passes passed) (λ e. absurd cc) asks follows
   sync_step old new d later passing given running syncs_it passes (device.fails going asks fails failed) follows =
       sync_asked old new d later given false running syncs_it going (λ e. absurd cc) (λ e. failed) asks follows

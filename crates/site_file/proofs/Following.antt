@@ -1,5 +1,5 @@
 -- A device of files follows the site through each call.
-use Rattle.std.proofs.Common.{◌≡◌, ◌↔◌, ℕ, Bool, true, false, not, ◌||◌, List, [], Option, IsTrue, refl, sym, ap, subst, ◌∙◌}
+use Rattle.std.proofs.Common.{◌≡◌, ◌↔◌, ℕ, Bool, true, false, not, ◌||◌, List, [], Option, Some, None, IsTrue, refl, sym, ap, subst, ◌∙◌}
 use Rattle.esc_model.specs.declared.rest.WordWrite.{WordWrite}
 use Rattle.esc_model.specs.SlaveHalf.{SlaveHalf, in_flight}
 use Rattle.esc_model.specs.Datagrams.{served_datagram}
@@ -10,14 +10,17 @@ use Rattle.site_core.specs.State.{Seen}
 use Rattle.site_shadow.specs.declared.device.Passing.{Passing}
 use Rattle.site_shadow.specs.declared.device.Resting.{Resting}
 use Rattle.site_shadow.specs.Following as shadow
-use Rattle.site_shadow.specs.Following.{GoesOn, Keeps, WriteKeeps, SyncKeeps, RestKeeps}
+use Rattle.site_shadow.specs.Following.{GoesOn, Keeps, AskKeeps, WriteKeeps, SyncKeeps, ExchangeKeeps, RestKeeps, TakenKeeps}
+use Rattle.site_shadow.specs.declared.device.Passing.TheVariants.{Passes}
+use Rattle.site_shadow.specs.declared.pattern.Pattern.{Pattern}
+use Rattle.site_shadow.proofs.Asked.{ask_keeps, exchange_keeps, taken_keeps}
 use Rattle.site_file.specs.declared.files.FileDevice.{FileDevice}
 use Rattle.site_file.specs.Calls.{Call, tells_length, writes, syncs}
 use Rattle.site_file.specs.Asking.{HasLog}
 use Rattle.site_file.specs.Device as device
 use Rattle.site_file.specs.Device.{CallsJournal, AsksLength, ReadsJournal, Rests}
 use Rattle.site_file.specs.Following as following
-use Rattle.site_file.specs.Following.{ChangesNoFile, FitsWords, Step, Follows, one_step}
+use Rattle.site_file.specs.Following.{ChangesNoFile, FitsWords, Step, Follows, one_step, stays_so}
 
 GoesOn-same : (seen : Seen) → GoesOn seen seen
 GoesOn-same seen = record {
@@ -80,14 +83,35 @@ module _ {F : Type 0} where
   quiet_keeps before after quiet same seen follows =
       one_more seen seen before after (following.goes_on (GoesOn-same seen) quiet) (λ refuses. refuses_on before after (same refuses.1) refuses) follows
 
-  pub same_keeps : (before after : FileDevice F) → after ≡ before → Keeps Follows before after
+  same_keeps : (before after : FileDevice F) → after ≡ before → Keeps Follows before after
   same_keeps before after same = quiet_keeps before after (following.unasked same) (λ failed. same)
 
-  pub length_keeps : (before after : FileDevice F) (result : Passing) → AsksLength before result after → Keeps Follows before after
-  length_keeps before after result asks = quiet_keeps before after (following.asks_length result asks) (λ failed. same_length before after result failed asks)
+  stays : (device : FileDevice F) (old new : Seen) → GoesOn old new → (¬ IsTrue new.is_stopped → new.state.halves ≡ old.state.halves)
+      → Follows device old → Follows device new
+  stays device old new goes halves follows = stays_so device old new goes follows
 
-  pub read_keeps : (before after : FileDevice F) (result : Passing) → ReadsJournal before result after → Keeps Follows before after
-  read_keeps before after result asks = quiet_keeps before after (following.reads_bytes result asks) (λ failed. same_read before after result failed asks)
+  -- calls in which it does nothing
+  pub same_asks : (before after : FileDevice F) (result : Passing) → after ≡ before → AskKeeps Follows before result after
+  same_asks before after result same = ask_keeps Follows stays before after (same_keeps before after same) result
+
+  pub same_passes : (before after : FileDevice F) → after ≡ before → ExchangeKeeps Follows before Passes after
+  same_passes before after same = exchange_keeps Follows stays before after (same_keeps before after same) Passes
+
+  pub same_goes_on : (before after : FileDevice F) → after ≡ before → TakenKeeps Follows before None after
+  same_goes_on before after same = same_keeps before after same
+
+  pub same_stops : (before after : FileDevice F) (pattern : Pattern) → after ≡ before → TakenKeeps Follows before (Some pattern) after
+  same_stops before after pattern same = taken_keeps Follows stays before after (same_keeps before after same) (Some pattern)
+
+  pub length_asks : (before after : FileDevice F) (result : Passing) → AsksLength before result after → AskKeeps Follows before result after
+  length_asks before after result asks =
+      ask_keeps Follows stays before after
+      (quiet_keeps before after (following.asks_length result asks) (λ failed. same_length before after result failed asks)) result
+
+  pub read_asks : (before after : FileDevice F) (result : Passing) → ReadsJournal before result after → AskKeeps Follows before result after
+  read_asks before after result asks =
+      ask_keeps Follows stays before after
+      (quiet_keeps before after (following.reads_bytes result asks) (λ failed. same_read before after result failed asks)) result
 
   pub write_keeps : (at : ℕ) (bytes : List ℕ) (before after : FileDevice F) (result : Passing) → CallsJournal (writes at bytes) before result after
       → WriteKeeps Follows at bytes before result after

@@ -43,14 +43,13 @@ is_flying : (half : SlaveHalf) (write : WordWrite) → in_flight half.activity �
     → IsFlying half write
 is_flying half write flying fits = record { flying = flying; inside = fits.0; short = fits.1 }
 
-ends_words : (activity : Activity) (half rested : SlaveHalf) → in_flight activity ≡ None → Ends activity rests.Well half rested → rested.words ≡ half.words
+ends_words : (activity : Activity) (half rested : SlaveHalf) → in_flight activity ≡ None → Ends activity rests.Well false half rested
+    → rested.words ≡ half.words
 ends_words Idle half rested none same = ap (λ (h : SlaveHalf). h.words) same
-ends_words Reading half rested none (inl same) = ap (λ (h : SlaveHalf). h.words) same
-ends_words Reading half rested none (inr (inl well)) = ap (λ (h : SlaveHalf). h.words) well
-ends_words Reading half rested none (inr (inr fails)) = ap (λ (h : SlaveHalf). h.words) fails.rested_is
+ends_words Reading half rested none ended = ap (λ (h : SlaveHalf). h.words) ended
 ends_words (Writing word value) half rested none ends = absurd cc
 
-written_words : (activity : Activity) (half rested : SlaveHalf) (write : WordWrite) → in_flight activity ≡ Some write → Ends activity rests.Well half rested
+written_words : (activity : Activity) (half rested : SlaveHalf) (write : WordWrite) → in_flight activity ≡ Some write → Ends activity rests.Well false half rested
     → rested.words ≡ slice_set half.words write.word write.value
 written_words Idle half rested write flying ends = absurd cc
 written_words Reading half rested write flying ends = absurd cc
@@ -192,7 +191,7 @@ module _ {F : Type 0} (since : ℕ) (owned : LineFile → Bool) (begun : LineFil
       → device.Rests slave (in_flight half.activity) d resting after
       → FilesFollow since owned begun d old → FilesFollow since owned begun after new
   rest_step old new d after slave half rested later resting running here said words is extends fits (device.idle none well same) follows =
-      let said_well : Ends half.activity rests.Well half rested = subst (λ (r : Resting). RestsAs r half rested) well said in
+      let said_well : Ends half.activity rests.Well false half rested = subst (λ (r : Resting). RestsAs r half rested) well said in
       let kept : later.words ≡ half.words = words ∙ ends_words half.activity half rested none said_well in
       subst (λ (x : FileDevice F). FilesFollow since owned begun x new) (sym same)
       (goes_on since owned begun old new d (record { extends = extends; kept = λ going. kept_by old.state new.state slave half later here kept is }) follows)
@@ -203,7 +202,7 @@ module _ {F : Type 0} (since : ℕ) (owned : LineFile → Bool) (begun : LineFil
       over since owned begun old new d after (ap (λ (x : FileDevice F). x.asking.calls) same)
       (subst (λ (x : FileDevice F). IsTrue x.has_failed) (sym same) refl) extends follows
   rest_step old new d after slave half rested later resting running here said words is extends fits (device.writes write flying going wrote well going_on) follows =
-      let said_well : Ends half.activity rests.Well half rested = subst (λ (r : Resting). RestsAs r half rested) well said in
+      let said_well : Ends half.activity rests.Well false half rested = subst (λ (r : Resting). RestsAs r half rested) well said in
       let words_are : later.words ≡ slice_set half.words write.word write.value = words ∙ written_words half.activity half rested write flying said_well in
       word_asked old new d after slave half later write true wrote.calls running here (is_flying half write flying (fits write flying)) (λ done. words_are) (λ e. absurd cc) is extends
       going wrote.asks wrote.are follows

@@ -28,12 +28,12 @@ FitsWords half = (write : WordWrite) → in_flight half.activity ≡ Some write 
 pub data Step {F : Type 0} (old : Seen) (before : FileDevice F) (new : Seen) (after : FileDevice F) : Type 0 where
   -- a call that changes nothing, a write whose range is unsynced and that wasn't begun for want of memory, or a stop
   goes_on : GoesOn old new → ChangesNoFile before after → Step old before new after
-  -- a write; where the device passes it, the site has done it, or stops
+  -- a write; where the device passes it, the site has done it
   write : (at : ℕ) (bytes : List ℕ) (passing : Passing) (given : Result (Unit {0}) DeviceFault) → old.is_stopped ≡ false
-      → at ≤ length old.state.disk.bytes → WritesDisk old at bytes given new → IsTold passing given
+      → at ≤ length old.state.disk.bytes → WritesDisk old at bytes given new → IsTold old.faults passing given
       → CallsJournal (writes at bytes) before passing after → Step old before new after
-  -- a sync; where the device passes it, the site has done it, or stops
-  sync : (passing : Passing) (given : Result (Unit {0}) DeviceFault) → old.is_stopped ≡ false → SyncsDisk old given new → IsTold passing given
+  -- a sync; where the device passes it, the site has done it
+  sync : (passing : Passing) (given : Result (Unit {0}) DeviceFault) → old.is_stopped ≡ false → SyncsDisk old given new → IsTold old.faults passing given
       → CallsJournal syncs before passing after → Step old before new after
   -- a half becomes idle as the device says, before it takes a datagram
   rest : (slave : ℕ) (half rested later : SlaveHalf) (resting : Resting) → old.is_stopped ≡ false
@@ -70,7 +70,11 @@ one_step old new before after step so_far = record {
   run = more old new before after so_far.run step;
 }
 
+-- a step in which nothing changes that it holds
+pub stays_so : {F : Type 0} (device : FileDevice F) (old new : Seen) → GoesOn old new → Follows device old → Follows device new
+stays_so device old new goes (has_followed so_far) = has_followed (one_step old new device device (goes_on goes (unasked refl)) so_far)
+stays_so device old new goes (refuses unasked_yet failed) = refuses unasked_yet failed
+
 -- the law of the trait: a step in which the device isn't asked
 pub follows_on : {F : Type 0} (device : FileDevice F) (old new : Seen) → IsUnasked old new → Follows device old → Follows device new
-follows_on device old new is (has_followed so_far) = has_followed (one_step old new device device (goes_on is.goes (unasked refl)) so_far)
-follows_on device old new is (refuses unasked_yet failed) = refuses unasked_yet failed
+follows_on device old new is follows = stays_so device old new is.goes follows

@@ -324,7 +324,7 @@ impl<F: RandomAccessFile> FileDevice<F> {
 impl<F: RandomAccessFile> Device for FileDevice<F> {
     ghost use Rattle.std.specs.Prelude.{[], ◌↔◌, ◌||◌, not};
     ghost use Rattle.site_core.specs.State.{Seen};
-    ghost use Rattle.site_shadow.specs.Following.{Keeps, WriteKeeps, SyncKeeps, RestKeeps};
+    ghost use Rattle.site_shadow.specs.Following.{AskKeeps, WriteKeeps, SyncKeeps, ExchangeKeeps, RestKeeps, TakenKeeps};
     ghost use Rattle.site_file.specs.Device.{CallsJournal, AsksLength, ReadsJournal, Rests};
     ghost use Rattle.site_file.specs.Following.{Follows};
 
@@ -348,7 +348,7 @@ impl<F: RandomAccessFile> Device for FileDevice<F> {
         ensures files { self.new.held ≡ self.old.held }
         ensures part { self.new.asking.part ≡ self.old.asking.part }
         ensures asks { AsksLength self.old result self.new }
-        ensures follows { Keeps Follows self.old self.new }
+        ensures follows { AskKeeps Follows self.old result self.new }
     {
         self.ask_length(length)
     }
@@ -357,7 +357,7 @@ impl<F: RandomAccessFile> Device for FileDevice<F> {
         ensures files { self.new.held ≡ self.old.held }
         ensures part { self.new.asking.part ≡ self.old.asking.part }
         ensures asks { ReadsJournal self.old result self.new }
-        ensures follows { Keeps Follows self.old self.new }
+        ensures follows { AskKeeps Follows self.old result self.new }
     {
         self.compare(at, held)
     }
@@ -380,11 +380,11 @@ impl<F: RandomAccessFile> Device for FileDevice<F> {
         self.sync_journal()
     }
 
-    #[tactic(auto, using(crate::proofs::Following::same_keeps))]
+    #[tactic(auto, using(crate::proofs::Following::same_passes))]
     fn exchange(&mut self, _slave: usize, _half: &RomHalf, _frame: &Frame) -> Passing
         ensures passes { result ≡ (if self.old.has_failed then Stops patterns.Old else Passes) }
         ensures same { self.new ≡ self.old }
-        ensures follows { Keeps Follows self.old self.new }
+        ensures follows { ExchangeKeeps Follows self.old result self.new }
     {
         if self.has_failed {
             return Passing::Stops(Pattern::Old);
@@ -403,7 +403,7 @@ impl<F: RandomAccessFile> Device for FileDevice<F> {
         self.rest_word(slave, half)
     }
 
-    #[tactic(auto, using(crate::proofs::Following::same_keeps))]
+    #[tactic(auto, using(crate::proofs::Following::same_goes_on))]
     fn taken(
         &mut self,
         _slave: usize,
@@ -414,7 +414,7 @@ impl<F: RandomAccessFile> Device for FileDevice<F> {
     ) -> Option<Pattern>
         ensures stops { result ≡ (if self.old.has_failed then Some patterns.Old else None) }
         ensures same { self.new ≡ self.old }
-        ensures follows { Keeps Follows self.old self.new }
+        ensures follows { TakenKeeps Follows self.old result self.new }
     {
         if self.has_failed {
             return Some(Pattern::Old);
@@ -422,11 +422,10 @@ impl<F: RandomAccessFile> Device for FileDevice<F> {
         None
     }
 
-    #[tactic(auto, using(crate::proofs::Following::same_keeps))]
     fn cycle(&mut self, _frame: &Frame) -> Passing
         ensures passes { result ≡ (if self.old.has_failed then Stops patterns.Old else Passes) }
         ensures same { self.new ≡ self.old }
-        ensures follows { Keeps Follows self.old self.new }
+        ensures follows { AskKeeps Follows self.old result self.new }
     {
         if self.has_failed {
             return Passing::Stops(Pattern::Old);

@@ -21,9 +21,9 @@ has_header file sizes found is =
 
 -- the bytes weren't read
 unread : {T : Type 0} (bytes_of : T → List ℕ) (sizes : List ℕ) (a b : Seen) (fault : ReadFault) → ReadsAll {T = T} bytes_of a (Err fault) b → ReadsJournal sizes a (Err fault) b
-unread bytes_of sizes a b (read.Device fault) reads = record { syncs = record { runs = reads.syncs.runs; first = reads.syncs.first }; finds = tt }
+unread bytes_of sizes a b (read.Device fault) reads = record { syncs = record { runs = reads.syncs.runs; no_exchange = reads.syncs.no_exchange; first = reads.syncs.first }; finds = tt }
 unread bytes_of sizes a b (read.Journal fault) reads = record {
-  syncs = record { runs = reads.syncs.runs; first = reads.syncs.first };
+  syncs = record { runs = reads.syncs.runs; no_exchange = reads.syncs.no_exchange; first = reads.syncs.first };
   finds = subst (λ (f : JournalFault). IsFaultOf a.state.disk.bytes sizes f) (sym reads.gives) tt;
 }
 
@@ -37,7 +37,7 @@ pub journal_refused : {T : Type 0} (bytes_of : T → List ℕ) (sizes : List ℕ
     → result ≡ Err (read.Journal fault) → file ≡ bytes_of value → ReadsAll bytes_of a (Ok value) b → IsFaultOf file sizes fault → ReadsJournal sizes a result b
 journal_refused bytes_of sizes a b value file fault result is same reads refused =
     subst (λ (r : Result (ℕ × Journal) ReadFault). ReadsJournal sizes a r b) (sym is) (record {
-      syncs = record { runs = reads.syncs.runs; first = reads.syncs.first };
+      syncs = record { runs = reads.syncs.runs; no_exchange = reads.syncs.no_exchange; first = reads.syncs.first };
       finds = subst (λ (l : List ℕ). IsFaultOf l sizes fault) (same ∙ reads.gives) refused;
     })
 
@@ -46,6 +46,6 @@ pub journal_read : {T : Type 0} (bytes_of : T → List ℕ) (sizes : List ℕ) (
     → file ≡ bytes_of value → again ≡ bytes_of value → ReadsAll bytes_of a (Ok value) b → IsJournal file sizes found → capacity ≡ field_at w32 4 again
     → ReadsJournal sizes a (Ok (capacity, found)) b
 journal_read bytes_of sizes a b value file again capacity found same same_again reads is says = record {
-  syncs = record { runs = reads.syncs.runs; first = reads.syncs.first };
+  syncs = record { runs = reads.syncs.runs; no_exchange = reads.syncs.no_exchange; first = reads.syncs.first };
   finds = (subst (λ (l : List ℕ). IsJournal l sizes found) (same ∙ reads.gives) is, says ∙ ap (λ (l : List ℕ). field_at w32 4 l) (same_again ∙ reads.gives));
 }

@@ -1,5 +1,6 @@
 -- The disk is synced and read, and its bytes are read as a journal.
-use Rattle.std.specs.Prelude.{◌≡◌, ◌⊎◌, ℕ, List, Result, Ok, Err}
+use Rattle.std.specs.Prelude.{◌≡◌, ◌⊎◌, ℕ, List, [], ◌++◌, Result, Ok, Err}
+use Rattle.std.specs.List.{AllByRecursion}
 use Rattle.std.specs.Int.{w32}
 use Rattle.jrn_format.specs.declared.fault.JournalFault.TheVariants as journal
 use Rattle.jrn_format.specs.declared.journal.Journal.{Journal}
@@ -8,7 +9,7 @@ use Rattle.jrn_format.specs.Header.{field_at}
 use Rattle.jrn_format.specs.Journal.{IsJournal}
 use Rattle.site_core.specs.declared.fault.DeviceFault.{DeviceFault}
 use Rattle.site_core.specs.declared.fault.DeviceFault.TheVariants as faults
-use Rattle.site_core.specs.State.{State, Seen, Leaves}
+use Rattle.site_core.specs.State.{State, Moment, Seen, Leaves}
 use Rattle.site_journal.specs.declared.fault.ReadFault.{ReadFault}
 use Rattle.site_journal.specs.declared.fault.ReadFault.TheVariants as read
 use Rattle.world_law.specs.Happenings.{with_synced}
@@ -27,9 +28,17 @@ SyncsFirst old (Err faults.Disk) new = (new ≡ old) ⊎ (new ≡ with_synced ol
 SyncsFirst old (Err faults.Lost) new = ⊥
 SyncsFirst old (Err faults.Stopped) new = Unit {0}
 
--- At most three device calls were made, and at no moment could a stop leave anything that it couldn't leave before.
+-- No device call since has a state in its middle. A write has one, and an exchange one for each datagram that the slave took.
+pub record OnlyReadsAndSyncs (old new : Seen) : Type 0 where
+  pub calls : List Moment
+  pub past : new.past ≡ old.past ++ calls
+  pub bare : AllByRecursion (λ (moment : Moment). moment.middle ≡ []) calls
+
+-- At most three device calls were made, none of them a write or an exchange, and at no moment could a stop leave anything that it couldn't
+-- leave before.
 pub record Syncs {T : Type 0} (old : Seen) (result : Result T ReadFault) (new : Seen) : Type 0 where
   pub runs : MakesCalls (Leaves old.state) old 3 (device_answer result) new
+  pub no_exchange : OnlyReadsAndSyncs old new
   pub first : SyncsFirst old.state (device_answer result) new.state
 
 -- The value holds all bytes of the disk, as `bytes_of` reads them; or memory was refused for them.

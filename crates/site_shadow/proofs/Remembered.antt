@@ -1,5 +1,5 @@
 -- What is remembered of the writes to unsynced places.
-use Rattle.std.proofs.Common.{◌≡◌, ℕ, zero, suc, ◌+◌, ◌<◌, ◌≤◌, ◌⊎◌, List, [], ◌∷◌, ◌++◌, length, take, drop, None, Result, Ok, Err, OnOk, OnErr, slice_get, refl, sym, subst, ◌∙◌, inl, inr, arith, length-append, length-take, length-drop}
+use Rattle.std.proofs.Common.{◌≡◌, ℕ, zero, suc, ◌+◌, ◌<◌, ◌≤◌, ◌⊎◌, List, [], ◌∷◌, ◌++◌, length, take, drop, None, slice_get, refl, sym, subst, ◌∙◌, inl, inr, arith, length-append, length-take, length-drop}
 use Rattle.site_core.specs.Disk.{Disk, Range, IsOutside, StopImage, overlaid, write_begun}
 use Rattle.site_shadow.specs.Unsynced.{Covers, Remembers, MarksOnly, DiffersAtMarks}
 
@@ -17,17 +17,13 @@ behind_laid disk at place over within (inl below) inside = omega arith
 behind_laid disk at place over within (inr behind) inside =
     omega (arith, length-append (take at disk.bytes ++ over) (drop (at + length over) disk.bytes), length-append (take at disk.bytes) over, length-take at disk.bytes, length-drop (at + length over) disk.bytes)
 
--- bytes that were laid over an unsynced range, or weren't
-pub Remembers-laid : {E : Type 0} (before : List Range) (disk : Disk) (at : ℕ) (over new : List ℕ) (result : Result (Unit {0}) E) → at ≤ length disk.bytes
-    → Covers disk at (length over) → Remembers before disk → OnOk result (new ≡ overlaid disk.bytes at over) → OnErr result (new ≡ disk.bytes)
-    → Remembers before (record disk { bytes = new })
-Remembers-laid before disk at over new (Ok done) within covers keeps ok err = record {
+-- bytes that were laid over an unsynced range
+pub Remembers-laid : (before : List Range) (disk : Disk) (at : ℕ) (over new : List ℕ) → at ≤ length disk.bytes → Covers disk at (length over)
+    → Remembers before disk → new ≡ overlaid disk.bytes at over → Remembers before (record disk { bytes = new })
+Remembers-laid before disk at over new within covers keeps is = record {
   unmarked = keeps.unmarked;
-  behind = λ place synced inside. keeps.behind place synced (behind_laid disk at place over within (covers place synced) (subst (λ (b : List ℕ). place < length b) ok inside));
-}
-Remembers-laid before disk at over new (Err fault) within covers keeps ok err = record {
-  unmarked = keeps.unmarked;
-  behind = λ place synced inside. keeps.behind place synced (subst (λ (b : List ℕ). place < length b) err inside);
+  behind = λ place synced inside.
+      keeps.behind place synced (behind_laid disk at place over within (covers place synced) (subst (λ (b : List ℕ). place < length b) is inside));
 }
 
 -- A STOP

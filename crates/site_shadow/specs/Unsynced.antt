@@ -1,5 +1,6 @@
 -- What a disk in memory remembers of the writes since the last sync.
-use Rattle.std.specs.Prelude.{◌≡◌, ℕ, ◌<◌, List, [], length, slice_get}
+use Rattle.std.specs.Prelude.{◌≡◌, ℕ, ◌<◌, ◌≤◌, List, [], length, slice_get, vec_capacity, Option, MatchOption}
+use Rattle.std.specs.Global.{Vec}
 use Rattle.std.specs.List.{AllByRecursion}
 use Rattle.site_core.specs.Disk.{Disk, Range, IsOutside, IsSynced}
 
@@ -33,3 +34,13 @@ pub record DiffersWithin (range : Range) (old new : List ℕ) : Type 0 where
 pub record DiffersAtMarks (before : List Range) (old new : List ℕ) : Type 0 where
   pub long : length new ≡ length old
   pub same : (place : ℕ) → IsUnmarked before place → slice_get new place ≡ slice_get old place
+
+-- A copy of these bytes, with room for the others up to this end.
+pub record HasRoom (bytes : List ℕ) (end : ℕ) (held : Vec ℕ) : Type 0 where
+  pub same : held.items ≡ bytes
+  pub past : length bytes ≤ end
+  pub room : end ≤ vec_capacity held
+
+-- The memory for bytes that are to reach up to this end: none where they do already.
+abbrev pub IsRoomFor : List ℕ → ℕ → Option (Vec ℕ) → Type 0
+IsRoomFor bytes end room = MatchOption room (end ≤ length bytes) (HasRoom bytes end)

@@ -1,8 +1,8 @@
-ghost use Rattle.std.specs.Prelude.{◌≡◌, ℕ, ◌+◌, ◌<◌, ◌≤◌, ◌^◌, List, length, slice_get, OnOk, OnErr, IfOk, take};
+ghost use Rattle.std.specs.Prelude.{◌≡◌, ◌+◌, ◌<◌, ◌≤◌, ◌^◌, length, IfOk};
 ghost use Rattle.site_core.specs.Disk.{Disk, IsSynced, overlaid, write_begun, synced, DiskStopped, StopImage};
-ghost use Rattle.site_shadow.specs.Unsynced.{Covers, Remembers, of_bytes};
+ghost use Rattle.site_shadow.specs.Unsynced.{Covers, IsRoomFor, Remembers, of_bytes};
 
-use crate::marks::{Replaced, hold, lay_over, leave};
+use crate::marks::{Replaced, hold, lay_in, leave, room_for};
 use crate::pattern::Pattern;
 use sii_words::History;
 use std::alloc::{AllocError, Global};
@@ -76,37 +76,32 @@ impl MemDisk {
         bytes
     }
 
-    /// Begins a write of `count` bytes: its range is unsynced from now on. `at` must not lie past the disk's end, and
-    /// `count` must be below 2^63. Takes the memory for the whole write.
+    /// Begins a write of `count` bytes: its range is unsynced from now on. `at` must not lie past the disk's end, and `count` must be below
+    /// 2^63. Takes the memory for the whole write, and returns what `lay` needs of it.
     ///
     /// # Errors
     ///
     /// `AllocError` if the memory for the old bytes, or for those past the disk's end, is refused. The write has begun then too.
-    pub fn begin(&mut self, at: usize, count: usize) -> Result<(), AllocError>
+    pub fn begin(&mut self, at: usize, count: usize) -> Result<Option<Vec<u8>>, AllocError>
         requires inside { at ≤ length self.old.bytes }
         requires count { count < 2 ^ 63 }
-        ensures { self.new ≡ write_begun self.old at count }
+        ensures begun { self.new ≡ write_begun self.old at count }
+        ensures room { IfOk result (λ room. IsRoomFor self.old.bytes (at + count) room) }
     {
         self.unsynced.note(&Stretch { start: at, count });
         let held = hold(&mut self.before, &self.bytes, at, count);
-        let past_end = (at + count).saturating_sub(self.bytes.len());
-        let room = self.bytes.reserve(past_end);
-        held.and(room)
+        held.and(room_for(&self.bytes, at + count))
     }
 
-    /// Overwrites the bytes from `at` on, which must not lie past the disk's end. Their write must have begun. The disk grows if they reach
-    /// past its end.
-    ///
-    /// # Errors
-    ///
-    /// `AllocError` if memory is refused. The disk is unchanged then.
-    pub fn lay(&mut self, at: usize, over: &[u8]) -> Result<(), AllocError>
+    /// Overwrites the bytes from `at` on, which must not lie past the disk's end, in the room that `begin` has returned. The disk grows if
+    /// they reach past its end.
+    pub fn lay(&mut self, at: usize, over: &[u8], room: Option<Vec<u8>>)
         requires inside { at ≤ length self.old.bytes }
         requires begun { Covers self.old at (length over.now) }
-        ensures ok { OnOk result (self.new ≡ record self.old { bytes = overlaid self.old.bytes at over.now }) }
-        ensures err { OnErr result (self.new ≡ self.old) }
+        requires room { IsRoomFor self.old.bytes (at + length over.now) room }
+        ensures { self.new ≡ record self.old { bytes = overlaid self.old.bytes at over.now } }
     {
-        lay_over(&mut self.bytes, at, over)
+        lay_in(&mut self.bytes, at, over, room);
     }
 
     /// Syncs all bytes.

@@ -1,7 +1,7 @@
 // The bytes of a disk, and what the writes since the last sync replaced.
-ghost use Rattle.std.specs.Prelude.{◌≡◌, ℕ, ◌<◌, ◌≤◌, ◌^◌, length, OnOk, OnErr};
+ghost use Rattle.std.specs.Prelude.{◌≡◌, ℕ, ◌+◌, ◌<◌, ◌≤◌, ◌^◌, length, vec_capacity, IfOk, OnOk, OnErr};
 ghost use Rattle.site_core.specs.Disk.{Disk, StopImage, overlaid};
-ghost use Rattle.site_shadow.specs.Unsynced.{DiffersAtMarks, DiffersWithin, MarksOnly, Remembers};
+ghost use Rattle.site_shadow.specs.Unsynced.{DiffersAtMarks, DiffersWithin, IsRoomFor, MarksOnly, Remembers};
 
 use crate::pattern::Pattern;
 use std::alloc::AllocError;
@@ -50,6 +50,22 @@ pub(crate) fn hold(
     Ok(())
 }
 
+/// The memory that bytes need to reach up to `end`: where they don't yet, a copy of them with room for the others.
+///
+/// # Errors
+///
+/// `AllocError` if memory is refused.
+pub(crate) fn room_for(bytes: &Vec<u8>, end: usize) -> Result<Option<Vec<u8>>, AllocError>
+    ensures { IfOk result (λ room. IsRoomFor bytes.now.items end room) }
+{
+    if end <= bytes.len() {
+        return Ok(None);
+    }
+    let mut room = bytes.clone()?;
+    room.reserve(end - bytes.len())?;
+    Ok(Some(room))
+}
+
 /// Overwrites the bytes from `at` on with `over`. They grow if it reaches past their end.
 ///
 /// # Errors
@@ -58,6 +74,8 @@ pub(crate) fn hold(
 pub fn lay_over(bytes: &mut Vec<u8>, at: usize, over: &[u8]) -> Result<(), AllocError>
     ensures ok { OnOk result (bytes.new.items ≡ overlaid bytes.old.items at over.now) }
     ensures err { OnErr result (bytes.new.items ≡ bytes.old.items) }
+    ensures full { at ≤ length bytes.old.items → length bytes.old.items ≤ at + length over.now
+        → OnErr result (vec_capacity bytes.old < at + length over.now) }
 {
     let front = at.min(bytes.len());
     let inside = over.len().min(bytes.len() - front);
@@ -65,6 +83,32 @@ pub fn lay_over(bytes: &mut Vec<u8>, at: usize, over: &[u8]) -> Result<(), Alloc
     bytes.extend_from_slice(behind)?;
     bytes[front..front + inside].copy_from_slice(kept);
     Ok(())
+}
+
+/// Overwrites the bytes from `at` on with `over`, in this room.
+pub(crate) fn lay_in(bytes: &mut Vec<u8>, at: usize, over: &[u8], room: Option<Vec<u8>>)
+    requires inside { at ≤ length bytes.old.items }
+    requires room { IsRoomFor bytes.old.items (at + length over.now) room }
+    ensures { bytes.new.items ≡ overlaid bytes.old.items at over.now }
+{
+    match room {
+        None => bytes[at..at + over.len()].copy_from_slice(over),
+        Some(held) => *bytes = grown(held, at, over),
+    }
+}
+
+/// These bytes, overwritten from `at` on with `over`, for which there is room.
+fn grown(bytes: Vec<u8>, at: usize, over: &[u8]) -> Vec<u8>
+    requires inside { at ≤ length bytes.items }
+    requires past { length bytes.items ≤ at + length over.now }
+    requires room { at + length over.now ≤ vec_capacity bytes }
+    ensures { result.items ≡ overlaid bytes.items at over.now }
+{
+    let mut laid = bytes;
+    match lay_over(&mut laid, at, over) {
+        Ok(()) => laid,
+        Err(_) => unreachable!(),
+    }
 }
 
 /// Makes of the bytes what a power cut leaves: the pattern's bytes where something was written. By the pattern `Old` a disk that has grown

@@ -78,20 +78,18 @@ read_ends half rested real ended reading behind =
 rested_well : (half rested real : SlaveHalf) → in_flight half.activity ≡ None → RestsAs resting.Well half rested → IsBehind half real → IsBehind rested real
 rested_well half rested real quiet so behind = by half.activity refl quiet so
   where
-    by : (a : Activity) → half.activity ≡ a → in_flight a ≡ None → Ends a rests.Well half rested → IsBehind rested real
+    by : (a : Activity) → half.activity ≡ a → in_flight a ≡ None → Ends a rests.Well false half rested → IsBehind rested real
     by Idle is none same = subst (λ (h : SlaveHalf). IsBehind h real) (sym same) behind
-    by Reading is none (inl same) = subst (λ (h : SlaveHalf). IsBehind h real) (sym same) behind
-    by Reading is none (inr ended) = read_ends half rested real ended is behind
+    by Reading is none ended = read_ends half rested real (inl ended) is behind
     by (Writing word value) is none same = absurd cc
 
 -- none is in flight behind it
 still_quiet : (half rested : SlaveHalf) → in_flight half.activity ≡ None → RestsAs resting.Well half rested → in_flight rested.activity ≡ None
 still_quiet half rested quiet so = by half.activity refl quiet so
   where
-    by : (a : Activity) → half.activity ≡ a → in_flight a ≡ None → Ends a rests.Well half rested → in_flight rested.activity ≡ None
+    by : (a : Activity) → half.activity ≡ a → in_flight a ≡ None → Ends a rests.Well false half rested → in_flight rested.activity ≡ None
     by Idle is none same = ap (λ (h : SlaveHalf). in_flight h.activity) same ∙ quiet
-    by Reading is none (inl same) = ap (λ (h : SlaveHalf). in_flight h.activity) same ∙ quiet
-    by Reading is none (inr ended) = ap in_flight (ended_idle Reading half rested ended).0
+    by Reading is none ended = ap (λ (h : SlaveHalf). in_flight h.activity) ended
     by (Writing word value) is none same = absurd cc
 
 -- the command to read words, which an idle shadow takes by itself
@@ -216,7 +214,7 @@ ends_with half rested write value flying so = by (eqb_tells value write.value)
         → EndsWith half write.word value rested
     by (inl same) =
         EndsWith-errors half rested write.word value false false
-        (subst (λ (a : Activity). Ends a rests.Well half rested) flying (with_test true same.0)
+        (subst (λ (a : Activity). Ends a rests.Well false half rested) flying (with_test true same.0)
         ∙ ap (λ (n : ℕ). with_errors (settled half write.word n) false false) (sym same.1))
     by (inr other) =
         EndsWith-errors half rested write.word value true half.registers.enable_error

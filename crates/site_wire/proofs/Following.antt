@@ -14,7 +14,9 @@ use Rattle.site_core.specs.declared.fault.DeviceFault.{DeviceFault}
 use Rattle.site_core.specs.declared.fault.DeviceFault.TheVariants as faults
 use Rattle.site_core.specs.State.{State, Seen, Moment, with_half}
 use Rattle.site_core.specs.Calls.{WritesDisk, SyncsDisk}
-use Rattle.site_shadow.specs.Following.{begin_of, first_of, Keeps, WriteKeeps, SyncKeeps, RestKeeps}
+use Rattle.site_shadow.specs.Following.{begin_of, first_of, Keeps, AskKeeps, WriteKeeps, SyncKeeps, ExchangeKeeps, RestKeeps, TakenKeeps}
+use Rattle.site_shadow.specs.declared.pattern.Pattern.{Pattern}
+use Rattle.site_shadow.proofs.Asked.{ask_keeps, exchange_keeps, taken_keeps}
 use Rattle.site_shadow.proofs.Keeping.{Extends-by}
 use Rattle.site_shadow.specs.declared.device.Passing.{Passing}
 use Rattle.site_shadow.specs.declared.device.Passing.TheVariants.{Passes}
@@ -27,7 +29,7 @@ use Rattle.site_file.specs.declared.asking.Call.TheVariants.{Writes as writes, S
 use Rattle.site_file.specs.Asking.{HasLog}
 use Rattle.site_file.specs.Device.{CallsJournal, AsksLength, ReadsJournal}
 use Rattle.site_wire.specs.Journal.{JournalFollows}
-use Rattle.site_wire.specs.Following.{SendsNothing, CarriesFrame, IsBehind, SlavesFollow, SlavesFollowed, WireFollows, still_follows}
+use Rattle.site_wire.specs.Following.{SendsNothing, CarriesFrame, IsBehind, SlavesFollow, SlavesFollowed, WireFollows, still_follows, stays_so}
 use Rattle.site_wire.proofs.Journal.{length_follows, length_sound, read_follows, read_sound, write_follows, call_sound, sync_follows, rest_follows}
 use Rattle.site_wire.proofs.Journal.{journal_begins}
 use Rattle.site_wire.specs.declared.device.WireDevice.{WireDevice}
@@ -70,7 +72,21 @@ module _ {L F C : Type 0} where
     own = still_own before after (ap (λ (j : FileDevice F). j.asking.part) same) nothing follows.own;
   }
 
-  pub length_keeps : (before after : WireDevice L F C) (result : Passing) → after.journal.asking.part ≡ before.journal.asking.part
+  -- calls in which it sends nothing more
+  pub nothing_asks : (before after : WireDevice L F C) (result : Passing) → after.journal ≡ before.journal → SendsNothing before after
+      → AskKeeps WireFollows before result after
+  nothing_asks before after result same nothing = ask_keeps WireFollows stays_so before after (nothing_keeps before after same nothing) result
+
+  pub nothing_passes : (before after : WireDevice L F C) → after.journal ≡ before.journal → SendsNothing before after
+      → ExchangeKeeps WireFollows before Passes after
+  nothing_passes before after same nothing = exchange_keeps WireFollows stays_so before after (nothing_keeps before after same nothing) Passes
+
+  pub nothing_stops : (before after : WireDevice L F C) (pattern : Pattern) → after.journal ≡ before.journal → SendsNothing before after
+      → TakenKeeps WireFollows before (Some pattern) after
+  nothing_stops before after pattern same nothing =
+      taken_keeps WireFollows stays_so before after (nothing_keeps before after same nothing) (Some pattern)
+
+  length_keeps : (before after : WireDevice L F C) (result : Passing) → after.journal.asking.part ≡ before.journal.asking.part
       → AsksLength before.journal result after.journal → SendsNothing before after
       → (after.is_over ≡ false → result ≡ Passes) → Keeps WireFollows before after
   length_keeps before after result part asks nothing well seen follows = record {
@@ -80,7 +96,13 @@ module _ {L F C : Type 0} where
     own = still_own before after part nothing follows.own;
   }
 
-  pub read_keeps : (before after : WireDevice L F C) (result : Passing) → after.journal.asking.part ≡ before.journal.asking.part
+  pub length_asks : (before after : WireDevice L F C) (result : Passing) → after.journal.asking.part ≡ before.journal.asking.part
+      → AsksLength before.journal result after.journal → SendsNothing before after
+      → (after.is_over ≡ false → result ≡ Passes) → AskKeeps WireFollows before result after
+  length_asks before after result part asks nothing well =
+      ask_keeps WireFollows stays_so before after (length_keeps before after result part asks nothing well) result
+
+  read_keeps : (before after : WireDevice L F C) (result : Passing) → after.journal.asking.part ≡ before.journal.asking.part
       → ReadsJournal before.journal result after.journal → SendsNothing before after
       → (after.is_over ≡ false → result ≡ Passes) → Keeps WireFollows before after
   read_keeps before after result part asks nothing well seen follows = record {
@@ -89,6 +111,12 @@ module _ {L F C : Type 0} where
     sound = λ going. read_sound before.journal after.journal result asks (well going);
     own = still_own before after part nothing follows.own;
   }
+
+  pub read_asks : (before after : WireDevice L F C) (result : Passing) → after.journal.asking.part ≡ before.journal.asking.part
+      → ReadsJournal before.journal result after.journal → SendsNothing before after
+      → (after.is_over ≡ false → result ≡ Passes) → AskKeeps WireFollows before result after
+  read_asks before after result part asks nothing well =
+      ask_keeps WireFollows stays_so before after (read_keeps before after result part asks nothing well) result
 
   pub write_keeps : (at : ℕ) (bytes : List ℕ) (before after : WireDevice L F C) (result : Passing)
       → after.journal.asking.part ≡ before.journal.asking.part

@@ -95,13 +95,13 @@ module _ {F : Type 0} where
 
   pub write_follows : (at : ℕ) (bytes : List ℕ) (before after : FileDevice F) (result : Passing) (old new : Seen) (given : Result (Unit {0}) DeviceFault)
       → CallsJournal (writes at bytes) before result after → old.is_stopped ≡ false → at ≤ length old.state.disk.bytes → WritesDisk old at bytes given new
-      → IsTold result given → JournalFollows before old → JournalFollows after new
+      → IsTold old.faults result given → JournalFollows before old → JournalFollows after new
   write_follows at bytes before after result old new given calls running inside wrote told follows =
       one_more old new before after (journal.write at bytes result given running inside wrote told calls)
       (λ failed. same_call (writes at bytes) before after result failed calls) follows
 
   pub sync_follows : (before after : FileDevice F) (result : Passing) (old new : Seen) (given : Result (Unit {0}) DeviceFault)
-      → CallsJournal syncs before result after → old.is_stopped ≡ false → SyncsDisk old given new → IsTold result given → JournalFollows before old
+      → CallsJournal syncs before result after → old.is_stopped ≡ false → SyncsDisk old given new → IsTold old.faults result given → JournalFollows before old
       → JournalFollows after new
   sync_follows before after result old new given calls running synced told follows =
       one_more old new before after (journal.sync result given running synced told calls)

@@ -10,7 +10,7 @@ use Rattle.esc_model.specs.Orders.{station, poll_order}
 use Rattle.esc_model.specs.declared.rest.WordWrite.{WordWrite}
 use Rattle.esc_model.specs.SlaveHalf.{SlaveHalf, Idle, is_busy, in_flight}
 use Rattle.site_core.specs.State.{State, Seen}
-use Rattle.site_shadow.specs.Following.{first_of, Extends, IsUnasked}
+use Rattle.site_shadow.specs.Following.{first_of, Extends, GoesOn, IsUnasked}
 use Rattle.site_shadow.proofs.Towards.{Extends-first}
 use Rattle.site_shadow.specs.declared.device.Resting.{Resting}
 use Rattle.site_shadow.specs.declared.device.Resting.TheVariants as resting
@@ -187,12 +187,17 @@ pub record WireFollows {L F C : Type 0} (device : WireDevice L F C) (seen : Seen
   pub sound : device.is_over ≡ false → device.journal.has_failed ≡ false
   pub own : device.is_over ≡ false → AreFor device.journal.asking.part (exchanges device.sender.log.all)
 
--- the law of the trait: a step in which the device isn't asked
-pub follows_on : {L F C : Type 0} (device : WireDevice L F C) (old new : Seen) → IsUnasked old new → WireFollows device old
-    → WireFollows device new
-follows_on device old new unasked follows = record {
-  slaves = still_follows device old new unasked.goes.extends unasked.halves follows.slaves;
-  journal = journal_on device.journal old new unasked.goes follows.journal;
+-- a step in which nothing changes that it holds
+pub stays_so : {L F C : Type 0} (device : WireDevice L F C) (old new : Seen) → GoesOn old new
+    → (¬ IsTrue new.is_stopped → new.state.halves ≡ old.state.halves) → WireFollows device old → WireFollows device new
+stays_so device old new goes halves follows = record {
+  slaves = still_follows device old new goes.extends halves follows.slaves;
+  journal = journal_on device.journal old new goes follows.journal;
   sound = follows.sound;
   own = follows.own;
 }
+
+-- the law of the trait: a step in which the device isn't asked
+pub follows_on : {L F C : Type 0} (device : WireDevice L F C) (old new : Seen) → IsUnasked old new → WireFollows device old
+    → WireFollows device new
+follows_on device old new unasked follows = stays_so device old new unasked.goes unasked.halves follows

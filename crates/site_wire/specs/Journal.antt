@@ -17,12 +17,12 @@ use Rattle.site_file.specs.Following as files
 pub data JournalStep {F : Type 0} (old : Seen) (before : FileDevice F) (new : Seen) (after : FileDevice F) : Type 0 where
   -- a call that changes nothing, a write whose range is unsynced and that wasn't begun for want of memory, or a stop
   goes_on : GoesOn old new → ChangesNoFile before after → JournalStep old before new after
-  -- a write; where the journal passes it, the site has done it, or stops
+  -- a write; where the journal passes it, the site has done it
   write : (at : ℕ) (bytes : List ℕ) (passing : Passing) (given : Result (Unit {0}) DeviceFault) → old.is_stopped ≡ false
-      → at ≤ length old.state.disk.bytes → WritesDisk old at bytes given new → IsTold passing given
+      → at ≤ length old.state.disk.bytes → WritesDisk old at bytes given new → IsTold old.faults passing given
       → CallsJournal (writes at bytes) before passing after → JournalStep old before new after
-  -- a sync; where the journal passes it, the site has done it, or stops
-  sync : (passing : Passing) (given : Result (Unit {0}) DeviceFault) → old.is_stopped ≡ false → SyncsDisk old given new → IsTold passing given
+  -- a sync; where the journal passes it, the site has done it
+  sync : (passing : Passing) (given : Result (Unit {0}) DeviceFault) → old.is_stopped ≡ false → SyncsDisk old given new → IsTold old.faults passing given
       → CallsJournal syncs before passing after → JournalStep old before new after
   -- a half rests and takes a datagram; the journal is asked nothing
   rest : (slave : ℕ) (later : SlaveHalf) → old.is_stopped ≡ false → new.state ≡ with_half old.state slave later → Extends old new

@@ -519,7 +519,7 @@ fn fit_datagram<'a>(slave: u16, half: &RomHalf, frame: &'a Frame) -> Option<Data
 impl<'f, L: Reach, F: RandomAccessFile, C: Clock> Device for WireDevice<'f, L, F, C> {
     ghost use Rattle.std.specs.Prelude.{[], ◌↔◌, ◌||◌, not};
     ghost use Rattle.site_core.specs.State.{Seen};
-    ghost use Rattle.site_shadow.specs.Following.{Keeps, WriteKeeps, SyncKeeps, RestKeeps};
+    ghost use Rattle.site_shadow.specs.Following.{AskKeeps, WriteKeeps, SyncKeeps, ExchangeKeeps, RestKeeps, TakenKeeps};
     ghost use Rattle.site_file.specs.declared.asking.Call.TheVariants.{Writes as writes, Syncs as syncs};
     ghost use Rattle.site_file.specs.Asking.{Begins};
     ghost use Rattle.site_file.specs.Device.{CallsJournal, AsksLength, ReadsJournal};
@@ -542,7 +542,7 @@ impl<'f, L: Reach, F: RandomAccessFile, C: Clock> Device for WireDevice<'f, L, F
 
     fn len(&mut self, length: usize) -> Passing
         ensures asks { AsksLength self.old.journal result self.new.journal }
-        ensures follows { Keeps WireFollows self.old self.new }
+        ensures follows { AskKeeps WireFollows self.old result self.new }
     {
         let passing = self.journal.len(length);
         self.end_call(passing)
@@ -550,7 +550,7 @@ impl<'f, L: Reach, F: RandomAccessFile, C: Clock> Device for WireDevice<'f, L, F
 
     fn read(&mut self, at: usize, held: &[u8]) -> Passing
         ensures asks { ReadsJournal self.old.journal result self.new.journal }
-        ensures follows { Keeps WireFollows self.old self.new }
+        ensures follows { AskKeeps WireFollows self.old result self.new }
     {
         let passing = self.journal.read(at, held);
         self.end_call(passing)
@@ -573,10 +573,9 @@ impl<'f, L: Reach, F: RandomAccessFile, C: Clock> Device for WireDevice<'f, L, F
     }
 
     /// Lets the frame pass, which `rest` sends. One that isn't a datagram for the EEPROM of this slave, and fit for its half, stops the site.
-    #[tactic(auto, using(crate::proofs::Following::nothing_keeps))]
     fn exchange(&mut self, slave: usize, half: &RomHalf, frame: &Frame) -> Passing
         ensures journal { self.new.journal ≡ self.old.journal }
-        ensures follows { Keeps WireFollows self.old self.new }
+        ensures follows { ExchangeKeeps WireFollows self.old result self.new }
     {
         if self.is_over {
             return Passing::Stops(LEFT);
@@ -608,7 +607,6 @@ impl<'f, L: Reach, F: RandomAccessFile, C: Clock> Device for WireDevice<'f, L, F
         self.resting
     }
 
-    #[tactic(auto, using(crate::proofs::Following::nothing_keeps))]
     fn taken(
         &mut self,
         slave: usize,
@@ -620,7 +618,7 @@ impl<'f, L: Reach, F: RandomAccessFile, C: Clock> Device for WireDevice<'f, L, F
         ensures agrees { result ≡ None → IfSome self.old.returned (λ found. AgreesWith half.now answer.now found) }
         ensures stops { IsTrue self.old.is_over → IsSome result }
         ensures journal { self.new.journal ≡ self.old.journal }
-        ensures follows { Keeps WireFollows self.old self.new }
+        ensures follows { TakenKeeps WireFollows self.old result self.new }
     {
         if self.is_over {
             return Some(LEFT);
@@ -636,7 +634,7 @@ impl<'f, L: Reach, F: RandomAccessFile, C: Clock> Device for WireDevice<'f, L, F
     fn cycle(&mut self, _frame: &Frame) -> Passing
         ensures lost { result ≡ Fails }
         ensures same { self.new ≡ self.old }
-        ensures follows { Keeps WireFollows self.old self.new }
+        ensures follows { AskKeeps WireFollows self.old result self.new }
     {
         Passing::Fails
     }

@@ -4,12 +4,13 @@ ghost use Rattle.std.specs.List.{All};
 ghost use Rattle.ecat_frame.specs.Frame.{pdu};
 ghost use Rattle.site_wire.specs.declared.joining.Stage.TheVariants.{Free};
 ghost use Rattle.site_wire.specs.Joining.{ComesToRest, Keeps, Takes, Waited, WaitsNoMore, answer_in, is_at_end, stage_of};
+ghost use Rattle.wire_frames.specs.Room.{Fits};
 ghost use Rattle.wire_frames.specs.Sending.{IsForEeprom, OnlyEeprom};
 
 use crate::answers::Answer;
 use crate::order::Order;
 use ecat_frame::{Datagram, Frame};
-use wire_frames::{Carried, Stations};
+use wire_frames::{Carried, Room, Stations};
 
 /// How many slaves a line has at most.
 const SLAVES: usize = 64;
@@ -33,19 +34,19 @@ pub(crate) struct Board {
     stages: [Stage; SLAVES],
     /// The station addresses of the slaves.
     stations: Stations,
-    /// Of how many slaves a frame takes datagrams.
-    joined: usize,
+    /// How much a frame may hold.
+    room: Room,
     /// Whether a frame is under way.
     is_sending: bool,
 }
 
 impl Board {
-    /// A board on which nothing stands, for a line with these station addresses. A frame takes the datagrams of so many slaves.
-    pub(crate) fn new(stations: Stations, joined: usize) -> Board {
+    /// A board on which nothing stands, for a line with these station addresses, on which a frame may hold so much.
+    pub(crate) fn new(stations: Stations, room: Room) -> Board {
         Board {
             stages: [Stage::Free; SLAVES],
             stations,
-            joined,
+            room,
             is_sending: false,
         }
     }
@@ -102,10 +103,11 @@ impl Board {
     pub(crate) fn collect(&mut self, first: usize) -> Frame
         ensures only { OnlyEeprom result }
         ensures waiting { All (Waited self.old.stages) result }
+        ensures fits { Fits self.old.room result }
         ensures sending { self.new.is_sending ≡ true }
     {
         let mut frame = Frame::new();
-        for turn in 0..self.joined.min(SLAVES) {
+        for turn in 0..SLAVES {
             self.collect_one(first.wrapping_add(turn) % SLAVES, &mut frame);
         }
         self.is_sending = true;
@@ -124,11 +126,17 @@ impl Board {
     fn collect_one(&mut self, slave: usize, frame: &mut Frame)
         requires slave { slave < 64 }
         requires only { OnlyEeprom frame.old }
+        requires fits { Fits self.old.room frame.old }
         ensures only { OnlyEeprom frame.new }
+        ensures fits { Fits self.old.room frame.new }
+        ensures same { self.new.room ≡ self.old.room }
         ensures took { (frame.new ≡ frame.old) ⊎ Takes self.old.stages frame.old frame.new }
         ensures fewer { (other : ℕ) → WaitsNoMore (stage_of self.old.stages other) (stage_of self.new.stages other) }
     {
         if let Stage::Waits(order) = self.stage(slave) {
+            if !self.room.takes(frame, order.length as u16) {
+                return;
+            }
             let address = self.stations.translated(order.datagram());
             let place = frame.count();
             if order.put_in(frame, address) {

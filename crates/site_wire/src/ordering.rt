@@ -3,6 +3,7 @@ ghost use Rattle.std.specs.Prelude.{◌≡◌, ◌/◌, ◌^◌, ◌⊎◌, ◌�
 ghost use Rattle.ecat_frame.specs.Command.{code_of};
 ghost use Rattle.ecat_frame.specs.Frame.{pdu};
 ghost use Rattle.ecat_frame.specs.declared.command.Command.TheVariants.{Fprd, Fpwr};
+ghost use Rattle.wire_frames.specs.Room.{AddsOne};
 ghost use Rattle.wire_frames.specs.Sending.{IsForEeprom, OnlyEeprom};
 ghost use Rattle.site_wire.specs.Orders.{IsOrderOf, command_of, datagram_of, readdressed};
 
@@ -60,6 +61,7 @@ impl Order {
         ensures only { OnlyEeprom frame.new }
         ensures put { IsTrue result → frame.new ≡ frame.old ++ readdressed (datagram_of self.now) address ∷ [] }
         ensures full { ¬ IsTrue result → frame.new ≡ frame.old }
+        ensures adds { AddsOne self.now.length frame.old frame.new }
     {
         let content = &self.content[..self.length];
         match frame.push(self.command(), self.index, address, content) {

@@ -65,11 +65,6 @@ impl<W: Wire> LiveLine<W> {
         (self.wire.sent(), self.wire.resent())
     }
 
-    /// Of how many slaves a frame takes datagrams.
-    fn joined(&self) -> usize {
-        if self.wire.is_lent() { 1 } else { 64 }
-    }
-
     /// Sends a frame for the EEPROMs of several slaves until it comes back, three times at most. None where it doesn't, and the line stops
     /// then, with what is said about the slave that sent it; or where it has stopped, and nothing is sent.
     fn pass_all(&mut self, frame: Frame, about: (u16, Last)) -> Option<Carried>
@@ -131,7 +126,7 @@ fn unanswered(sent: Datagram<'_>) -> (u16, Last) {
 }
 
 /// A line on a wire under a lock of its own, for the devices of several threads. The lock is held while one frame is exchanged. What the
-/// others have to send meanwhile stands on a board, and the next frame takes all of it.
+/// others have to send meanwhile stands on a board, and the next frame takes as much of it as it has room for.
 #[derive(Drop)]
 pub struct LockedLine<W> {
     lock: Mutex<LiveLine<W>>,
@@ -143,7 +138,7 @@ pub struct LockedLine<W> {
 impl<W: Wire> LockedLine<W> {
     /// This line under a lock.
     pub fn new(line: LiveLine<W>) -> LockedLine<W> {
-        let board = Board::new(*line.wire.stations(), line.joined());
+        let board = Board::new(*line.wire.stations(), line.wire.room());
         LockedLine {
             lock: Mutex::new(line),
             board: Mutex::new(board),
@@ -177,8 +172,8 @@ impl<W: Wire> LockedLine<W> {
     }
 }
 
-/// A line that several devices share. One frame takes the datagrams of all that wait for it, unless the wire is lent: a master takes frames of
-/// one datagram.
+/// A line that several devices share. One frame takes the datagrams of all that wait for it, as far as it has room: a message to a master that
+/// lends the wire has as much as that carries.
 #[derive(Drop)]
 pub struct SharedLine<'a, R: Wait, W> {
     rt: &'a R,

@@ -23,7 +23,7 @@ use Rattle.station_alone.specs.Station.{Station, Stands}
 use Rattle.station_alone.specs.Steps.{AsksMigration}
 use Rattle.station_alone.specs.Keeping.{GoesOn, Keeps}
 use Rattle.station_alone.specs.Recovery.{LeadsTo}
-use Rattle.station_alone.specs.Rounds.{Asks, DiskRests, is_did, IsSmall, IsUnfinished, IsWorking, MovesOrRests, RestUpTo, Rounds, ServesSlave, SlaveRests, Works}
+use Rattle.station_alone.specs.Rounds.{AnotherRound, DiskRests, is_did, IsSmall, IsUnfinished, IsWorking, MovesOrRests, RestUpTo, Rounds, ServesSlave, SlaveRests, Works}
 use Rattle.station_alone.proofs.KeepLaws.{goes-within}
 use Rattle.station_alone.proofs.RowLaws.{leads-one, slaves-of, works-none, works-then}
 
@@ -82,7 +82,7 @@ round-ends words count a b working unfinished all round =
 
 -- ---- whether there is more to do
 
-pub asks-live : (s : Station) → IsWorking s → 0 < live_bytes s.book → Asks true s s
+pub asks-live : (s : Station) → IsWorking s → 0 < live_bytes s.book → AnotherRound true s s
 asks-live s working some = record {
   works = works-none s working;
   left = omega arith;
@@ -114,7 +114,7 @@ module _ (old new : Station) (working : IsWorking old) (stands : Stands new) (go
         issued = near.issued;
       }
 
-  asks-by : (answer : Answer) → AskedFor old.book → AsksMigration old answer new → ((answer ≡ Did) × Asks true old new) ⊎ ((answer ≡ Idle) × Asks false old new)
+  asks-by : (answer : Answer) → AskedFor old.book → AsksMigration old answer new → ((answer ≡ Did) × AnotherRound true old new) ⊎ ((answer ≡ Idle) × AnotherRound false old new)
   asks-by answer (refused form is) asks =
       let same : new.book ≡ old.book = asks.book ∙ ap (λ (a : Bool × Book). a.1) is in
       let idle : answer ≡ Idle = asks.answered ∙ ap (λ (a : Bool × Book). if a.0 then Did else Idle) is in
@@ -140,14 +140,14 @@ module _ (old new : Station) (working : IsWorking old) (stands : Stands new) (go
         },
       )
 
-  pub asks-migration : (answer : Answer) → AsksMigration old answer new → ((answer ≡ Did) × Asks true old new) ⊎ ((answer ≡ Idle) × Asks false old new)
+  pub asks-migration : (answer : Answer) → AsksMigration old answer new → ((answer ≡ Did) × AnotherRound true old new) ⊎ ((answer ≡ Idle) × AnotherRound false old new)
   asks-migration answer asks =
       asks-by answer (asked-by old.book (is_version_2 old.book.form) (rw (working.recovering.going, working.sound) refl) refl) asks
 
-pub asks-did : (old new : Station) (answer : Answer) → IsWorking old → Stands new → GoesOn [] 0 old new → Keeps [] old new → live_bytes old.book ≡ 0 → AsksMigration old answer new → Asks (is_did answer) old new
+pub asks-did : (old new : Station) (answer : Answer) → IsWorking old → Stands new → GoesOn [] 0 old new → Keeps [] old new → live_bytes old.book ≡ 0 → AsksMigration old answer new → AnotherRound (is_did answer) old new
 asks-did old new answer working stands goes keeps none asks = elim (asks-migration old new working stands goes keeps none answer asks) [
-  | inl did ↦ subst (λ (a : Answer). Asks (is_did a) old new) (sym did.0) did.1
-  | inr idle ↦ subst (λ (a : Answer). Asks (is_did a) old new) (sym idle.0) idle.1
+  | inl did ↦ subst (λ (a : Answer). AnotherRound (is_did a) old new) (sym did.0) did.1
+  | inr idle ↦ subst (λ (a : Answer). AnotherRound (is_did a) old new) (sym idle.0) idle.1
 ]
 
 -- ---- all rounds

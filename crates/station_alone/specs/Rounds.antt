@@ -131,7 +131,7 @@ pub record Rounds (result : Result ℕ OpenFault) (old new : Station) : Type 0 w
   pub nearer : IfOk result (λ words. calls_left new.book < calls_left old.book)
 
 -- Whether another round follows.
-pub record Asks (more : Bool) (old new : Station) : Type 0 where
+pub record AnotherRound (more : Bool) (old new : Station) : Type 0 where
   pub works : Works 0 old new
   pub left : calls_left new.book ≤ calls_left old.book
   pub yes : IsTrue more → IsUnfinished new.book

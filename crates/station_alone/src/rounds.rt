@@ -1,7 +1,7 @@
 //! The rounds of a recovery.
 
 ghost use Rattle.std.specs.Prelude.{◌≡◌, ◌≤◌, length};
-ghost use Rattle.station_alone.specs.Rounds.{Asks, IsSmall, IsUnfinished, IsWorking, Redoes, Rounds};
+ghost use Rattle.station_alone.specs.Rounds.{AnotherRound, IsSmall, IsUnfinished, IsWorking, Redoes, Rounds};
 
 use crate::step::{is_did, serve_disk, serve_slave, stand};
 use crate::{Alone, Choice, OpenFault};
@@ -33,7 +33,7 @@ fn round<S: Site>(station: &mut Alone<S>) -> Result<u64, OpenFault>
 /// Whether rounds are left: a batch is live, or else the journal is an old one, whose migration is asked for.
 fn is_unfinished<S: Site>(station: &mut Alone<S>) -> bool
     requires { IsWorking station.old }
-    ensures { Asks result station.old station.new }
+    ensures { AnotherRound result station.old station.new }
 {
     if station.core().live_bytes() > 0 {
         return true;

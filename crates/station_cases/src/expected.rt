@@ -1,7 +1,6 @@
 //! Whether bytes are as a case expects them.
 
-use crate::captures::comes_back;
-use crate::contents::{bytes_of, number_of};
+use crate::contents::bytes_of;
 use std::alloc::{AllocError, Global};
 use std::io;
 use toml::{Table, Value};
@@ -44,7 +43,6 @@ fn fits_part(
         "has" => Ok(has_text(bytes, part.as_str().unwrap_or("\0"))),
         "begins" => Ok(bytes.starts_with(&bytes_of(alloc, named, part)?)),
         "ends" => Ok(bytes.ends_with(&bytes_of(alloc, named, part)?)),
-        "records" => Ok(comes_back(bytes, number_of(Some(part)))),
         _ => Err(io::Error::other("an unknown expectation")),
     }
 }

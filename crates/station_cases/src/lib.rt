@@ -25,7 +25,8 @@
 //!   none of a write. It prints these bytes, and ends in `fault 90 File`.
 //! - `"power cuts"`, `"calls that fail"`, `"full disks"`: with a power cut in each of its calls that write or sync, a failure of each, and one
 //!   of each and all behind it. `unsynced` says what is left of bytes that weren't synced: the `"old"` ones, `"new"` ones, new ones at even
-//!   offsets (`"torn"`) or `"other"` ones. A failure is told; without a cut or a failure it goes as is expected.
+//!   offsets (`"torn"`) or `"other"` ones. A failure is told; without a cut or a failure it goes as is expected. The totals are printed where
+//!   the call is number `totals` or a later one, from 0, and else never.
 //! - `"plan"`: behind a plan, whose command line is `first`. The plan writes nothing, and says what the run prints, with the words that it
 //!   changes in `images`.
 //! - `"page"`: it prints a page in which each option of a help, which `first` prints, stands behind the text `option`.
@@ -38,11 +39,9 @@
 //! these offsets, where `"HEX * K"` repeats bytes; or `{ text = "..", times = K }`.
 //!
 //! What is expected of bytes are contents; `true`, for any bytes but none; or a table with some of `has`, a text that stands in them; `begins`
-//! and `ends`, contents that they begin or end with; and `records = N`, for a capture of more than N bytes in which each frame for an EEPROM
-//! comes back.
+//! and `ends`, contents that they begin or end with.
 #![tactic(auto)]
 
-mod captures;
 mod cells;
 mod changes;
 mod contents;

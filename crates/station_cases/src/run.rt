@@ -41,6 +41,7 @@ const KEYS: &[&str] = &[
     "behind",
     "again",
     "unsynced",
+    "totals",
     "images",
     "option",
 ];

@@ -3,7 +3,6 @@ use Rattle.std.proofs.Common.{◌≡◌, ℕ, zero, suc, ◌+◌, ◌-◌, ◌<�
 use Rattle.std.proofs.Common.{map, take, drop, get_or, String, Global, string_bytes, refl, sym, ap, ◌∙◌, subst, inl, arith}
 use Rattle.std.proofs.lemmas.List.{drop_more, get_or-drop, get_or_default, length-drop, map_more, take_more}
 use Rattle.std.specs.List.{AllByRecursion, AllZip, HoldsAt, slice_index_or}
-use Rattle.std.specs.Prelude.{MatchOption}
 use Rattle.station_files.specs.declared.location.Location.{Location}
 use Rattle.station_files.specs.declared.same_files.Clash.{Clash}
 use Rattle.station_files.specs.Locations.{AreApart, IsClash, Leads, LeadsTo, MeetAt, Meets, NoneMeet, Place, StandApart, place_of}
@@ -66,7 +65,7 @@ met_at count one at found here in_count inside is behind meets =
           subst P (is ∙ get_or_default found one here a inside) (subst Q (get_or-drop (one + 1) found at b) (meets b));
     }
 
--- ---- what it says of the names
+-- ---- what was found of the files says the same of their names
 
 both_known : (P : Place → Place → Type 0) (one other : Option Place) (a b : Place) → IfSome one (λ place. a ≡ place) → IfSome other (λ place. b ≡ place) → P a b → IfSome one (λ x. IfSome other (λ y. P x y))
 both_known P (Some x) (Some y) a b is_a is_b here = subst (λ (p : Place). P p y) is_a (subst (λ (q : Place). P a q) is_b here)
@@ -85,14 +84,14 @@ all_apart leads one here [] found to_here all apart = tt
 all_apart leads one here (name ∷ names) [] to_here all apart = absurd all
 all_apart leads one here (name ∷ names) (there ∷ found) to_here all apart = (stand_apart leads one name here there to_here all.0 apart.0, all_apart leads one here names found to_here all.1 apart.1)
 
-are_apart : (leads : Leads) (count : ℕ) (names : List (List ℕ)) (found : List Location) → AllZip (LeadsTo leads) names found → NoneMeet count found → AreApart leads count names
+pub are_apart : (leads : Leads) (count : ℕ) (names : List (List ℕ)) (found : List Location) → AllZip (LeadsTo leads) names found → NoneMeet count found → AreApart leads count names
 are_apart leads zero names found all none = tt
 are_apart leads (suc count) [] found all none = tt
 are_apart leads (suc count) (name ∷ names) [] all none = absurd all
 are_apart leads (suc count) (name ∷ names) (here ∷ found) all none = (all_apart leads name here names found all.0 all.1 none.0, are_apart leads count names found all.1 none.1)
 
 -- with some file that was found, in place of one that wasn't
-is_clash : (leads : Leads) (count : ℕ) (names : List (List ℕ)) (found : List Location) (clash : Clash) → AllZip (LeadsTo leads) names found → MeetAt count found clash → IsClash leads count names clash
+pub is_clash : (leads : Leads) (count : ℕ) (names : List (List ℕ)) (found : List Location) (clash : Clash) → AllZip (LeadsTo leads) names found → MeetAt count found clash → IsClash leads count names clash
 is_clash leads count names [] clash all meet = absurd (omega (arith, meet.inside))
 is_clash leads count names (some ∷ found) clash all meet =
     let many : length names ≡ length (some ∷ found) = zip_length (LeadsTo leads) names (some ∷ found) all in
@@ -107,9 +106,3 @@ is_clash leads count names (some ∷ found) clash all meet =
           both_known Meets (leads (slice_index_or names clash.one a)) (leads (slice_index_or names clash.other b)) (place_of (slice_index_or (some ∷ found) clash.one some)) (place_of (slice_index_or (some ∷ found) clash.other some))
           one.known other.known (meet.meet some some);
     }
-
--- what was found of the files says the same of their names
-pub of_names : (leads : Leads) (count : ℕ) (names : List (List ℕ)) (found : List Location) (clash : Option Clash) → AllZip (LeadsTo leads) names found
-    → MatchOption clash (NoneMeet count found) (MeetAt count found) → MatchOption clash (AreApart leads count names) (IsClash leads count names)
-of_names leads count names found None all none = are_apart leads count names found all none
-of_names leads count names found (Some clash) all meet = is_clash leads count names found clash all meet

@@ -50,12 +50,12 @@ of_hex digits.Memory = Memory
 
 -- the fault for a text that is not a line file
 abbrev pub of_line : LineFault → Fault
-of_line lines.BadLine = BadLine
+of_line (lines.BadLine trouble) = BadLine
 of_line lines.Memory = Memory
 
 -- the fault for a text that is not a script
 abbrev pub of_script : ScriptFault → Fault
-of_script (scripts.BadScript command) = BadScript command
+of_script (scripts.BadScript command trouble) = BadScript command
 of_script scripts.Memory = Memory
 
 -- no fault ended the work: everything was done, or at most commands were refused

@@ -5,8 +5,10 @@ ghost use Rattle.station_files.specs.ImageText.{text_of};
 
 use crate::faults::Failure;
 use crate::image::{read_image, write_image};
+use crate::notes::{Place, Wrong};
 use crate::store::Store;
 use sii_edit::alias_image;
+use station_listing::Code;
 use std::alloc::Global;
 use std::io::{Read, Write};
 
@@ -35,6 +37,13 @@ pub fn set_alias<R: Read, S: Store, W: Write>(
 {
     let mut image = read_image(alloc, hex, file, input, store)?;
     if let Err(refusal) = alias_image(&mut image, value) {
+        match file {
+            Some(name) => {
+                let wrong = Wrong::BadCheck(image.check_byte());
+                store.note(Code::BadCheck, Place::File(name), &wrong);
+            }
+            None => store.note(Code::BadCheck, Place::Named, &Wrong::InputBadCheck),
+        }
         return Err(Failure::Refused(refusal));
     }
     write_image(alloc, hex, &image, output)?;

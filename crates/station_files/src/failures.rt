@@ -1,6 +1,6 @@
 //! What has gone wrong in a subcommand.
-ghost use Rattle.std.specs.Prelude.{◌≡◌, ◌≢◌, ◌<◌, ◌≤◌, [], ◌∷◌, ◌++◌, length, slice_get, IfErr, IfOk, OnErr, OnOk};
-ghost use Rattle.station_files.specs.Failures.{met_by};
+ghost use Rattle.std.specs.Prelude.{◌≡◌, ◌≢◌, [], slice_get, IfErr, IfOk, OnErr, OnOk};
+ghost use Rattle.station_files.specs.Failures.{met_by, with_failure};
 ghost use Rattle.station_files.specs.Faults.{IsFaultless, status_of};
 ghost use Rattle.station_files.specs.declared.faults.Failure.TheVariants as failures;
 
@@ -30,8 +30,7 @@ impl Failures {
     /// Notes a failure, and returns its exit status. Behind eight failures none is kept any more.
     pub fn note_failure(&mut self, failure: Failure) -> ExitStatus
         ensures done { result ≢ ExitStatus.Done }
-        ensures noted { length (met_by self.old) < 8 → met_by self.new ≡ met_by self.old ++ failure ∷ [] }
-        ensures full { 8 ≤ length (met_by self.old) → self.new ≡ self.old }
+        ensures noted { met_by self.new ≡ with_failure (met_by self.old) failure }
     {
         let _ = self.met.try_push(failure);
         failure.status()
@@ -42,7 +41,7 @@ impl Failures {
         ensures exact { result ≡ status_of fault }
         ensures done { result ≢ ExitStatus.Done }
         ensures fault { ¬ IsFaultless result }
-        ensures noted { length (met_by self.old) < 8 → met_by self.new ≡ met_by self.old ++ failures.Fault fault ∷ [] }
+        ensures noted { met_by self.new ≡ with_failure (met_by self.old) (failures.Fault fault) }
     {
         let _ = self.note_failure(Failure::Fault(fault));
         fault.status()
@@ -52,7 +51,7 @@ impl Failures {
     pub fn note_end(&mut self, ended: Result<(), Fault>) -> ExitStatus
         ensures done { OnOk ended (result ≡ ExitStatus.Done) }
         ensures fault { OnErr ended (¬ IsFaultless result) }
-        ensures noted { IfErr ended (λ fault. length (met_by self.old) < 8 → met_by self.new ≡ met_by self.old ++ failures.Fault fault ∷ []) }
+        ensures noted { IfErr ended (λ fault. met_by self.new ≡ with_failure (met_by self.old) (failures.Fault fault)) }
         ensures same { OnOk ended (self.new ≡ self.old) }
     {
         match ended {
@@ -65,7 +64,7 @@ impl Failures {
     pub fn note_status(&mut self, ended: Result<ExitStatus, Fault>) -> ExitStatus
         ensures ended { IfOk ended (λ status. result ≡ status) }
         ensures fault { OnErr ended (¬ IsFaultless result) }
-        ensures noted { IfErr ended (λ fault. length (met_by self.old) < 8 → met_by self.new ≡ met_by self.old ++ failures.Fault fault ∷ []) }
+        ensures noted { IfErr ended (λ fault. met_by self.new ≡ with_failure (met_by self.old) (failures.Fault fault)) }
         ensures same { OnOk ended (self.new ≡ self.old) }
     {
         match ended {

@@ -301,7 +301,7 @@ impl From<LineFault> for Fault {
     fn from(fault: LineFault) -> Self {
         match fault {
             LineFault::Memory => Fault::Memory,
-            LineFault::BadLine => Fault::BadLine,
+            LineFault::BadLine(_) => Fault::BadLine,
         }
     }
 }
@@ -312,7 +312,7 @@ impl From<ScriptFault> for Fault {
     fn from(fault: ScriptFault) -> Self {
         match fault {
             ScriptFault::Memory => Fault::Memory,
-            ScriptFault::BadScript { command } => Fault::BadScript { command },
+            ScriptFault::BadScript { command, .. } => Fault::BadScript { command },
         }
     }
 }

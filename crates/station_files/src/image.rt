@@ -6,6 +6,7 @@ ghost use Rattle.station_files.specs.Faults.{IsOfStream};
 ghost use Rattle.station_files.specs.ImageText.{RefusesInput, RefusesReading, Spells, SpellsLower, text_of};
 
 use crate::faults::Fault;
+use crate::notes::{Wrong, note_image, note_input};
 use crate::printing::write_whole;
 use crate::reading::read_to_end;
 use crate::store::{MOST_OF_TEXT, Store, read_file};
@@ -37,7 +38,25 @@ pub fn read_image<R: Read, S: Store>(
     ensures unread { IsSome file.entry → R.remaining input.new ≡ R.remaining input.old }
 {
     let bytes = read_text(alloc, file, input, store)?;
-    spelt_image(alloc, hex, &bytes)
+    match spelt_image(alloc, hex, &bytes) {
+        Ok(image) => Ok(image),
+        Err(fault) => {
+            note_spelt(fault, hex, file, &bytes, store);
+            Err(fault)
+        }
+    }
+}
+
+/// Notes why a text is refused with this fault that should spell an image: that of the file of this name, or of the input.
+fn note_spelt<S: Store>(fault: Fault, hex: bool, file: Option<&str>, text: &[u8], store: &mut S)
+    ensures { S.files store.new ≡ S.files store.old }
+{
+    let Some(name) = file else {
+        return note_input(fault, store);
+    };
+    let digits = text.iter().filter(|byte| !byte.is_ascii_whitespace());
+    let bytes = if hex { digits.count() / 2 } else { text.len() };
+    note_image(fault, name, bytes, Wrong::NoImage(bytes / 2), store)
 }
 
 /// The bytes of the file of this name, or those that are left of the input where no name is given.

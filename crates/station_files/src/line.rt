@@ -4,9 +4,11 @@ ghost use Rattle.station_files.specs.LineFiles.{names_of, DescribesLine, SpellsL
 ghost use Rattle.station_files.specs.LineFiles.{RefusesLine, RefusesLineText, RefusesPlant, RefusesSlaves, RefusesWords};
 
 use crate::faults::Fault;
+use crate::notes::{Place, Wrong, note_image, note_text};
 use crate::store::{MOST_OF_TEXT, Store, read_file, read_image_file};
 use sii_words::{Plant, Words};
-use station_text::{LineFile, read_line};
+use station_listing::Code;
+use station_text::{LineFault, LineFile, line_at, read_line};
 use std::alloc::Global;
 
 /// Reads the line file `name`.
@@ -20,18 +22,36 @@ pub fn load_line<S: Store>(alloc: Global, name: &str, store: &mut S) -> Result<L
     ensures same { S.files store.new ≡ S.files store.old }
 {
     let bytes = read_file(alloc, name, MOST_OF_TEXT, store)?;
-    spelt_line(alloc, &bytes)
+    spelt_line(alloc, name, &bytes, store)
 }
 
-/// The line that a file with these bytes describes.
-fn spelt_line(alloc: Global, bytes: &[u8]) -> Result<LineFile, Fault>
+/// The line that the file of this name describes, which has these bytes.
+fn spelt_line<S: Store>(
+    alloc: Global,
+    name: &str,
+    bytes: &[u8],
+    store: &mut S,
+) -> Result<LineFile, Fault>
     ensures line { IfOk result (DescribesLine bytes.now) }
     ensures refused { IfErr result (RefusesLineText bytes.now) }
+    ensures same { S.files store.new ≡ S.files store.old }
 {
-    let Ok(text) = str::from_utf8(bytes) else {
-        return Err(Fault::BadLine);
+    let text = match str::from_utf8(bytes) {
+        Ok(text) => text,
+        Err(error) => {
+            let line = line_at(bytes, error.valid_up_to());
+            store.note(Code::BadLine, Place::Line(name, line), &Wrong::NoUtf8);
+            return Err(Fault::BadLine);
+        }
     };
-    Ok(read_line(alloc, text)?)
+    match read_line(alloc, text) {
+        Ok(line) => Ok(line),
+        Err(LineFault::Memory) => Err(Fault::Memory),
+        Err(LineFault::BadLine(trouble)) => {
+            note_text(Code::BadLine, name, trouble, store);
+            Err(Fault::BadLine)
+        }
+    }
 }
 
 /// Reads the EEPROM image of each slave, in the order of the line. Each file is judged before the next one is read.
@@ -60,13 +80,26 @@ pub fn load_slaves<S: Store>(
     Ok(slaves)
 }
 
-fn load_slave<S: Store>(alloc: Global, name: &str, store: &mut S) -> Result<Words, Fault>
+/// Reads the EEPROM image of a slave, as `load_slaves` does.
+///
+/// # Errors
+///
+/// As for `load_slaves`.
+pub fn load_slave<S: Store>(alloc: Global, name: &str, store: &mut S) -> Result<Words, Fault>
     ensures words { IfOk result (SpellsWords (S.files store.old) name.now) }
     ensures refused { IfErr result (RefusesWords (S.files store.old) name.now) }
     ensures same { S.files store.new ≡ S.files store.old }
 {
     let bytes = read_image_file(alloc, name, store)?;
-    Ok(Words::from_bytes(alloc, &bytes)?)
+    match Words::from_bytes(alloc, &bytes) {
+        Ok(words) => Ok(words),
+        Err(fault) => {
+            let fault = Fault::from(fault);
+            let size = Wrong::NoEeprom(bytes.len() / 2);
+            note_image(fault, name, bytes.len(), size, store);
+            Err(fault)
+        }
+    }
 }
 
 /// Reads the contents of the line whose line file is `name`.

@@ -8,6 +8,8 @@ ghost use Rattle.station_files.specs.Locations.{AreApart, IsClash, LeadsTo, Meet
 
 use crate::faults::Fault;
 use crate::location::Location;
+use crate::meeting::{Meeting, Role, Told};
+use crate::notes::Place;
 use crate::store::Store;
 use station_text::LineFile;
 use std::alloc::{AllocError, Global};
@@ -84,6 +86,32 @@ impl FileNames {
             has_capture,
         })
     }
+
+    /// How two of them meet, which were found there.
+    fn meeting(&self, clash: Clash, found: &[Location]) -> Meeting<'_> {
+        let how = match (found.get(clash.one), found.get(clash.other)) {
+            (Some(one), Some(other)) if one.is_same(other) => " are the same file",
+            _ => ": one has the name that the other takes while it is replaced",
+        };
+        Meeting {
+            one: self.told(clash.one),
+            other: self.told(clash.other),
+            how,
+        }
+    }
+
+    /// The file at this place, as it is told.
+    fn told(&self, place: usize) -> Told<'_> {
+        let role = match place.checked_sub(usize::from(self.has_capture)) {
+            None => Role::Capture,
+            Some(_) if place > self.written => Role::Script,
+            Some(_) if place == self.written => Role::LineFile,
+            Some(0) => Role::Journal,
+            Some(behind) => Role::Slave(behind - 1),
+        };
+        let name = self.names.get(place).map_or("", |name| name.as_str());
+        Told { role, name }
+    }
 }
 
 /// The name of a capture, if there is one.
@@ -127,10 +155,15 @@ pub fn keep_apart<S: Store>(alloc: Global, files: &FileNames, store: &mut S) -> 
     ensures refused { IfErr result (RefusesNames S.leads files.now.has_capture files.now.written (spelt files.now.names.items)) }
     ensures same { S.files store.new ≡ S.files store.old }
 {
-    let found = find_clash(alloc, files, store)?;
-    match found {
+    let found = locate_all(alloc, &files.names, store)?;
+    match clash_in(&found, files.written) {
         None => Ok(()),
-        Some(clash) => Err(fault_for(files.has_capture, clash.one)),
+        Some(clash) => {
+            let fault = fault_for(files.has_capture, clash.one);
+            let meeting = files.meeting(clash, &found);
+            store.note(fault.code(), Place::Named, &meeting);
+            Err(fault)
+        }
     }
 }
 
@@ -162,25 +195,6 @@ pub fn keep_line_apart<S: Store>(
 {
     let files = FileNames::of_line(alloc, line, line_file, None)?;
     keep_apart(alloc, &files, store)
-}
-
-/// The first two of these files of which one would be lost where the other is written or replaced, if there are such. Nothing is written.
-///
-/// # Errors
-///
-/// `File` where a name can't be followed; `Memory`.
-pub fn find_clash<S: Store>(
-    alloc: Global,
-    files: &FileNames,
-    store: &mut S,
-) -> Result<Option<Clash>, Fault>
-    ensures found { IfOk result (λ found. MatchOption found (AreApart S.leads files.now.written (spelt files.now.names.items))
-        (IsClash S.leads files.now.written (spelt files.now.names.items))) }
-    ensures failed { IfErr result IsOfStream }
-    ensures same { S.files store.new ≡ S.files store.old }
-{
-    let found = locate_all(alloc, &files.names, store)?;
-    Ok(clash_in(&found, files.written))
 }
 
 /// Where the files of these names are.

@@ -4,10 +4,12 @@ ghost use Rattle.station_files.specs.ScriptFiles.{RefusesScript, RefusesText, Sp
 ghost use Rattle.station_text.specs.ScriptText.{SpellsScriptFile};
 
 use crate::faults::Fault;
+use crate::notes::{Place, Wrong, note_text};
 use crate::script_images::load_commands;
 use crate::store::{MOST_OF_TEXT, Store, read_file};
 use sii_edit::Command;
-use station_text::{ScriptCommand, read_script};
+use station_listing::Code;
+use station_text::{ScriptCommand, ScriptFault, line_at, read_script};
 use std::alloc::Global;
 
 /// Reads the commands of the script file `name`. The whole text is judged before the first image that it names is read.
@@ -25,17 +27,35 @@ pub fn load_script<S: Store>(
     ensures same { S.files store.new ≡ S.files store.old }
 {
     let bytes = read_file(alloc, name, MOST_OF_TEXT, store)?;
-    let script = spelt_script(alloc, &bytes)?;
+    let script = spelt_script(alloc, name, &bytes, store)?;
     load_commands(alloc, &script, store)
 }
 
-/// The commands of a script with these bytes.
-fn spelt_script(alloc: Global, bytes: &[u8]) -> Result<Vec<ScriptCommand>, Fault>
+/// The commands of the script of this name, which has these bytes.
+fn spelt_script<S: Store>(
+    alloc: Global,
+    name: &str,
+    bytes: &[u8],
+    store: &mut S,
+) -> Result<Vec<ScriptCommand>, Fault>
     ensures script { IfOk result (λ script. SpellsScriptFile bytes.now script.items) }
     ensures refused { IfErr result (RefusesText bytes.now) }
+    ensures same { S.files store.new ≡ S.files store.old }
 {
-    let Ok(text) = str::from_utf8(bytes) else {
-        return Err(Fault::BadScript { command: 0 });
+    let text = match str::from_utf8(bytes) {
+        Ok(text) => text,
+        Err(error) => {
+            let line = line_at(bytes, error.valid_up_to());
+            store.note(Code::BadScript, Place::Line(name, line), &Wrong::NoUtf8);
+            return Err(Fault::BadScript { command: 0 });
+        }
     };
-    Ok(read_script(alloc, text)?)
+    match read_script(alloc, text) {
+        Ok(script) => Ok(script),
+        Err(ScriptFault::Memory) => Err(Fault::Memory),
+        Err(ScriptFault::BadScript { command, trouble }) => {
+            note_text(Code::BadScript, name, trouble, store);
+            Err(Fault::BadScript { command })
+        }
+    }
 }

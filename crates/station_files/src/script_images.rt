@@ -2,9 +2,12 @@
 ghost use Rattle.std.specs.Prelude.{◌≡◌, ◌↔◌, All, IfErr, IfOk, IsTrue};
 ghost use Rattle.std.specs.List.{AllZip};
 ghost use Rattle.station_files.specs.ScriptFiles.{IsPlain, LoadsCommand, LoadsEdit, LoadsGroup, LoadsGuarded};
-ghost use Rattle.station_files.specs.ScriptFiles.{RefusesCommand, RefusesCommands, RefusesEdit, RefusesGroup};
+ghost use Rattle.sii_words.specs.Words.{bytes_of};
+ghost use Rattle.station_files.specs.Files.{HasBytes};
+ghost use Rattle.station_files.specs.ScriptFiles.{RefusesCommand, RefusesCommands, RefusesEdit, RefusesGroup, RefusesImage};
 
 use crate::faults::Fault;
+use crate::notes::{Wrong, note_image};
 use crate::store::{Store, read_image_file};
 use sii_edit::{Command, Edit, EditList, GuardedEdit, GuardedEditList};
 use sii_words::ImageFile;
@@ -137,12 +140,29 @@ fn load_edit<S: Store>(alloc: Global, edit: &ScriptEdit, store: &mut S) -> Resul
             words: words.try_copy()?,
         }),
         ScriptEdit::Image { slave, file } => {
-            let bytes = read_image_file(alloc, file.as_str(), store)?;
-            let image = ImageFile::from_bytes(alloc, &bytes)?;
+            let image = load_image(alloc, file.as_str(), store)?;
             Ok(Edit::Image {
                 slave: *slave,
                 image,
             })
+        }
+    }
+}
+
+/// The image in the file of this name.
+fn load_image<S: Store>(alloc: Global, name: &str, store: &mut S) -> Result<ImageFile, Fault>
+    ensures image { IfOk result (λ image. HasBytes (S.files store.old) name.now (bytes_of image)) }
+    ensures refused { IfErr result (RefusesImage (S.files store.old) name.now) }
+    ensures same { S.files store.new ≡ S.files store.old }
+{
+    let bytes = read_image_file(alloc, name, store)?;
+    match ImageFile::from_bytes(alloc, &bytes) {
+        Ok(image) => Ok(image),
+        Err(fault) => {
+            let fault = Fault::from(fault);
+            let size = Wrong::NoImage(bytes.len() / 2);
+            note_image(fault, name, bytes.len(), size, store);
+            Err(fault)
         }
     }
 }

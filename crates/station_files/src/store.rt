@@ -6,8 +6,11 @@ ghost use Rattle.station_files.specs.Locations.{Leads, LeadsTo};
 
 use crate::faults::Fault;
 use crate::location::Location;
+use crate::notes::{Place, Wrong};
 use site_file::RandomAccessFile;
+use station_listing::Code;
 use std::alloc::Global;
+use std::fmt::Display;
 use std::io;
 
 /// A store of named files, which are read and written as a whole, or opened for access at byte offsets.
@@ -105,6 +108,12 @@ pub trait Store {
     /// `Busy` where another station has the lock; `Io` where the system can't lock the file.
     fn lock(&mut self, name: &str) -> Result<Option<Self::Lock>, LockFault>
         ensures same { files self.new ≡ files self.old };
+
+    /// Notes what is wrong and where, beside the fault or the refusal of this code that is answered next. No file changes. A store that tells
+    /// nothing of it keeps this body.
+    fn note<T: Display>(&mut self, _code: Code, _place: Place<'_>, _what: &T)
+        ensures same { files self.new ≡ files self.old }
+    {}
 }
 
 /// What a name leads to.
@@ -172,7 +181,10 @@ pub fn read_file<S: Store>(
     ensures same { S.files store.new ≡ S.files store.old }
 {
     match store.look(name)? {
-        Entry::File { length } if length > most => Err(Fault::TooLong),
+        Entry::File { length } if length > most => {
+            store.note(Code::TooLong, Place::File(name), &Wrong::TooLong(length));
+            Err(Fault::TooLong)
+        }
         entry => read_entry(alloc, name, entry, store),
     }
 }
@@ -190,9 +202,13 @@ pub fn read_image_file<S: Store>(alloc: Global, name: &str, store: &mut S) -> Re
 {
     match store.look(name)? {
         Entry::File { length } if length > MOST_OF_IMAGE && length % 2 == 1 => {
+            store.note(Code::OddLength, Place::File(name), &Wrong::TooLong(length));
             Err(Fault::OddLength)
         }
-        Entry::File { length } if length > MOST_OF_IMAGE => Err(Fault::BadSize),
+        Entry::File { length } if length > MOST_OF_IMAGE => {
+            store.note(Code::BadSize, Place::File(name), &Wrong::TooLong(length));
+            Err(Fault::BadSize)
+        }
         entry => read_entry(alloc, name, entry, store),
     }
 }
@@ -211,7 +227,10 @@ fn read_entry<S: Store>(
 {
     match entry {
         Entry::Absent => Err(Fault::File),
-        Entry::Other => Err(Fault::NotAFile),
+        Entry::Other => {
+            store.note(Code::NotAFile, Place::File(name), &Wrong::NotAFile);
+            Err(Fault::NotAFile)
+        }
         Entry::File { .. } => match store.read(alloc, name)? {
             Some(bytes) => Ok(bytes),
             None => Err(Fault::File),

@@ -17,7 +17,7 @@ use Rattle.cyclic.specs.Sending.{AreTaken, AreSent, SendsInOrder}
 use Rattle.station_jobs.specs.declared.cycle.CycleJob.{CycleJob}
 use Rattle.station_jobs.specs.declared.cycle.CycleNote.{CycleNote}
 use Rattle.station_jobs.specs.declared.cycle.CycleOutcome.{CycleOutcome}
-use Rattle.station_jobs.specs.Setting.{Exchanges, GoesOn, TakesJob}
+use Rattle.station_jobs.specs.Setting.{Exchanges, ExchangesOnceSet, TakesJob}
 use Rattle.sii_image.specs.declared.plan.Plan.{Plan}
 use Rattle.station_jobs.specs.Cycling.{IsWrite, IsSetting, SendsTurn, SendsTurns, IsCycled}
 use Rattle.sii_words.proofs.Quantifiers.{all_append}
@@ -169,7 +169,7 @@ exchanges-ran job orders old mid new outcome writes sends exchanges =
     ]
 
 ran-as : (job : CycleJob) (orders : List Pdu) (old mid new : Seen) (outcome : CycleOutcome) (later : Option Plan) (set : Result (Unit {0}) CycleFault) → AllByRecursion IsWrite orders
-    → SendsInOrder orders old set mid → GoesOn set job mid outcome later new → Ran (note_of job) outcome.result old new
+    → SendsInOrder orders old set mid → ExchangesOnceSet set job mid outcome later new → Ran (note_of job) outcome.result old new
 ran-as job orders old mid new outcome later (Ok done) writes sends goes = exchanges-ran job orders old mid new outcome writes sends goes.1
 ran-as job orders old mid new outcome later (Err fault) writes sends goes =
     subst (λ (r : Result ℕ CycleFault). Ran (note_of job) r old new) (sym goes.1) (set-failed job orders old mid new writes fault sends goes.3)

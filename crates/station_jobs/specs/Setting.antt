@@ -22,9 +22,9 @@ pub record Exchanges (job : CycleJob) (old : Seen) (outcome : CycleOutcome) (new
       → TakesTurn job.plan.image job.outputs.items (replicate job.plan.image.inputs 0) old outcome.result outcome.inputs.items new
 
 -- Once the line is configured, the process data is exchanged. If that failed, nothing more is sent and the inputs are zeros.
-abbrev pub GoesOn : Result (Unit {0}) CycleFault → CycleJob → Seen → CycleOutcome → Option Plan → Seen → Type 0
-GoesOn (Ok done) job mid outcome later new = (later ≡ Some job.plan) × Exchanges job mid outcome new
-GoesOn (Err fault) job mid outcome later new = (later ≡ None) × (outcome.result ≡ Err fault)
+abbrev pub ExchangesOnceSet : Result (Unit {0}) CycleFault → CycleJob → Seen → CycleOutcome → Option Plan → Seen → Type 0
+ExchangesOnceSet (Ok done) job mid outcome later new = (later ≡ Some job.plan) × Exchanges job mid outcome new
+ExchangesOnceSet (Err fault) job mid outcome later new = (later ≡ None) × (outcome.result ≡ Err fault)
     × (outcome.inputs.items ≡ replicate job.plan.image.inputs 0) × (new ≡ mid)
 
 -- The job was done. `later` is the plan that the line is configured for then, if the configuration succeeded.
@@ -33,4 +33,4 @@ pub record TakesJob (slaves : ℕ) (last : Option Plan) (job : CycleJob) (old : 
   pub set : Result (Unit {0}) CycleFault
   pub mid : Seen
   pub sets : SetsLine slaves last job.plan old set mid
-  pub goes_on : GoesOn set job mid outcome later new
+  pub goes_on : ExchangesOnceSet set job mid outcome later new

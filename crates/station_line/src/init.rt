@@ -11,7 +11,8 @@ use crate::site::{save_site, site_of};
 use sii_words::Words;
 use site_journal::format;
 use site_mem::FaultPlan;
-use station_files::{Entry, Fault, Store, keep_line_apart, load_line, load_slaves};
+use station_files::{Entry, Fault, Place, Store, Wrong, keep_line_apart, load_line, load_slaves};
+use station_listing::Code;
 use station_text::LineFile;
 use std::alloc::Global;
 use std::io::Write;
@@ -72,7 +73,14 @@ fn load_unformatted<S: Store>(
     keep_line_apart(alloc, &line, name, store)?;
     match store.look(line.journal.as_str())? {
         Entry::Absent => Ok(Unformatted { line, slaves }),
-        _ => Err(Fault::Exists),
+        _ => {
+            store.note(
+                Code::Exists,
+                Place::File(line.journal.as_str()),
+                &Wrong::Exists,
+            );
+            Err(Fault::Exists)
+        }
     }
 }
 

@@ -2,6 +2,7 @@
 #![tactic(auto)]
 
 mod answers;
+mod bad_journal;
 mod commands;
 mod device_faults;
 mod faults;
@@ -16,6 +17,7 @@ mod site;
 mod starting;
 
 pub use answers::{Answers, fault_of_book, print_accepted, print_refused, refused_as};
+pub use bad_journal::note_journal;
 pub use commands::serve_commands;
 pub use device_faults::of_device;
 pub use faults::{of_journal, of_open};

@@ -59,7 +59,7 @@ pub fn load_session<S: Store>(
     };
     keep_line_apart(alloc, &line, name, store)?;
     let is_old = is_old(&journal);
-    let refusal = refusal_of(alloc, &journal, &slaves)?;
+    let refusal = refusal_of(alloc, line.journal.as_str(), &journal, &slaves, store)?;
     let site = site_of(alloc, &slaves, journal, FaultPlan::none())?;
     Ok(Session {
         line,

@@ -55,7 +55,7 @@ fn with_other<D: Device + Drop>(mut site: ShadowSite<D>, device: Option<D>) -> S
     ensures { result ≡ site }
 {
     if let Some(device) = device {
-        let _before = site.replace_device(device);
+        site.replace_device(device);
     }
     site
 }

@@ -6,21 +6,18 @@ ghost use Rattle.line_changes.specs.Changes.{changes_between};
 ghost use Rattle.station_plan.specs.Journal.{ListsJournal, ListsSite, Restores};
 
 use crate::contents::contents_of;
-use crate::journal_listing::write_journal;
-use crate::journal_rows::write_journal_rows;
-use crate::reading::{Reading, read_readable};
-use jrn_format::JournalFault;
-use line_changes::{ChangedWord, changed_words, write_changes};
+use crate::journal_rows::put_journal;
+use jrn_format::{JournalFault, scan};
+use line_changes::{ChangedWord, changed_words, put_changes};
 use sii_words::Plant;
 use site_journal::ReadFault;
 use site_mem::{FaultPlan, Pattern};
 use site_shadow::ShadowSite;
 use station_alone::{OpenFault, Recovered, recover};
 use station_files::{Fault, Store};
-use station_json::{Form, write_cells, write_change_rows};
 use station_line::{Session, load_session, of_open};
+use station_rows::{Form, Rows, named, said};
 use std::alloc::{AllocError, Global};
-use std::io;
 use std::io::Write;
 
 /// What a recovery would do to a line.
@@ -39,7 +36,7 @@ pub struct Restored {
 ///
 /// # Errors
 ///
-/// As for `load_session`; the fault with which a recovery refuses the journal, once what can be read of it is printed; then as for `recover`;
+/// As for `load_session`; the fault with which a recovery refuses the journal, once what its header says is printed; then as for `recover`;
 /// `File` as the output answers; `Memory` at any point.
 pub fn show_journal<S: Store, W: Write>(
     alloc: Global,
@@ -95,27 +92,20 @@ fn print_journal<W: Write>(
     requires { IsTrue site.now.line.has_disk }
 {
     let parts = site.snapshot(alloc, Pattern::Old)?;
-    let mut file = parts.disk.unwrap();
-    let reading = read_readable(alloc, &mut file, &parts.sizes)?;
-    let fault = reading.fault;
-    print_reading(alloc, &file, &reading, form, output)?;
+    let file = parts.disk.unwrap();
+    let mut rows = Rows::new(alloc, form);
+    let fault = match scan(alloc, &file, &parts.sizes) {
+        Ok(journal) => {
+            put_journal(&mut rows, &file, Some(&journal))?;
+            None
+        }
+        Err(fault) => {
+            put_journal(&mut rows, &file, None)?;
+            Some(fault)
+        }
+    };
+    rows.write(output)?;
     Ok(fault)
-}
-
-/// Prints what was read of a journal's file.
-fn print_reading<W: Write>(
-    alloc: Global,
-    file: &[u8],
-    reading: &Reading,
-    form: Form,
-    output: &mut W,
-) -> Result<(), Fault> {
-    match form {
-        Form::Text => write_journal(file, reading, output)?,
-        Form::Json => write_journal_rows(alloc, file, reading, output)?,
-    }
-    output.flush()?;
-    Ok(())
 }
 
 /// The program's fault for a journal that is refused.
@@ -166,42 +156,19 @@ fn print_restored<W: Write>(
     form: Form,
     output: &mut W,
 ) -> Result<(), Fault> {
-    match form {
-        Form::Text => write_restored(restored, output)?,
-        Form::Json => {
-            write_recovery(alloc, restored.recovered, output)?;
-            write_change_rows(alloc, &restored.changes, output)?;
-        }
-    }
-    output.flush()?;
-    Ok(())
-}
-
-/// Writes what a recovery would find and write.
-fn write_recovery<W: Write>(
-    alloc: Global,
-    recovered: Recovered,
-    output: &mut W,
-) -> Result<(), Fault> {
-    let row = [
-        ("row", "recovery".into()),
-        ("batches", recovered.batches.into()),
-        ("commands", recovered.commands.into()),
-        ("words", recovered.words.into()),
-    ];
-    write_cells(alloc, &row, output)
-}
-
-/// Writes what a recovery would do, as text.
-fn write_restored<W: Write>(restored: &Restored, output: &mut W) -> io::Result<()> {
     let Recovered {
         batches,
         commands,
         words,
     } = restored.recovered;
-    writeln!(
-        output,
-        "recovery batches {batches} commands {commands} words {words}"
-    )?;
-    write_changes(&restored.changes, output)
+    let row = [
+        said("", "recovery"),
+        named("batches", batches),
+        named("commands", commands),
+        named("words", words),
+    ];
+    let mut rows = Rows::new(alloc, form);
+    rows.put("recovery", &row)?;
+    put_changes(&mut rows, &restored.changes)?;
+    rows.write(output)
 }

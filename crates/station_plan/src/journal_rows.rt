@@ -1,165 +1,164 @@
-//! What a journal's file holds, as rows of JSON.
+//! What a journal's file holds, as rows.
 
-use crate::journal_listing::{batch_bytes, usage_of};
-use crate::reading::Reading;
 use jrn_format::{
     AREA_START, Batch, Entry, Form, Journal, OPEN, capacity, gate, slave_count, version,
 };
+use line_changes::MOST_PRINTED;
 use sii_words::Run;
-use station_files::Fault;
-use station_json::{Cell, write_cells};
-use std::alloc::Global;
-use std::io::Write;
+use station_rows::{Rows, Value, data, named, said, said_place};
+use std::alloc::AllocError;
 
-/// Writes what a journal's file says in its header, and then the live batches that can be read.
+/// Puts what a journal's file says in its header, and then the live batches of the journal that it is, if it is one.
 ///
 /// # Errors
 ///
-/// As for `write_cells`.
-pub(crate) fn write_journal_rows<W: Write>(
-    alloc: Global,
+/// Memory was refused.
+pub(crate) fn put_journal(
+    rows: &mut Rows,
     file: &[u8],
-    reading: &Reading,
-    output: &mut W,
-) -> Result<(), Fault> {
+    journal: Option<&Journal>,
+) -> Result<(), AllocError> {
     if file.len() < AREA_START || gate(file) != OPEN {
         return Ok(());
     }
     let area = capacity(file);
     let row = [
-        ("row", "journal".into()),
-        ("version", version(file).into()),
-        ("slaves", slave_count(file).into()),
-        ("area", area.into()),
+        said("", "journal"),
+        named("version", version(file)),
+        named("slaves", slave_count(file)),
+        named("area", area),
     ];
-    write_cells(alloc, &row, output)?;
-    if let Some(journal) = &reading.journal {
-        write_halves(alloc, journal, area as usize, output)?;
-        write_batches(alloc, journal, area as usize, output)?;
+    rows.put("journal", &row)?;
+    match journal {
+        Some(journal) => put_area(rows, journal, area as usize),
+        None => Ok(()),
     }
-    write_damaged(alloc, &reading.damaged, output)
 }
 
-fn write_halves<W: Write>(
-    alloc: Global,
-    journal: &Journal,
-    area: usize,
-    output: &mut W,
-) -> Result<(), Fault> {
+/// Puts how full each half is, or the area of version 1, and then the live batches.
+fn put_area(rows: &mut Rows, journal: &Journal, area: usize) -> Result<(), AllocError> {
     match journal.form {
-        Form::One => write_half(alloc, journal, None, area, output),
+        Form::One => put_half(rows, journal, None, area)?,
         Form::Two => {
-            write_half(alloc, journal, Some(0), area / 2, output)?;
-            write_half(alloc, journal, Some(1), area / 2, output)
+            put_half(rows, journal, Some(0), area / 2)?;
+            put_half(rows, journal, Some(1), area / 2)?;
         }
-        Form::Moving => write_cells(alloc, &[("row", "migration".into())], output),
+        Form::Moving => rows.put("migration", &[said("", "migration interrupted")])?,
     }
+    put_batches(rows, journal, area)
 }
 
-fn write_half<W: Write>(
-    alloc: Global,
+/// Puts the number of batches in a half of `room` bytes, and how many of its bytes they take and leave.
+fn put_half(
+    rows: &mut Rows,
     journal: &Journal,
     half: Option<u8>,
     room: usize,
-    output: &mut W,
-) -> Result<(), Fault> {
-    let usage = usage_of(journal, half.unwrap_or(0), room);
-    let name = if half.is_some() { "half" } else { "area" };
+) -> Result<(), AllocError> {
+    let mut batches = 0usize;
+    let mut live = 0usize;
+    for batch in journal.batches.as_slice() {
+        if batch.half == half.unwrap_or(0) {
+            batches = batches.saturating_add(1);
+            live = live.saturating_add(batch_bytes(journal.form, batch));
+        }
+    }
+    let (name, place) = match half {
+        Some(half) => ("half", named("half", half)),
+        None => ("area", said("", "area")),
+    };
     let row = [
-        ("row", name.into()),
-        ("half", half.into()),
-        ("batches", usage.batches.into()),
-        ("live", usage.live.into()),
-        ("free", usage.free.into()),
+        place,
+        named("batches", batches),
+        named("live", live),
+        named("free", room.saturating_sub(live)),
     ];
-    write_cells(alloc, &row, output)
+    rows.put(name, &row)
 }
 
-/// Writes the live batches, in the order in which a recovery redoes them.
-fn write_batches<W: Write>(
-    alloc: Global,
-    journal: &Journal,
-    area: usize,
-    output: &mut W,
-) -> Result<(), Fault> {
+/// The length of a batch, in bytes.
+fn batch_bytes(form: Form, batch: &Batch) -> usize {
+    let mut bytes = match form {
+        Form::One => 7usize,
+        Form::Two | Form::Moving => 8,
+    };
+    for entry in batch.entries.as_slice() {
+        bytes = bytes.saturating_add(entry_bytes(entry));
+    }
+    bytes
+}
+
+/// The length of a command in its batch, in bytes.
+fn entry_bytes(entry: &Entry) -> usize {
+    let mut bytes = 10usize;
+    for run in entry.runs.as_slice() {
+        let words = run.words.as_slice().len();
+        bytes = bytes.saturating_add(words.saturating_mul(2).saturating_add(6));
+    }
+    bytes
+}
+
+/// Puts the live batches, in the order in which a recovery redoes them.
+fn put_batches(rows: &mut Rows, journal: &Journal, area: usize) -> Result<(), AllocError> {
     let mut places = [AREA_START, AREA_START.saturating_add(area / 2)];
     for (number, batch) in journal.batches.as_slice().iter().enumerate() {
         let half = usize::from(batch.half.min(1));
         let bytes = batch_bytes(journal.form, batch);
-        write_batch(alloc, journal.form, number, batch, places[half], output)?;
-        write_commands(alloc, batch.entries.as_slice(), output)?;
+        let (numbered, generation) = match journal.form {
+            Form::One => (None, None),
+            Form::Two | Form::Moving => (Some(batch.half), Some(batch.generation)),
+        };
+        let row = [
+            named("batch", number),
+            named("half", numbered),
+            named("generation", generation),
+            named("at", places[half]),
+            named("bytes", bytes),
+            named("commands", batch.entries.as_slice().len()),
+        ];
+        rows.put("batch", &row)?;
+        put_commands(rows, batch.entries.as_slice())?;
         places[half] = places[half].saturating_add(bytes);
     }
     Ok(())
 }
 
-/// Writes the row of a batch, which stands at offset `at` of the file.
-fn write_batch<W: Write>(
-    alloc: Global,
-    form: Form,
-    number: usize,
-    batch: &Batch,
-    at: usize,
-    output: &mut W,
-) -> Result<(), Fault> {
-    let row = [
-        ("row", "batch".into()),
-        ("batch", number.into()),
-        ("half", unless_one(form, batch.half)),
-        ("generation", unless_one(form, batch.generation)),
-        ("at", at.into()),
-        ("bytes", batch_bytes(form, batch).into()),
-        ("commands", batch.entries.as_slice().len().into()),
-    ];
-    write_cells(alloc, &row, output)
-}
-
-/// A number that batches of version 1 don't have.
-fn unless_one<'a>(form: Form, number: u8) -> Cell<'a> {
-    match form {
-        Form::One => Cell::Absent,
-        Form::Two | Form::Moving => number.into(),
-    }
-}
-
-fn write_commands<W: Write>(alloc: Global, entries: &[Entry], output: &mut W) -> Result<(), Fault> {
+/// Puts the commands of a batch, and the runs of words that they change. Text names a command with each of its runs.
+fn put_commands(rows: &mut Rows, entries: &[Entry]) -> Result<(), AllocError> {
     for entry in entries {
         let runs = entry.runs.as_slice();
-        let row = [
-            ("row", "command".into()),
-            ("command", entry.number.into()),
-            ("runs", runs.len().into()),
-        ];
-        write_cells(alloc, &row, output)?;
-        write_runs(alloc, entry.number, runs, output)?;
+        let number = entry.number;
+        if runs.is_empty() {
+            rows.say(&[named("command", number), said("", "no words")])?;
+        }
+        rows.put(
+            "command",
+            &[data("command", number), data("runs", runs.len())],
+        )?;
+        for run in runs {
+            put_run(rows, number, run)?;
+        }
     }
     Ok(())
 }
 
-fn write_runs<W: Write>(
-    alloc: Global,
-    command: u64,
-    runs: &[Run],
-    output: &mut W,
-) -> Result<(), Fault> {
-    for run in runs {
-        let row = [
-            ("row", "run".into()),
-            ("command", command.into()),
-            ("slave", run.slave.into()),
-            ("word", run.first.into()),
-            ("new", Cell::Words(run.words.as_slice())),
-        ];
-        write_cells(alloc, &row, output)?;
-    }
-    Ok(())
-}
-
-/// Writes a row for each damaged batch.
-fn write_damaged<W: Write>(alloc: Global, damaged: &[usize], output: &mut W) -> Result<(), Fault> {
-    for at in damaged {
-        let row = [("row", "damaged".into()), ("at", (*at).into())];
-        write_cells(alloc, &row, output)?;
-    }
-    Ok(())
+/// Puts a run of words that a command changes. Of a long one text has only their number.
+fn put_run(rows: &mut Rows, command: u64, run: &Run) -> Result<(), AllocError> {
+    let words = run.words.as_slice();
+    let [from, to] = said_place(run.first, words.len());
+    let (count, new) = if words.len() > MOST_PRINTED {
+        (words.len().into(), data("new", Value::Words(words)))
+    } else {
+        (Value::Absent, named("new", Value::Words(words)))
+    };
+    let row = [
+        named("command", command),
+        named("slave", run.slave),
+        from,
+        to,
+        data("word", run.first),
+        said("count", count),
+        new,
+    ];
+    rows.put("run", &row)
 }

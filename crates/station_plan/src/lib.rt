@@ -4,15 +4,11 @@
 
 mod contents;
 mod journal;
-mod journal_listing;
 mod journal_rows;
 mod plan;
-mod plan_listing;
 mod plan_rows;
-mod reading;
 mod tally;
 
 pub use journal::show_journal;
 pub use plan::{Planned, plan_line, plan_script};
-pub use reading::{Reading, read_readable};
 pub use tally::Tally;

@@ -7,8 +7,7 @@ ghost use Rattle.station_line.specs.Opened.{is_old};
 ghost use Rattle.station_plan.specs.Plan.{IsComparison, IsPlanOf, IsServedStation, PlansFiles, PlansSite, ServesPlan};
 
 use crate::contents::contents_of;
-use crate::plan_listing::print_plan;
-use crate::plan_rows::{AnswerRows, write_plan};
+use crate::plan_rows::{AnswerRows, put_plan};
 use crate::tally::Tally;
 use book_core::Core;
 use line_changes::{ChangedWord, Resize, changed_words, resizes};
@@ -19,8 +18,8 @@ use site_mem::FaultPlan;
 use site_shadow::ShadowSite;
 use station_alone::Alone;
 use station_files::{ExitStatus, Fault, Store};
-use station_json::Form;
 use station_line::{Answers, Given, Session, load, of_open, open_station, serve_commands};
+use station_rows::{Form, Rows};
 use std::alloc::{AllocError, Global};
 use std::io::Write;
 
@@ -95,57 +94,25 @@ pub fn plan_line<W: Write>(
     requires old { was_old ≡ is_old site.seen.state.disk.bytes }
     ensures { IfOk result (PlansSite site commands.items) }
 {
-    match form {
-        Form::Text => plan_text(alloc, site, was_old, commands, output),
-        Form::Json => plan_rows(alloc, site, was_old, commands, output),
-    }
-}
-
-/// The same, as text.
-fn plan_text<W: Write>(
-    alloc: Global,
-    site: ShadowSite<FaultPlan>,
-    was_old: bool,
-    commands: Vec<Command>,
-    output: &mut W,
-) -> Result<ExitStatus, Fault>
-    requires disk { IsTrue site.line.has_disk }
-    requires owned { OwnsAll site.line }
-    requires old { was_old ≡ is_old site.seen.state.disk.bytes }
-    ensures { IfOk result (PlansSite site commands.items) }
-{
-    let mut answered = ExitStatus::Done;
-    match plan_site(alloc, site, was_old, commands, output, &mut answered) {
-        Ok(planned) => match print_plan(alloc, &planned, output) {
-            Ok(()) => Ok(answered),
-            Err(fault) => Err(fault),
-        },
-        Err(fault) => Err(fault),
-    }
-}
-
-/// The same, as rows of JSON.
-fn plan_rows<W: Write>(
-    alloc: Global,
-    site: ShadowSite<FaultPlan>,
-    was_old: bool,
-    commands: Vec<Command>,
-    output: &mut W,
-) -> Result<ExitStatus, Fault>
-    requires disk { IsTrue site.line.has_disk }
-    requires owned { OwnsAll site.line }
-    requires old { was_old ≡ is_old site.seen.state.disk.bytes }
-    ensures { IfOk result (PlansSite site commands.items) }
-{
     let mut status = ExitStatus::Done;
-    let mut rows = AnswerRows::new(alloc, &mut *output);
-    match plan_site(alloc, site, was_old, commands, &mut rows, &mut status) {
-        Ok(planned) => match write_plan(alloc, &planned, output) {
+    let mut rows = Rows::new(alloc, form);
+    let mut answers = AnswerRows { rows: &mut rows };
+    match plan_site(alloc, site, was_old, commands, &mut answers, &mut status) {
+        Ok(planned) => match print_plan(rows, &planned, output) {
             Ok(()) => Ok(status),
             Err(fault) => Err(fault),
         },
-        Err(fault) => Err(fault),
+        Err(fault) => {
+            let _ = rows.write(output);
+            Err(fault)
+        }
     }
+}
+
+/// Prints the rows of the answers, and a plan behind them.
+fn print_plan<W: Write>(mut rows: Rows, planned: &Planned, output: &mut W) -> Result<(), Fault> {
+    put_plan(&mut rows, planned)?;
+    rows.write(output)
 }
 
 /// Opens the station on the line in memory, serves the commands on one thread, and compares the words before and after. Tells the

@@ -1,7 +1,7 @@
 //! Arguments that several subcommands have.
 
 use command_line::{Argument, Given, Kind};
-use station_json::Form;
+use station_rows::Form;
 
 /// The help text on line files.
 const LINE_FILE: &str = "The line file: the slaves' image files and the journal's, in TOML:
@@ -108,7 +108,7 @@ pub(crate) const REPORT: Argument = Argument {
 pub(crate) const VERBOSE: Argument = Argument {
     id: "verbose",
     kind: Kind::GlobalFlag,
-    help: "Says of a fault which file it is about, and what is wrong there",
-    long_help: "Says of a fault which file it is about, what is wrong there and where, in a second line. Without this option the line comes \
-        where standard error is a terminal.",
+    help: "Says of a fault which file it is about, or what was seen on the line, and what is wrong",
+    long_help: "Says of a fault which file it is about, what is wrong there and where, or of the line what was seen, what it usually is, and what to \
+        do, in a second line. Without this option the line comes where standard error is a terminal.",
 };

@@ -2,10 +2,9 @@
 
 use crate::arguments::{JSON, form_of};
 use command_line::{Argument, Given, Kind, Subcommand, is_digits};
-use line_changes::diff_images;
-use station_files::{ExitStatus, Failure, Store, set_alias, show_image};
-use station_json::{Form, diff_as_json, show_as_json};
-use station_troubles::Files;
+use line_changes::{Compared, diff_images};
+use station_files::{ExitStatus, Failure, Store, set_alias};
+use station_rows::{Shown, show_image};
 use std::alloc::Global;
 use std::io::{Read, Write};
 
@@ -22,27 +21,9 @@ pub enum ImageTask<'a> {
         file: Option<&'a str>,
     },
     /// Prints the listing of an image.
-    Show {
-        /// Whether the image is hexadecimal text.
-        hex: bool,
-        /// Whether each item is printed too.
-        all: bool,
-        /// Text, or rows of JSON.
-        form: Form,
-        /// The name of the image's file; `None` for standard input.
-        file: Option<&'a str>,
-    },
+    Show(Shown<'a>),
     /// Prints what two images differ in.
-    Diff {
-        /// Whether the images are hexadecimal text.
-        hex: bool,
-        /// Text, or rows of JSON.
-        form: Form,
-        /// The name of the first image's file; `None` for standard input.
-        old: Option<&'a str>,
-        /// The name of the second image's file; `None` for standard input.
-        new: Option<&'a str>,
-    },
+    Diff(Compared<'a>),
 }
 
 /// The help text on what `show` prints, and on its exit status.
@@ -202,12 +183,12 @@ pub(crate) fn diff_row() -> Subcommand {
 
 /// The task of `show`.
 pub(crate) fn show_task<'a>(given: &Given<'a>) -> ImageTask<'a> {
-    ImageTask::Show {
+    ImageTask::Show(Shown {
         hex: given.has("hex"),
         all: given.has("all"),
         form: form_of(given),
         file: file_of(given, "FILE"),
-    }
+    })
 }
 
 /// The task of `alias`. The value may have digits only.
@@ -230,12 +211,12 @@ pub(crate) fn diff_task<'a>(given: &Given<'a>) -> Result<ImageTask<'a>, &'static
     if old.is_none() && new.is_none() {
         return Err("only one of A and B can be standard input");
     }
-    Ok(ImageTask::Diff {
+    Ok(ImageTask::Diff(Compared {
         hex: given.has("hex"),
         form: form_of(given),
         old,
         new,
-    })
+    }))
 }
 
 /// The name of a file; `None` where it is left out, or `-`, and standard input is meant.
@@ -263,41 +244,16 @@ pub(crate) fn serve_image<R: Read, S: Store, W: Write>(
             set_alias(alloc, value, hex, file, input, store, output)?;
             ExitStatus::Done
         }
-        ImageTask::Show {
-            hex,
-            all,
-            form: Form::Text,
-            file,
-        } => show_image(alloc, hex, all, file, input, store, output)?,
-        ImageTask::Show { hex, all, file, .. } => {
-            show_as_json(alloc, hex, all, file, input, store, output)?
-        }
-        ImageTask::Diff {
-            hex,
-            form: Form::Text,
-            old,
-            new,
-        } => diff_images(alloc, hex, old, new, input, store, output)?,
-        ImageTask::Diff { hex, old, new, .. } => {
-            diff_as_json(alloc, hex, old, new, input, store, output)?
-        }
+        ImageTask::Show(shown) => show_image(alloc, shown, input, store, output)?,
+        ImageTask::Diff(compared) => diff_images(alloc, compared, input, store, output)?,
     };
     Ok(ended)
 }
 
-/// The files that a task reads.
-pub(crate) fn files_of_images(task: ImageTask<'_>) -> Files<'_> {
+/// Whether a task reads standard input.
+pub(crate) fn reads_input(task: ImageTask<'_>) -> bool {
     match task {
-        ImageTask::Alias { hex, file, .. } | ImageTask::Show { hex, file, .. } => match file {
-            Some(_) => Files::Images {
-                hex,
-                has_input: false,
-            },
-            None => Files::Input,
-        },
-        ImageTask::Diff { hex, old, new, .. } => Files::Images {
-            hex,
-            has_input: old.is_none() || new.is_none(),
-        },
+        ImageTask::Alias { file, .. } | ImageTask::Show(Shown { file, .. }) => file.is_none(),
+        ImageTask::Diff(Compared { old, new, .. }) => old.is_none() || new.is_none(),
     }
 }

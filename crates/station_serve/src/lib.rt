@@ -1,4 +1,4 @@
-//! The program as a library: its command line, and its subcommands over any files and streams.
+//! The program as a library: its command line, and its subcommands over any files and streams; and both on a wire (`wire`).
 #![tactic(auto)]
 
 mod arguments;
@@ -9,6 +9,7 @@ mod pages;
 mod request;
 mod serving;
 mod streams;
+pub mod wire;
 
 pub use command_line::refuse_words;
 pub use serving::serve;

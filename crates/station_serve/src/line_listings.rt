@@ -2,10 +2,6 @@
 
 use crate::arguments::{JSON, LINE, SCRIPT};
 use command_line::{Subcommand, TYPED_COMMANDS};
-use station_files::{Fault, Store, show_layout};
-use station_json::{Form, layout_as_json};
-use std::alloc::Global;
-use std::io::Write;
 
 /// The help text on what `plan` prints, and on its exit status.
 const PLAN_ANSWERS: &str = "Answers:
@@ -53,13 +49,12 @@ const JOURNAL_ANSWERS: &str = "Answers:
   command N slave P word 0xW new 0xX
                    a command of the batch, and a word that it changes; several
                    words and long runs as plan prints them
-  damaged at P     the batch that begins at byte P can't be read, nor can those
-                   behind it in its half
   recovery batches B commands C words W
                    what recover would find and write, then the words that change
                    as plan prints them
-Of a journal that recover refuses the fault goes to standard error, as: fault
-CODE NAME. The subcommand explain says what a code means.
+Of a journal that recover refuses only what the header says is printed. The fault
+goes to standard error, as: fault CODE NAME; of a damaged one, with the byte of the
+file that can't be read. The subcommand explain says what a code means.
 
 No file is written.
 
@@ -104,8 +99,8 @@ const JOURNAL: Subcommand = Subcommand {
     name: "journal",
     about: "Says what a journal holds, and what a recovery would do",
     long_about: "Reads a line file, the EEPROM images and the journal that it names, and prints the journal's header, the batches that aren't \
-        done with their commands, and which words of which slaves a recovery would change. Of a damaged journal it prints what can be \
-        read, and where it is damaged. No file is written.",
+        done with their commands, and which words of which slaves a recovery would change. Of a damaged journal it prints what its \
+        header says, and where it is damaged. No file is written.",
     after_help: "Example:\n  sii_station journal line.toml",
     after_long_help: JOURNAL_ANSWERS,
     arguments: &[LINE, JSON],
@@ -127,18 +122,4 @@ const LAYOUT: Subcommand = Subcommand {
 
 pub(crate) fn layout_row() -> Subcommand {
     LAYOUT
-}
-
-/// Lists the process image of a line.
-pub(crate) fn list_layout<S: Store, W: Write>(
-    alloc: Global,
-    line: &str,
-    form: Form,
-    store: &mut S,
-    output: &mut W,
-) -> Result<(), Fault> {
-    match form {
-        Form::Text => show_layout(alloc, line, store, output),
-        Form::Json => layout_as_json(alloc, line, store, output),
-    }
 }

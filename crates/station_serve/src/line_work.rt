@@ -87,27 +87,6 @@ const LEFT: Argument = Argument {
     long_help: "",
 };
 
-/// The help text on capture files.
-const CAPTURE_FILE: &str =
-    "Writes each frame of the line to FILE, as it goes to the slaves and as it comes
-back, in the pcap format with times in nanoseconds: open it with Wireshark or
-tshark, which read its EtherCAT datagrams. Of frames with process data it has
-those that go out. The source address tells the way: 00:10:20:30:40:50 out, and
-02:10:20:30:40:50 back, as slaves mark it. A capture that is there already is
-written anew; a FILE that holds anything else stays, and the run ends before it
-begins. If FILE can't be written further, the run goes on and tells it at its end.
-
-Example:
-  sii_station run line.toml script.toml --capture frames.pcap
-  tshark -r frames.pcap";
-
-const CAPTURE: Argument = Argument {
-    id: "capture",
-    kind: Kind::Text("FILE"),
-    help: "Writes the frames of the line to FILE, in the pcap format",
-    long_help: CAPTURE_FILE,
-};
-
 const INIT: Subcommand = Subcommand {
     name: "init",
     about: "Formats the journal of a line of slaves",
@@ -129,16 +108,7 @@ const RUN: Subcommand = Subcommand {
         and prints the answer to each, brings them to the slaves by way of the journal, and saves images and journal.",
     after_help: "Examples:\n  sii_station run line.toml script.toml\n  sii_station run line.toml -e 'alias = { slave = 2, value = 7 }'",
     after_long_help: RUN_ANSWERS,
-    arguments: &[
-        LINE,
-        SCRIPT,
-        TYPED_COMMANDS,
-        FUSE,
-        LEFT,
-        CAPTURE,
-        REPORT,
-        QUIET,
-    ],
+    arguments: &[LINE, SCRIPT, TYPED_COMMANDS, FUSE, LEFT, REPORT, QUIET],
 };
 
 pub(crate) fn run_row() -> Subcommand {
@@ -172,7 +142,6 @@ pub(crate) fn run_task<'a>(given: &Given<'a>) -> Result<RunTask<'a>, &'static st
         names: RunNames {
             line: given.word("LINE"),
             script: given.script(),
-            capture: given.text("capture"),
         },
         fuse,
         reports: given.has("report"),

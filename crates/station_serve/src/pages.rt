@@ -1,9 +1,8 @@
 //! The subcommands that print of the program itself: `explain`, `completions` and `man`.
 
-use command_line::{Argument, Given, Kind, Shell, Subcommand};
+use command_line::{Argument, EXPLAIN, Given, Kind, Shell, Subcommand};
 use station_files::Fault;
-use station_listing::{CODES, Code, find_code};
-use std::alloc::{AllocError, Global};
+use std::alloc::AllocError;
 use std::io::Write;
 
 /// What the manual page begins with.
@@ -12,13 +11,6 @@ pub(crate) const MANUAL_HEAD: &str = ".TH SII_STATION 1
 sii_station \\- reprograms the SII EEPROMs of a line of EtherCAT slaves
 ";
 
-const EXPLAINED: Argument = Argument {
-    id: "CODE",
-    kind: Kind::OptionalWord,
-    help: "The number or the name of a fault or a refusal",
-    long_help: "",
-};
-
 const SHELLS: &[&str] = &["bash", "zsh", "fish"];
 
 const WHICH_SHELL: Argument = Argument {
@@ -26,15 +18,6 @@ const WHICH_SHELL: Argument = Argument {
     kind: Kind::WordOf(SHELLS),
     help: "The shell: bash, zsh or fish",
     long_help: "",
-};
-
-const EXPLAIN: Subcommand = Subcommand {
-    name: "explain",
-    about: "Says what the code of a fault or a refusal means",
-    long_about: "Prints what the code of a fault or a refusal means, why it comes and what to do about it. Without CODE it prints that of all codes.",
-    after_help: "Example:\n  sii_station explain 15\n  sii_station explain BadCheck",
-    after_long_help: "",
-    arguments: &[EXPLAINED],
 };
 
 pub(crate) fn explain_row() -> Subcommand {
@@ -67,17 +50,6 @@ pub(crate) fn man_row() -> Subcommand {
     MAN
 }
 
-/// The code that `explain` is given, by its number or its name; `None` for all codes.
-pub(crate) fn code_of(given: &Given<'_>) -> Result<Option<Code>, &'static str> {
-    let Some(text) = given.text("CODE") else {
-        return Ok(None);
-    };
-    match find_code(text) {
-        Some(code) => Ok(Some(code)),
-        None => Err("CODE is the number or the name of a fault or a refusal"),
-    }
-}
-
 /// The shell that `completions` is given: one of the three.
 pub(crate) fn shell_of(given: &Given<'_>) -> Shell {
     match given.word("SHELL") {
@@ -100,30 +72,4 @@ pub(crate) fn print_page<W: Write>(
     output.write_all(text.as_bytes())?;
     output.flush()?;
     Ok(())
-}
-
-/// What a code means, why it occurs and what to do about it; without a code, this for all codes.
-pub(crate) fn explanation(alloc: Global, code: Option<Code>) -> Result<String, AllocError> {
-    match code {
-        Some(code) => paragraph(alloc, code),
-        None => all_paragraphs(alloc),
-    }
-}
-
-/// What the program prints of one code.
-fn paragraph(alloc: Global, code: Code) -> Result<String, AllocError> {
-    let explanation = code.entry().explanation;
-    format!(in alloc; "{code}: {explanation}\n")
-}
-
-/// The paragraphs of all codes, separated by empty lines.
-fn all_paragraphs(alloc: Global) -> Result<String, AllocError> {
-    let mut text = String::new(alloc);
-    for code in CODES {
-        if !text.is_empty() {
-            text.push_str("\n")?;
-        }
-        text.push_str(paragraph(alloc, code)?.as_str())?;
-    }
-    Ok(text)
 }

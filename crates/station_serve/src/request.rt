@@ -4,15 +4,15 @@ use crate::arguments::{VERBOSE, form_of};
 use crate::images::{ImageTask, alias_row, alias_task, diff_row, diff_task, show_row, show_task};
 use crate::line_listings::{journal_row, layout_row, plan_row};
 use crate::line_work::{RunTask, init_row, recover_row, run_row, run_task};
-use crate::pages::{MANUAL_HEAD, code_of, completions_row, explain_row, man_row, shell_of};
+use crate::pages::{MANUAL_HEAD, completions_row, explain_row, man_row, shell_of};
 use command_line::{
     Argument, Given, Program, Shell, Subcommand, Unread, completion_script, manual_page,
     read_typed, read_words, refuse,
 };
-use station_json::Form;
-use station_listing::Code;
+use station_rows::Form;
 use station_session::RunNames;
 use std::alloc::{AllocError, Global};
+use wire_faults::code_asked;
 
 /// What a command line asks for: a subcommand with its arguments.
 #[derive(Clone, Copy)]
@@ -65,8 +65,8 @@ pub enum Task<'a> {
     Man,
     /// Explains one code, or all of them.
     Explain {
-        /// The code; `None` for all codes.
-        code: Option<Code>,
+        /// The number or the name of the code; `None` for all codes.
+        code: Option<&'a str>,
     },
 }
 
@@ -183,7 +183,7 @@ fn task_of<'a>(given: &Given<'a>) -> Result<Task<'a>, &'static str> {
         "diff" => Ok(Task::Image(diff_task(given)?)),
         "run" => Ok(Task::Run(run_task(given)?)),
         "explain" => Ok(Task::Explain {
-            code: code_of(given)?,
+            code: code_asked(given.text("CODE"))?,
         }),
         _ => plain_task(given),
     }

@@ -1,9 +1,8 @@
 //! The program as a function of its arguments and streams.
 
-use crate::images::{files_of_images, serve_image};
-use crate::line_listings::list_layout;
+use crate::images::{reads_input, serve_image};
 use crate::line_work::{serve_recovery, serve_run};
-use crate::pages::{explanation, print_page};
+use crate::pages::print_page;
 use crate::request::{Request, Task, completions_for, manual_of, read_arguments};
 use crate::streams::Streams;
 use command_line::{INPUT, InputScript, Script, Unread};
@@ -11,12 +10,14 @@ use line_watch::Progress;
 use station_files::{ExitStatus, Failure, Failures, Fault, Store, report_fault};
 use station_line::init_line;
 use station_plan::{plan_script, show_journal};
+use station_rows::show_layout;
 use station_session::{Answers, Watch};
-use station_troubles::{Files, LineNames, Remembering, tell_more};
+use station_troubles::{INPUT_OR_OUTPUT, Noting, OUTPUT, tell_more};
 use std::io::{Read, Write};
 use std::rt::Clock;
 use std::sync::Wait;
 use std::thread::Threads;
+use wire_faults::explain;
 
 /// Carries out a command line and returns the exit status: 0 done, 1 a command was refused or two images differ, 2 wrong
 /// usage, 3 a file or its form, 4 a device or a power cut, 5 out of memory. The first argument is the program's name.
@@ -105,57 +106,31 @@ fn serve_and_tell<
     store: &mut S,
     streams: Streams<'_, W, E>,
 ) -> ExitStatus {
-    let alloc = watch.rt.alloc();
     let Streams { output, faults } = streams;
-    let mut known = Remembering::new(alloc, store, is_told);
+    let mut noting = Noting::new(watch.rt.alloc(), store, is_told);
     let mut failures = Failures::none();
     let answers = Answers {
         output,
         failures: &mut failures,
     };
-    let status = serve_task(watch, task, input, &mut known, answers);
+    let status = serve_task(watch, task, input, &mut noting, answers);
     failures.print(faults);
     match failures.first() {
         Some(failure) if is_told => {
-            let files = files_of(task);
-            tell_more(
-                alloc,
-                "sii_station",
-                failure.code(),
-                files,
-                &mut known,
-                faults,
-            );
+            let told = noting.told(failure.code(), streams_of(task));
+            tell_more("sii_station", failure.code(), told, faults);
         }
         _ => {}
     }
     status
 }
 
-/// The files that a task reads.
-fn files_of(task: Task<'_>) -> Files<'_> {
+/// What is told of the streams of a task, where one of them fails.
+fn streams_of(task: Task<'_>) -> &'static str {
     match task {
-        Task::Image(image) => files_of_images(image),
-        Task::Explain { .. } | Task::Completions { .. } | Task::Man => Files::Nothing,
-        Task::Layout { line, .. }
-        | Task::Init { line }
-        | Task::Recover { line, .. }
-        | Task::Journal { line, .. } => line_files(line, None),
-        Task::Plan { line, script, .. } => line_files(line, Some(script)),
-        Task::Run(run) => Files::Line(LineNames {
-            line: run.names.line,
-            script: Some(run.names.script),
-            capture: run.names.capture,
-        }),
+        Task::Image(image) if reads_input(image) => INPUT_OR_OUTPUT,
+        _ => OUTPUT,
     }
-}
-
-fn line_files<'a>(line: &'a str, script: Option<&'a str>) -> Files<'a> {
-    Files::Line(LineNames {
-        line,
-        script,
-        capture: None,
-    })
 }
 
 /// Carries out a task.
@@ -180,8 +155,8 @@ fn serve_task<
             return serve_recovery(watch, line, reports, store, Answers { output, failures });
         }
         Task::Image(image) => serve_image(alloc, image, input, store, output),
-        Task::Layout { line, form } => done(list_layout(alloc, line, form, store, output)),
-        Task::Explain { code } => done(print_page(explanation(alloc, code), output)),
+        Task::Layout { line, form } => done(show_layout(alloc, line, form, store, output)),
+        Task::Explain { code } => done(explain(alloc, code, output)),
         Task::Completions { shell } => done(print_page(completions_for(alloc, shell), output)),
         Task::Man => done(print_page(manual_of(alloc), output)),
         Task::Init { line } => done(init_line(alloc, line, store, output)),

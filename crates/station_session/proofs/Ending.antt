@@ -26,7 +26,7 @@ use Rattle.station_line.specs.Judging.{HasJournal, IsRunApart}
 use Rattle.station_line.specs.Site.{files_of, HoldsSite}
 use Rattle.station_line.specs.Rounds.{ServesSo}
 use Rattle.station_line.specs.Opened.{is_old, Loads, StartsFrom}
-use Rattle.station_session.specs.Session.{BeginsCapture, EndsCaptured, EndsRecovery, EndsRun, EndsStation, RecoversFiles, RunsFiles, SavedSoundly}
+use Rattle.station_session.specs.Session.{EndsRecovery, EndsRun, EndsStation, RecoversFiles, RunsFiles, SavedSoundly}
 use Rattle.station_session.specs.Session.{SavesRecovered}
 use Rattle.script_session.specs.Saving.{SavesRun, SavesServed}
 
@@ -77,12 +77,6 @@ ends-opened is_cut old new line site was_old opened commands status by_version s
   others = ends.others;
   saved = λ good. record { opened = opened; starts = subst (λ (b : Bool). StartsFrom b site opened) by_version starts; serves = ends.saved good };
 }
-
--- the same where the site got another device before it was opened
-pub ends-opened-as : (is_cut : Bool) (old new : Known) (line : LineFile) (site other : SiteValue) (was_old : Bool) (opened : Station) (commands : List Command) (status : ExitStatus) → other ≡ site → was_old ≡ is_old site.seen.state.disk.bytes
-    → StartsFrom was_old other opened → EndsStation is_cut old new line opened commands status → EndsRun is_cut old new line site commands status
-ends-opened-as is_cut old new line site other was_old opened commands status same by_version starts ends =
-    ends-opened is_cut old new line site was_old opened commands status by_version (subst (λ (s : SiteValue). StartsFrom was_old s opened) same starts) ends
 
 -- ---- on files that were opened
 
@@ -161,31 +155,20 @@ ends-recovered old new line before s left asked saved one other final is_recover
           );
     }
 
--- ---- a capture
+-- ---- a fault that is told behind a run
 
--- a fault of the capture ends the run as a fault, or the status stays
+-- it ends the run as a fault, or the status stays
 pub told-too : (is_cut : Bool) (old new : Known) (line : LineFile) (site : SiteValue) (commands : List Command) (status final : ExitStatus) → EndsRun is_cut old new line site commands status → (final ≡ status) ⊎ (¬ IsFaultless final)
     → EndsRun is_cut old new line site commands final
 told-too is_cut old new line site commands status final ends (inl same) = subst (λ (s : ExitStatus). EndsRun is_cut old new line site commands s) (sym same) ends
 told-too is_cut old new line site commands status final ends (inr bad) = record { others = ends.others; saved = λ good. absurd (bad good) }
 
-pub ends-captured : (is_cut : Bool) (capture : Option (List ℕ)) (old begun new : Known) (line : LineFile) (site : SiteValue) (commands : List Command) (status final : ExitStatus) → BeginsCapture capture old begun
-    → EndsRun is_cut begun new line site commands status → (final ≡ status) ⊎ (¬ IsFaultless final) → EndsCaptured is_cut capture old new line site commands final
-ends-captured is_cut capture old begun new line site commands status final begins ends told =
-    record { begun = begun; captured = begins; ends = told-too is_cut begun new line site commands status final ends told }
-
--- the capture couldn't be begun
-pub ends-uncaptured : (is_cut : Bool) (capture : Option (List ℕ)) (old new : Known) (line : LineFile) (site : SiteValue) (commands : List Command) (status : ExitStatus) → BeginsCapture capture old new → ¬ IsFaultless status
-    → EndsCaptured is_cut capture old new line site commands status
-ends-uncaptured is_cut capture old new line site commands status begins bad =
-    record { begun = new; captured = begins; ends = ends-unopened is_cut new new line site commands status (λ other out. refl) bad }
-
 -- ---- the whole
 
-pub runs : (leads : Leads) (is_cut : Bool) (capture : Option (List ℕ)) (old loaded new : Known) (name script : List ℕ) (line : LineFile) (site : SiteValue) (commands : List Command) (status : ExitStatus) → Loads old name line site → IsRunApart leads capture line name script
-    → HasJournal site.line.sizes site.seen.state.disk.bytes → SpellsCommands old script commands → loaded ≡ old → EndsCaptured is_cut capture loaded new line site commands status → RunsFiles leads is_cut capture old new name script status
-runs leads is_cut capture old loaded new name script line site commands status given apart journal spelt same ends =
-    let P : Known → Type 0 = λ files. EndsCaptured is_cut capture files new line site commands status in
+pub runs : (leads : Leads) (is_cut : Bool) (old loaded new : Known) (name script : List ℕ) (line : LineFile) (site : SiteValue) (commands : List Command) (status : ExitStatus) → Loads old name line site → IsRunApart leads None line name script
+    → HasJournal site.line.sizes site.seen.state.disk.bytes → SpellsCommands old script commands → loaded ≡ old → EndsRun is_cut loaded new line site commands status → RunsFiles leads is_cut old new name script status
+runs leads is_cut old loaded new name script line site commands status given apart journal spelt same ends =
+    let P : Known → Type 0 = λ files. EndsRun is_cut files new line site commands status in
     record { line = line; site = site; loaded = given; apart = apart; journal = journal; commands = commands; spelt = spelt; ends = subst P same ends }
 
 pub recovers : (leads : Leads) (old loaded new : Known) (name : List ℕ) (line : LineFile) (site : SiteValue) (status : ExitStatus) (asked : Option (List Asked)) → Loads old name line site → IsLineApart leads line name → HasJournal site.line.sizes site.seen.state.disk.bytes → loaded ≡ old

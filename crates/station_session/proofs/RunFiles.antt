@@ -528,7 +528,7 @@ desk_told F told station commands one final bad (served ending site sound parts 
     served ending site sound parts desk (λ closed. behind_told (OfFiles F told) ending.is_driven sound commands site.seen one final (λ was. bad)
     (closes closed))
 
--- a fault of the capture ends the run as a fault, or the status stays
+-- a fault that is told behind a run ends it as a fault, or the status stays
 pub told_as : (F : Type 0) (before : Seen) (commands : List Command) (one final : ExitStatus) (told : RunTold FileTold) → (final ≡ one) ⊎ (¬ IsFaultless final)
     → RunKeepsFiles F before commands one told → RunKeepsFiles F before commands final told
 told_as F before commands one final told (inl same) kept = subst (λ (s : ExitStatus). RunKeepsFiles F before commands s told) (sym same) kept

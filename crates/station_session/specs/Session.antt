@@ -1,5 +1,5 @@
 -- `run` and `recover`: what is read from the files of a line, how the station starts, and what the files hold in the end.
-use Rattle.std.specs.Prelude.{◌≡◌, Bool, List, [], Option, None, Some, is_some, unwrap_or, ℕ, ⊤, Result, IfSome, OnOk, IsTrue}
+use Rattle.std.specs.Prelude.{◌≡◌, Bool, List, [], Option, None, is_some, unwrap_or, ℕ, ⊤, Result, IfSome, OnOk, IsTrue}
 use Rattle.sii_edit.specs.declared.command.Command.{Command}
 use Rattle.site_core.specs.State.{Seen}
 use Rattle.site_shadow.specs.Site.{SiteValue}
@@ -13,7 +13,7 @@ use Rattle.station_alone.specs.Recovery.{HasRecovered, BeginsRecovered}
 use Rattle.station_text.specs.declared.line_file.LineFile.{LineFile}
 use Rattle.station_files.specs.Faults.{IsFaultless}
 use Rattle.station_files.specs.declared.faults.Fault.{Fault}
-use Rattle.station_files.specs.Files.{Known, ChangesOnly, ChangesAmong}
+use Rattle.station_files.specs.Files.{Known, ChangesAmong}
 use Rattle.station_files.specs.FileNames.{IsLineApart}
 use Rattle.station_files.specs.Locations.{Leads}
 use Rattle.station_files.specs.ScriptFiles.{SpellsCommands}
@@ -76,26 +76,13 @@ pub record EndsRun (is_cut : Bool) (old new : Known) (line : LineFile) (site : S
   pub others : ChangesAmong old new (files_of line)
   pub saved : IsFaultless status → SavesRun is_cut new line site commands status
 
--- what a capture may change as it begins: its file, if there is a capture
-abbrev pub BeginsCapture : (capture : Option (List ℕ)) → (old new : Known) → Type 0
-BeginsCapture None old new = new ≡ old
-BeginsCapture (Some name) old new = ChangesOnly old new name
-
--- The capture was begun, if there is one, and then the run ended so.
-pub record EndsCaptured (is_cut : Bool) (capture : Option (List ℕ)) (old new : Known) (line : LineFile) (site : SiteValue)
-    (commands : List Command) (status : ExitStatus) : Type 0 where
-  pub begun : Known
-  pub captured : BeginsCapture capture old begun
-  pub ends : EndsRun is_cut begun new line site commands status
-
 -- The line and the script were read, their files stand apart, the journal is one, and the commands were run as far as the status says.
-pub record RunsFiles (leads : Leads) (is_cut : Bool) (capture : Option (List ℕ)) (old new : Known) (name script : List ℕ)
-    (status : ExitStatus) : Type 0 where
+pub record RunsFiles (leads : Leads) (is_cut : Bool) (old new : Known) (name script : List ℕ) (status : ExitStatus) : Type 0 where
   pub line : LineFile
   pub site : SiteValue
   pub loaded : Loads old name line site
-  pub apart : IsRunApart leads capture line name script
+  pub apart : IsRunApart leads None line name script
   pub journal : HasJournal site.line.sizes site.seen.state.disk.bytes
   pub commands : List Command
   pub spelt : SpellsCommands old script commands
-  pub ends : EndsCaptured is_cut capture old new line site commands status
+  pub ends : EndsRun is_cut old new line site commands status

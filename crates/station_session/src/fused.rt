@@ -7,7 +7,6 @@ ghost use Rattle.station_line.specs.Site.{files_of};
 ghost use Rattle.station_session.specs.Session.{EndsRun, EndsStation, IsRefusal};
 
 use crate::answers::Answers;
-use line_watch::{Capture, Captured};
 use sii_edit::Command;
 use site_journal::ReadFault;
 use site_mem::{FaultPlan, Pattern};
@@ -18,8 +17,6 @@ use station_line::{Given, Session, of_open, open_station, save_site, serve_comma
 use station_text::LineFile;
 use std::alloc::Global;
 use std::io::Write;
-use std::rt::Clock;
-use std::sync::Wait;
 
 /// A planned power cut of a run.
 #[derive(Clone, Copy)]
@@ -31,11 +28,10 @@ pub struct Fuse {
 }
 
 /// Opens the station on the line in memory, serves the commands up to the power cut, and saves what the line holds.
-pub(crate) fn run_fused<S: Store, W: Write, R: Wait + Clock + AllocGlobal>(
-    rt: &R,
+pub(crate) fn run_fused<S: Store, W: Write>(
+    alloc: Global,
     given: Given<S::Lock>,
     fuse: Fuse,
-    capture: Option<&Capture<S::File>>,
     store: &mut S,
     answers: Answers<'_, W>,
 ) -> ExitStatus
@@ -51,15 +47,13 @@ pub(crate) fn run_fused<S: Store, W: Write, R: Wait + Clock + AllocGlobal>(
         refusal: _,
         lock: _lock,
     } = session;
-    let site = site.with_device(Captured::new(FaultPlan::none(), capture, rt));
     // The sync at the opening of the station counts as a write too.
     let plan = FaultPlan::fused(u64::from(fuse.writes) + 1, Pattern::Fill(fuse.left));
-    let device = Captured::new(plan, capture, rt);
-    match open_station(rt.alloc(), site, is_old, Some(device)) {
-        Ok(alone) => run_station(rt.alloc(), &line, alone, commands, store, answers),
+    match open_station(alloc, site, is_old, Some(plan)) {
+        Ok(alone) => run_station(alloc, &line, alone, commands, store, answers),
         Err((left, fault)) => {
             drop(commands);
-            give_up(rt.alloc(), &line, left, fault, store, answers.failures)
+            give_up(alloc, &line, left, fault, store, answers.failures)
         }
     }
 }

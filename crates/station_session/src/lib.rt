@@ -3,7 +3,6 @@
 #![tactic(auto)]
 
 mod answers;
-mod capture;
 mod fused;
 mod on_files;
 mod recovery;
@@ -13,7 +12,6 @@ mod told;
 mod watch;
 
 pub use answers::Answers;
-pub use capture::{begin_capture, end_capture};
 pub use fused::Fuse;
 pub use recovery::{Recovery, recover_line};
 pub use run::{Ran, RunNames, run_script};

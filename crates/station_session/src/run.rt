@@ -1,18 +1,17 @@
 //! The subcommand `run`.
-ghost use Rattle.std.specs.Prelude.{◌≡◌, is_some, option_map, false, IfErr, IfOk, IsTrue, OnErr};
+ghost use Rattle.std.specs.Prelude.{◌≡◌, is_some, false, IfErr, IfOk, IsTrue, None, OnErr};
 ghost use Rattle.station_files.specs.Faults.{IsFaultless};
 ghost use Rattle.station_line.specs.Opened.{is_old, IsFresh};
 ghost use Rattle.station_line.specs.Refusals.{RefusesRun};
 ghost use Rattle.station_session.specs.RunFiles.{IsAllTold, IsNoneTold, KeepsRunFiles, RunKeepsFiles, RunsFollowed};
-ghost use Rattle.station_session.specs.Session.{EndsCaptured, EndsRun, RunsFiles};
+ghost use Rattle.station_session.specs.Session.{EndsRun, RunsFiles};
 
 use crate::answers::Answers;
-use crate::capture::{begin_capture, end_capture};
 use crate::fused::{Fuse, run_fused};
 use crate::threads::run_threads;
 use crate::told::{FilesTold, RunTold, Served, with_all_told};
 use crate::watch::Watch;
-use line_watch::{Capture, Captured, Cleared, Watched};
+use line_watch::{Cleared, Watched};
 use sii_edit::Command;
 use site_file::{FileDevice, FileTold, OpenFiles};
 use site_mem::FaultPlan;
@@ -32,14 +31,12 @@ pub struct RunNames<'a> {
     pub line: &'a str,
     /// The script.
     pub script: &'a str,
-    /// The capture, if one is written.
-    pub capture: Option<&'a str>,
 }
 
 /// How far a run came, its exit status, and what was asked of the files of its line.
 #[derive(Drop)]
 pub struct Ran {
-    /// Whether it began. If not, a file of the line couldn't be opened, or the capture couldn't begin, and no device has had these files.
+    /// Whether it began. If not, a file of the line couldn't be opened, and no device has had these files.
     pub is_begun: bool,
     /// The exit status.
     pub status: ExitStatus,
@@ -80,10 +77,6 @@ struct Ready<D> {
 ///
 /// With a fuse, the commands are served on one thread on a copy of the line in memory, and what the power cut leaves is saved.
 ///
-/// Each frame is written down in the capture, if one is named. It begins once all files are read and the journal is judged. Where it can't,
-/// the fault is noted, and no file of the line is written. If it can't be written further, the run goes on as without it, and the fault is
-/// noted behind all others.
-///
 /// Without a fuse, the progress of `watch` counts what is done, if there is one. Its line is erased before anything is printed, and at the
 /// end.
 ///
@@ -102,74 +95,20 @@ pub fn run_script<
     store: &mut S,
     answers: Answers<'_, W>,
 ) -> Result<Ran, Fault>
-    ensures ran { IfOk result (λ ran. RunsFiles S.leads (is_some fuse) (option_map (λ given. given.now) names.entry.capture)
-        (S.files store.old) (S.files store.new) names.entry.line.now names.entry.script.now ran.status) }
+    ensures ran { IfOk result (λ ran. RunsFiles S.leads (is_some fuse) (S.files store.old) (S.files store.new) names.entry.line.now
+        names.entry.script.now ran.status) }
     ensures begun { IfOk result (λ ran. IsFaultless ran.status → IsTrue ran.is_begun) }
     ensures kept { is_some fuse ≡ false → IfOk result (λ ran. IsTrue ran.is_begun
         → KeepsRunFiles S.File (S.files store.old) names.entry.line.now names.entry.script.now ran.status ran.told) }
     ensures told { is_some fuse ≡ false → IfOk result (λ ran. IsFaultless ran.status → IsAllTold ran.told) }
     ensures unbegun { IfOk result (λ ran. ran.is_begun ≡ false → IsNoneTold ran.told) }
-    ensures refused { IfErr result (RefusesRun (S.files store.old) S.leads (option_map (λ given. given.now) names.entry.capture)
-        names.entry.line.now names.entry.script.now) }
+    ensures refused { IfErr result (RefusesRun (S.files store.old) S.leads None names.entry.line.now names.entry.script.now) }
     ensures same { OnErr result (S.files store.new ≡ S.files store.old) }
 {
-    let RunNames {
-        line,
-        script,
-        capture,
-    } = names;
-    match load(watch.rt.alloc(), line, script, capture, store) {
-        Ok(given) => Ok(run_captured(watch, given, fuse, capture, store, answers)),
+    let RunNames { line, script } = names;
+    match load(watch.rt.alloc(), line, script, None, store) {
+        Ok(given) => Ok(run_given(watch, given, fuse, store, answers)),
         Err(fault) => Err(fault),
-    }
-}
-
-/// Begins the capture, if a file is named for it, serves the commands, and ends the capture.
-fn run_captured<
-    S: Store,
-    W: Write,
-    T: Write + Send,
-    R: Wait + Threads + Clock + AllocGlobal + Sync,
->(
-    watch: Watch<'_, T, R>,
-    given: Given<S::Lock>,
-    fuse: Option<Fuse>,
-    capture: Option<&str>,
-    store: &mut S,
-    answers: Answers<'_, W>,
-) -> Ran
-    requires fresh { IsFresh given.session.line given.session.site }
-    requires old { given.session.is_old ≡ is_old given.session.site.seen.state.disk.bytes }
-    ensures ends { EndsCaptured (is_some fuse) (option_map (λ given. given.now) capture.entry) (S.files store.old) (S.files store.new)
-        given.session.line given.session.site given.commands.items result.status }
-    ensures begun { IsFaultless result.status → IsTrue result.is_begun }
-    ensures kept { is_some fuse ≡ false → IsTrue result.is_begun
-        → RunKeepsFiles S.File given.session.site.seen given.commands.items result.status result.told }
-    ensures told { is_some fuse ≡ false → IsFaultless result.status → IsAllTold result.told }
-    ensures unbegun { result.is_begun ≡ false → IsNoneTold result.told }
-{
-    let Answers { output, failures } = answers;
-    let begun = match begin_capture(capture, store) {
-        Ok(begun) => begun,
-        Err(fault) => {
-            drop(given);
-            return Ran::without_files(false, failures.note(fault));
-        }
-    };
-    let lent = Answers {
-        output,
-        failures: &mut *failures,
-    };
-    let ran = run_given(watch, given, fuse, begun.as_ref(), store, lent);
-    let Ran {
-        is_begun,
-        status,
-        told,
-    } = ran;
-    Ran {
-        is_begun,
-        status: end_capture(begun, status, failures),
-        told,
     }
 }
 
@@ -178,7 +117,6 @@ fn run_given<S: Store, W: Write, T: Write + Send, R: Wait + Threads + Clock + Al
     watch: Watch<'_, T, R>,
     given: Given<S::Lock>,
     fuse: Option<Fuse>,
-    capture: Option<&Capture<S::File>>,
     store: &mut S,
     answers: Answers<'_, W>,
 ) -> Ran
@@ -194,7 +132,7 @@ fn run_given<S: Store, W: Write, T: Write + Send, R: Wait + Threads + Clock + Al
 {
     match fuse {
         Some(fuse) => {
-            let status = run_fused(watch.rt, given, fuse, capture, store, answers);
+            let status = run_fused(watch.rt.alloc(), given, fuse, store, answers);
             Ran::without_files(true, status)
         }
         None => match open_files(
@@ -204,7 +142,7 @@ fn run_given<S: Store, W: Write, T: Write + Send, R: Wait + Threads + Clock + Al
             store,
         ) {
             Ok(files) => {
-                let served = run_opened(watch, given, files, capture, store, answers);
+                let served = run_opened(watch, given, files, store, answers);
                 Ran {
                     is_begun: true,
                     status: served.status,
@@ -220,17 +158,10 @@ fn run_given<S: Store, W: Write, T: Write + Send, R: Wait + Threads + Clock + Al
 }
 
 /// Serves the commands by threads on the open files of the line. The line of the progress gives way to what is printed.
-fn run_opened<
-    'a,
-    S: Store,
-    W: Write,
-    T: Write + Send,
-    R: Wait + Threads + Clock + AllocGlobal + Sync,
->(
-    watch: Watch<'a, T, R>,
+fn run_opened<S: Store, W: Write, T: Write + Send, R: Wait + Threads + Clock + AllocGlobal + Sync>(
+    watch: Watch<'_, T, R>,
     given: Given<S::Lock>,
     files: OpenFiles<S::File>,
-    capture: Option<&'a Capture<S::File>>,
     store: &mut S,
     answers: Answers<'_, W>,
 ) -> Served<FileTold>
@@ -251,10 +182,9 @@ fn run_opened<
         lock: _lock,
     } = session;
     watch.expect(commands.len());
-    let device = Watched::new(FileDevice::new(files), progress, rt);
     let ready = Ready {
         site,
-        device: Captured::new(device, capture, rt),
+        device: Watched::new(FileDevice::new(files), progress, rt),
         is_old,
         commands,
     };

@@ -6,30 +6,22 @@ ghost use Rattle.toml.specs.View.{view, table_view};
 ghost use Rattle.station_text.specs.Document.{HasNumberBelow, IsNumberBelow, has_only, is_known, table_at, text_at, values_at, values_of};
 ghost use Rattle.station_text.specs.Reading.{Finds, Reads};
 
+use crate::fault::ValueFault;
 use std::alloc::Global;
 use toml::{Table, Value};
-
-/// Why a text gives no document.
-#[derive(Clone, Copy)]
-pub enum DocumentFault {
-    /// Memory was refused.
-    Memory,
-    /// The text is not a TOML document.
-    NoDocument,
-}
 
 /// Reads a TOML document; its top level is a table.
 ///
 /// # Errors
 ///
-/// `Memory`; `NoDocument` where the text is not TOML.
-pub fn read_document(alloc: Global, text: &str) -> Result<Table, DocumentFault>
-    ensures { Reads DocumentFault.Memory table_view (λ document. parse_document text.now ≡ Some document) result }
+/// `Memory`; `Malformed` where the text is not TOML.
+pub fn read_document(alloc: Global, text: &str) -> Result<Table, ValueFault>
+    ensures { Reads ValueFault.Memory table_view (λ document. parse_document text.now ≡ Some document) result }
 {
     match toml::table_from_str(alloc, text) {
         Ok(table) => Ok(table),
-        Err(error) if error.is_memory() => Err(DocumentFault::Memory),
-        Err(_) => Err(DocumentFault::NoDocument),
+        Err(error) if error.is_memory() => Err(ValueFault::Memory),
+        Err(_) => Err(ValueFault::Malformed),
     }
 }
 

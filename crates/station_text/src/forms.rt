@@ -4,7 +4,7 @@ use std::fmt;
 use toml::Value;
 
 /// What a value has to be.
-#[derive(Clone, Copy)]
+#[derive(Clone, Copy, Debug)]
 pub enum Shape {
     /// A text.
     Text,

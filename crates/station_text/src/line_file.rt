@@ -8,8 +8,11 @@ ghost use Rattle.station_text.specs.Document.{text_at, values_at};
 ghost use Rattle.station_text.specs.LineText.{AreImages, Describes, IsArea, NamesImage};
 ghost use Rattle.station_text.specs.Reading.{Reads};
 
-use crate::document::{DocumentFault, find, find_text, find_values, has_only, read_document};
-use std::alloc::{AllocError, AllocFailed, Global};
+use crate::document::{find, find_text, find_values, has_only, read_document};
+use crate::fault::ValueFault;
+use crate::flaws::{TextKind, TextTrouble, trouble_of};
+use std::alloc::Global;
+use thiserror::Error;
 use toml::{Table, Value};
 
 /// The size of the journal's area in bytes if the line file has no key `area`.
@@ -31,12 +34,14 @@ pub struct LineFile {
 }
 
 /// Why a text gives no line file.
-#[derive(Clone, Copy)]
+#[derive(Debug, Drop, Error)]
 pub enum LineFault {
     /// Memory was refused.
+    #[error("out of memory")]
     Memory,
-    /// The text is not a line file.
-    BadLine,
+    /// The text is not a line file. What is wrong there is told, unless memory was refused for that.
+    #[error("the text is no line file")]
+    BadLine(Option<TextTrouble>),
 }
 
 /// Reads a line file in TOML: the key `journal`, an optional key `area`, an array of 1 to 64 tables `slave`, each with the key `image`, and no
@@ -50,16 +55,31 @@ pub fn read_line(alloc: Global, text: &str) -> Result<LineFile, LineFault>
     ensures { Reads LineFault.Memory (λ line. line) (λ line.
         IsSomeAnd (parse_document text.now) (λ document. Describes document line.journal line.area line.images.items)) result }
 {
+    match line_in(alloc, text) {
+        Ok(line) => Ok(line),
+        Err(ValueFault::Memory) => Err(LineFault::Memory),
+        Err(ValueFault::Malformed) => {
+            let trouble = trouble_of(alloc, text, TextKind::Line);
+            Err(LineFault::BadLine(trouble.ok()))
+        }
+    }
+}
+
+/// The line that a text describes.
+fn line_in(alloc: Global, text: &str) -> Result<LineFile, ValueFault>
+    ensures { Reads ValueFault.Memory (λ line. line) (λ line.
+        IsSomeAnd (parse_document text.now) (λ document. Describes document line.journal line.area line.images.items)) result }
+{
     let table = read_document(alloc, text)?;
     line_of(alloc, &table)
 }
 
-fn line_of(alloc: Global, table: &Table) -> Result<LineFile, LineFault>
-    ensures { Reads LineFault.Memory (λ line. line) (λ line.
+fn line_of(alloc: Global, table: &Table) -> Result<LineFile, ValueFault>
+    ensures { Reads ValueFault.Memory (λ line. line) (λ line.
         Describes (table_view table.now) line.journal line.area line.images.items) result }
 {
     if !has_only(table, &["journal", "area", "slave"]) {
-        return Err(LineFault::BadLine);
+        return Err(ValueFault::Malformed);
     }
     let journal = read_name(alloc, table, "journal")?;
     let area = read_area(table)?;
@@ -72,46 +92,46 @@ fn line_of(alloc: Global, table: &Table) -> Result<LineFile, LineFault>
 }
 
 /// The file name at a key.
-fn read_name(alloc: Global, table: &Table, key: &str) -> Result<String, LineFault>
-    ensures { Reads LineFault.Memory (λ name. name) (λ name. text_at key.now (table_view table.now) ≡ Some (string_bytes name)) result }
+fn read_name(alloc: Global, table: &Table, key: &str) -> Result<String, ValueFault>
+    ensures { Reads ValueFault.Memory (λ name. name) (λ name. text_at key.now (table_view table.now) ≡ Some (string_bytes name)) result }
 {
     match find_text(table, key) {
         Some(name) => Ok(String::from_str(alloc, name)?),
-        None => Err(LineFault::BadLine),
+        None => Err(ValueFault::Malformed),
     }
 }
 
-fn read_area(table: &Table) -> Result<u32, LineFault>
-    ensures { Reads LineFault.Memory (λ area. area) (IsArea (get_member (codes "area") (table_view table.now))) result }
+fn read_area(table: &Table) -> Result<u32, ValueFault>
+    ensures { Reads ValueFault.Memory (λ area. area) (IsArea (get_member (codes "area") (table_view table.now))) result }
 {
     let Some(value) = find(table, "area") else {
         return Ok(DEFAULT_AREA);
     };
     let Some(area) = value.as_integer() else {
-        return Err(LineFault::BadLine);
+        return Err(ValueFault::Malformed);
     };
     match u32::try_from(area) {
         Ok(area @ 4_096..=4_194_304) => Ok(area),
-        _ => Err(LineFault::BadLine),
+        _ => Err(ValueFault::Malformed),
     }
 }
 
-fn read_images(alloc: Global, table: &Table) -> Result<Vec<String>, LineFault>
-    ensures { Reads LineFault.Memory (λ images. images.items) (λ images.
+fn read_images(alloc: Global, table: &Table) -> Result<Vec<String>, ValueFault>
+    ensures { Reads ValueFault.Memory (λ images. images.items) (λ images.
         IsSomeAnd (values_at (codes "slave") (table_view table.now)) (λ slaves. AreImages slaves images)) result }
 {
     match find_values(table, "slave") {
         Some(slaves) => read_image_names(alloc, slaves),
-        None => Err(LineFault::BadLine),
+        None => Err(ValueFault::Malformed),
     }
 }
 
 /// The image file names of 1 to 64 slaves.
-fn read_image_names(alloc: Global, slaves: &[Value]) -> Result<Vec<String>, LineFault>
-    ensures { Reads LineFault.Memory (λ images. images.items) (AreImages (map view slaves.now)) result }
+fn read_image_names(alloc: Global, slaves: &[Value]) -> Result<Vec<String>, ValueFault>
+    ensures { Reads ValueFault.Memory (λ images. images.items) (AreImages (map view slaves.now)) result }
 {
     if slaves.is_empty() || slaves.len() > 64 {
-        return Err(LineFault::BadLine);
+        return Err(ValueFault::Malformed);
     }
     let mut images = Vec::with_capacity(alloc, slaves.len())?;
     for slave in slaves {
@@ -121,45 +141,11 @@ fn read_image_names(alloc: Global, slaves: &[Value]) -> Result<Vec<String>, Line
 }
 
 /// The image file name of one slave.
-fn read_image_name(alloc: Global, slave: &Value) -> Result<String, LineFault>
-    ensures { Reads LineFault.Memory (λ name. name) (NamesImage (view slave.now)) result }
+fn read_image_name(alloc: Global, slave: &Value) -> Result<String, ValueFault>
+    ensures { Reads ValueFault.Memory (λ name. name) (NamesImage (view slave.now)) result }
 {
     match slave.as_table() {
         Some(table) if has_only(table, &["image"]) => read_name(alloc, table, "image"),
-        _ => Err(LineFault::BadLine),
-    }
-}
-
-impl From<AllocError> for LineFault {
-    ghost use Rattle.station_text.specs.declared.line_file.LineFault.TheVariants.{Memory};
-
-    ghost from_gives = { λ _ fault. fault ≡ Memory };
-
-    fn from(_: AllocError) -> Self {
-        LineFault::Memory
-    }
-}
-
-impl<T: Drop> From<AllocFailed<T>> for LineFault {
-    ghost use Rattle.station_text.specs.declared.line_file.LineFault.TheVariants.{Memory};
-
-    ghost from_gives = { λ _ fault. fault ≡ Memory };
-
-    fn from(_: AllocFailed<T>) -> Self {
-        LineFault::Memory
-    }
-}
-
-impl From<DocumentFault> for LineFault {
-    ghost use Rattle.station_text.specs.declared.document.DocumentFault.TheVariants as documents;
-    ghost use Rattle.station_text.specs.declared.line_file.LineFault.TheVariants.{Memory};
-
-    ghost from_gives = { λ fault given. fault ≡ documents.Memory → given ≡ Memory };
-
-    fn from(fault: DocumentFault) -> Self {
-        match fault {
-            DocumentFault::Memory => LineFault::Memory,
-            DocumentFault::NoDocument => LineFault::BadLine,
-        }
+        _ => Err(ValueFault::Malformed),
     }
 }

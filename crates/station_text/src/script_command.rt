@@ -10,9 +10,10 @@ ghost use Rattle.station_text.specs.ScriptText.{SpellsAlias, SpellsCategory, Spe
 use crate::document::{
     find, find_number, find_table, find_text, find_values, find_wide_number, has_only, read_number,
 };
-use crate::hexadecimal::{HexFault, read_hex_words};
+use crate::fault::ValueFault;
+use crate::hexadecimal::read_hex_words;
 use sii_edit::{Expect, WordList};
-use std::alloc::{AllocError, AllocFailed, Global};
+use std::alloc::Global;
 use toml::{Table, Value};
 
 /// A command of a script. Its images are still file names.
@@ -63,43 +64,34 @@ pub struct ScriptGroupEdit {
     pub edit: ScriptEdit,
 }
 
-/// Why a value gives no command.
-#[derive(Clone, Copy)]
-pub enum CommandFault {
-    /// Memory was refused.
-    Memory,
-    /// The value is not a command.
-    Malformed,
-}
-
 /// Reads a command: a table with one key, which names the kind of the command.
 ///
 /// # Errors
 ///
 /// `Malformed` where the value is not a table of this form; `Memory` at any point.
-pub fn read_command(alloc: Global, value: &Value) -> Result<ScriptCommand, CommandFault>
-    ensures { Reads CommandFault.Memory (λ command. command) (SpellsCommand (view value.now)) result }
+pub fn read_command(alloc: Global, value: &Value) -> Result<ScriptCommand, ValueFault>
+    ensures { Reads ValueFault.Memory (λ command. command) (SpellsCommand (view value.now)) result }
 {
     match value.as_table() {
         Some(table) => read_table_command(alloc, table),
-        None => Err(CommandFault::Malformed),
+        None => Err(ValueFault::Malformed),
     }
 }
 
-fn read_table_command(alloc: Global, table: &Table) -> Result<ScriptCommand, CommandFault>
-    ensures { Reads CommandFault.Memory (λ command. command) (SpellsTableCommand (table_view table.now)) result }
+fn read_table_command(alloc: Global, table: &Table) -> Result<ScriptCommand, ValueFault>
+    ensures { Reads ValueFault.Memory (λ command. command) (SpellsTableCommand (table_view table.now)) result }
 {
     if has_only(table, &["swap"]) {
         return match read_swap(table) {
             Some((a, b)) => Ok(ScriptCommand::Swap { a, b }),
-            None => Err(CommandFault::Malformed),
+            None => Err(ValueFault::Malformed),
         };
     }
     if has_only(table, &["group"]) {
         return Ok(ScriptCommand::Group(read_group(alloc, table)?));
     }
     if find(table, "expect").is_some() {
-        return Err(CommandFault::Malformed);
+        return Err(ValueFault::Malformed);
     }
     Ok(ScriptCommand::One(read_edit(alloc, table)?))
 }
@@ -122,17 +114,17 @@ fn read_pair(a: &Value, b: &Value) -> Option<(u16, u16)>
 }
 
 /// Reads `group = [{ alias = { slave = 0, value = 1 } }]`.
-fn read_group(alloc: Global, table: &Table) -> Result<Vec<ScriptGroupEdit>, CommandFault>
-    ensures { Reads CommandFault.Memory (λ edits. edits.items) (SpellsGroup (table_view table.now)) result }
+fn read_group(alloc: Global, table: &Table) -> Result<Vec<ScriptGroupEdit>, ValueFault>
+    ensures { Reads ValueFault.Memory (λ edits. edits.items) (SpellsGroup (table_view table.now)) result }
 {
     match find_values(table, "group") {
         Some(values) => read_group_edits(alloc, values),
-        None => Err(CommandFault::Malformed),
+        None => Err(ValueFault::Malformed),
     }
 }
 
-fn read_group_edits(alloc: Global, values: &[Value]) -> Result<Vec<ScriptGroupEdit>, CommandFault>
-    ensures { Reads CommandFault.Memory (λ edits. edits.items) (AllZip SpellsGroupEdit (map view values.now)) result }
+fn read_group_edits(alloc: Global, values: &[Value]) -> Result<Vec<ScriptGroupEdit>, ValueFault>
+    ensures { Reads ValueFault.Memory (λ edits. edits.items) (AllZip SpellsGroupEdit (map view values.now)) result }
 {
     let mut edits = Vec::with_capacity(alloc, values.len())?;
     for value in values {
@@ -142,17 +134,17 @@ fn read_group_edits(alloc: Global, values: &[Value]) -> Result<Vec<ScriptGroupEd
 }
 
 /// Reads an edit of a group: a table with one edit, and `expect` beside it if the edit is guarded.
-fn read_group_edit(alloc: Global, value: &Value) -> Result<ScriptGroupEdit, CommandFault>
-    ensures { Reads CommandFault.Memory (λ one. one) (SpellsGroupEdit (view value.now)) result }
+fn read_group_edit(alloc: Global, value: &Value) -> Result<ScriptGroupEdit, ValueFault>
+    ensures { Reads ValueFault.Memory (λ one. one) (SpellsGroupEdit (view value.now)) result }
 {
     match value.as_table() {
         Some(table) => read_guarded_edit(alloc, table),
-        None => Err(CommandFault::Malformed),
+        None => Err(ValueFault::Malformed),
     }
 }
 
-fn read_guarded_edit(alloc: Global, table: &Table) -> Result<ScriptGroupEdit, CommandFault>
-    ensures { Reads CommandFault.Memory (λ one. one) (SpellsGuarded (table_view table.now)) result }
+fn read_guarded_edit(alloc: Global, table: &Table) -> Result<ScriptGroupEdit, ValueFault>
+    ensures { Reads ValueFault.Memory (λ one. one) (SpellsGuarded (table_view table.now)) result }
 {
     let expect = read_guard(table)?;
     let edit = read_edit(alloc, table)?;
@@ -160,15 +152,15 @@ fn read_guarded_edit(alloc: Global, table: &Table) -> Result<ScriptGroupEdit, Co
 }
 
 /// The identity at the key `expect`, if there is such a key.
-fn read_guard(table: &Table) -> Result<Option<Expect>, CommandFault>
-    ensures { Reads CommandFault.Memory (λ expect. expect) (SpellsGuard (get_member (codes "expect") (table_view table.now))) result }
+fn read_guard(table: &Table) -> Result<Option<Expect>, ValueFault>
+    ensures { Reads ValueFault.Memory (λ expect. expect) (SpellsGuard (get_member (codes "expect") (table_view table.now))) result }
 {
     let Some(guard) = find(table, "expect") else {
         return Ok(None);
     };
     match read_expect(guard) {
         Some(expect) => Ok(Some(expect)),
-        None => Err(CommandFault::Malformed),
+        None => Err(ValueFault::Malformed),
     }
 }
 
@@ -188,8 +180,8 @@ fn read_expect(value: &Value) -> Option<Expect>
 }
 
 /// Reads the edit at one of the keys `alias`, `category` and `image`. The only other key may be `expect`.
-fn read_edit(alloc: Global, table: &Table) -> Result<ScriptEdit, CommandFault>
-    ensures { Reads CommandFault.Memory (λ edit. edit) (SpellsEdit (table_view table.now)) result }
+fn read_edit(alloc: Global, table: &Table) -> Result<ScriptEdit, ValueFault>
+    ensures { Reads ValueFault.Memory (λ edit. edit) (SpellsEdit (table_view table.now)) result }
 {
     if has_only(table, &["alias", "expect"]) {
         return read_alias(table);
@@ -200,96 +192,62 @@ fn read_edit(alloc: Global, table: &Table) -> Result<ScriptEdit, CommandFault>
     if has_only(table, &["image", "expect"]) {
         return read_image_edit(alloc, table);
     }
-    Err(CommandFault::Malformed)
+    Err(ValueFault::Malformed)
 }
 
 /// Reads `alias = { slave = 0, value = 1 }`.
-fn read_alias(table: &Table) -> Result<ScriptEdit, CommandFault>
-    ensures { Reads CommandFault.Memory (λ edit. edit) (λ edit.
+fn read_alias(table: &Table) -> Result<ScriptEdit, ValueFault>
+    ensures { Reads ValueFault.Memory (λ edit. edit) (λ edit.
         IsSomeAnd (table_at (codes "alias") (table_view table.now)) (λ fields. SpellsAlias fields edit)) result }
 {
     let Some(fields) = find_table(table, "alias") else {
-        return Err(CommandFault::Malformed);
+        return Err(ValueFault::Malformed);
     };
     if !has_only(fields, &["slave", "value"]) {
-        return Err(CommandFault::Malformed);
+        return Err(ValueFault::Malformed);
     }
     match (find_number(fields, "slave"), find_number(fields, "value")) {
         (Some(slave), Some(value)) => Ok(ScriptEdit::Alias { slave, value }),
-        _ => Err(CommandFault::Malformed),
+        _ => Err(ValueFault::Malformed),
     }
 }
 
 /// Reads `category = { slave = 0, kind = 51, content = "0016" }`. The content is the bytes of whole words, low byte first.
-fn read_category(alloc: Global, table: &Table) -> Result<ScriptEdit, CommandFault>
-    ensures { Reads CommandFault.Memory (λ edit. edit) (λ edit.
+fn read_category(alloc: Global, table: &Table) -> Result<ScriptEdit, ValueFault>
+    ensures { Reads ValueFault.Memory (λ edit. edit) (λ edit.
         IsSomeAnd (table_at (codes "category") (table_view table.now)) (λ fields. SpellsCategory fields edit)) result }
 {
     let Some(fields) = find_table(table, "category") else {
-        return Err(CommandFault::Malformed);
+        return Err(ValueFault::Malformed);
     };
     if !has_only(fields, &["slave", "kind", "content"]) {
-        return Err(CommandFault::Malformed);
+        return Err(ValueFault::Malformed);
     }
     let (Some(slave), Some(kind), Some(content)) = (
         find_number(fields, "slave"),
         find_number(fields, "kind"),
         find_text(fields, "content"),
     ) else {
-        return Err(CommandFault::Malformed);
+        return Err(ValueFault::Malformed);
     };
     let words = WordList::from_vec(read_hex_words(alloc, content)?);
     Ok(ScriptEdit::Category { slave, kind, words })
 }
 
 /// Reads `image = { slave = 0, file = "new.bin" }`.
-fn read_image_edit(alloc: Global, table: &Table) -> Result<ScriptEdit, CommandFault>
-    ensures { Reads CommandFault.Memory (λ edit. edit) (λ edit.
+fn read_image_edit(alloc: Global, table: &Table) -> Result<ScriptEdit, ValueFault>
+    ensures { Reads ValueFault.Memory (λ edit. edit) (λ edit.
         IsSomeAnd (table_at (codes "image") (table_view table.now)) (λ fields. SpellsImage fields edit)) result }
 {
     let Some(fields) = find_table(table, "image") else {
-        return Err(CommandFault::Malformed);
+        return Err(ValueFault::Malformed);
     };
     if !has_only(fields, &["slave", "file"]) {
-        return Err(CommandFault::Malformed);
+        return Err(ValueFault::Malformed);
     }
     let (Some(slave), Some(name)) = (find_number(fields, "slave"), find_text(fields, "file")) else {
-        return Err(CommandFault::Malformed);
+        return Err(ValueFault::Malformed);
     };
     let file = String::from_str(alloc, name)?;
     Ok(ScriptEdit::Image { slave, file })
-}
-
-impl From<AllocError> for CommandFault {
-    ghost use Rattle.station_text.specs.declared.script_command.CommandFault.TheVariants.{Memory};
-
-    ghost from_gives = { λ _ fault. fault ≡ Memory };
-
-    fn from(_: AllocError) -> Self {
-        CommandFault::Memory
-    }
-}
-
-impl<T: Drop> From<AllocFailed<T>> for CommandFault {
-    ghost use Rattle.station_text.specs.declared.script_command.CommandFault.TheVariants.{Memory};
-
-    ghost from_gives = { λ _ fault. fault ≡ Memory };
-
-    fn from(_: AllocFailed<T>) -> Self {
-        CommandFault::Memory
-    }
-}
-
-impl From<HexFault> for CommandFault {
-    ghost use Rattle.station_text.specs.declared.hexadecimal.HexFault.TheVariants as digits;
-    ghost use Rattle.station_text.specs.declared.script_command.CommandFault.TheVariants.{Memory};
-
-    ghost from_gives = { λ fault given. fault ≡ digits.Memory → given ≡ Memory };
-
-    fn from(fault: HexFault) -> Self {
-        match fault {
-            HexFault::Memory => CommandFault::Memory,
-            HexFault::BadHex => CommandFault::Malformed,
-        }
-    }
 }

@@ -5,18 +5,28 @@ ghost use Rattle.toml.specs.View.{view, table_view};
 ghost use Rattle.station_text.specs.Reading.{Reads};
 ghost use Rattle.station_text.specs.ScriptText.{SpellsCommand, SpellsScript, SpellsScriptFile};
 
-use crate::document::{DocumentFault, find_values, has_only, read_document};
-use crate::script_command::{CommandFault, ScriptCommand, read_command};
+use crate::document::{find_values, has_only, read_document};
+use crate::fault::ValueFault;
+use crate::flaws::{TextKind, TextTrouble, trouble_of};
+use crate::script_command::{ScriptCommand, read_command};
 use std::alloc::{AllocError, AllocFailed, Global};
+use thiserror::Error;
 use toml::{Table, Value};
 
 /// Why a text gives no script.
-#[derive(Clone, Copy)]
+#[derive(Debug, Drop, Error)]
 pub enum ScriptFault {
     /// Memory was refused.
+    #[error("out of memory")]
     Memory,
-    /// The text is not a script. `command` is the place of the first bad command, from 0, and 0 where the text as a whole is bad.
-    BadScript { command: usize },
+    /// The text is not a script.
+    #[error("the text is no script: command {command} is bad")]
+    BadScript {
+        /// The place of the first bad command, from 0, and 0 where the text as a whole is bad.
+        command: usize,
+        /// What is wrong there, unless memory was refused for that.
+        trouble: Option<TextTrouble>,
+    },
 }
 
 /// Reads a script in TOML: an array of tables `command`, each with one key, `alias`, `swap`, `category`, `image` or `group`. The image files
@@ -29,6 +39,20 @@ pub enum ScriptFault {
 pub fn read_script(alloc: Global, text: &str) -> Result<Vec<ScriptCommand>, ScriptFault>
     ensures { Reads ScriptFault.Memory (λ commands. commands.items) (SpellsScriptFile text.now) result }
 {
+    match script_in(alloc, text) {
+        Ok(commands) => Ok(commands),
+        Err(ScriptFault::Memory) => Err(ScriptFault::Memory),
+        Err(ScriptFault::BadScript { command, .. }) => {
+            let trouble = trouble_of(alloc, text, TextKind::Script(command)).ok();
+            Err(ScriptFault::BadScript { command, trouble })
+        }
+    }
+}
+
+/// The commands of a script. What is wrong in it isn't told.
+fn script_in(alloc: Global, text: &str) -> Result<Vec<ScriptCommand>, ScriptFault>
+    ensures { Reads ScriptFault.Memory (λ commands. commands.items) (SpellsScriptFile text.now) result }
+{
     let table = read_document(alloc, text)?;
     commands_of(alloc, &table)
 }
@@ -37,11 +61,11 @@ fn commands_of(alloc: Global, table: &Table) -> Result<Vec<ScriptCommand>, Scrip
     ensures { Reads ScriptFault.Memory (λ commands. commands.items) (SpellsScript (table_view table.now)) result }
 {
     if !has_only(table, &["command"]) {
-        return Err(ScriptFault::BadScript { command: 0 });
+        return Err(bad_command(0));
     }
     match find_values(table, "command") {
         Some(values) => read_commands(alloc, values),
-        None => Err(ScriptFault::BadScript { command: 0 }),
+        None => Err(bad_command(0)),
     }
 }
 
@@ -62,8 +86,16 @@ fn command_at(alloc: Global, place: usize, value: &Value) -> Result<ScriptComman
 {
     match read_command(alloc, value) {
         Ok(command) => Ok(command),
-        Err(CommandFault::Memory) => Err(ScriptFault::Memory),
-        Err(CommandFault::Malformed) => Err(ScriptFault::BadScript { command: place }),
+        Err(ValueFault::Memory) => Err(ScriptFault::Memory),
+        Err(ValueFault::Malformed) => Err(bad_command(place)),
+    }
+}
+
+/// The fault for a script whose first bad command has this place, from 0.
+fn bad_command(command: usize) -> ScriptFault {
+    ScriptFault::BadScript {
+        command,
+        trouble: None,
     }
 }
 
@@ -87,16 +119,16 @@ impl<T: Drop> From<AllocFailed<T>> for ScriptFault {
     }
 }
 
-impl From<DocumentFault> for ScriptFault {
-    ghost use Rattle.station_text.specs.declared.document.DocumentFault.TheVariants as documents;
+impl From<ValueFault> for ScriptFault {
+    ghost use Rattle.station_text.specs.declared.fault.ValueFault.TheVariants as values;
     ghost use Rattle.station_text.specs.declared.script_file.ScriptFault.TheVariants.{Memory};
 
-    ghost from_gives = { λ fault given. fault ≡ documents.Memory → given ≡ Memory };
+    ghost from_gives = { λ fault given. fault ≡ values.Memory → given ≡ Memory };
 
-    fn from(fault: DocumentFault) -> Self {
+    fn from(fault: ValueFault) -> Self {
         match fault {
-            DocumentFault::Memory => ScriptFault::Memory,
-            DocumentFault::NoDocument => ScriptFault::BadScript { command: 0 },
+            ValueFault::Memory => ScriptFault::Memory,
+            ValueFault::Malformed => bad_command(0),
         }
     }
 }

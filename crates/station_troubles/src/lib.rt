@@ -1,19 +1,9 @@
-//! What a fault was about: remembers the files as a subcommand reads them, and says which one gives the fault, what is wrong in it and where.
+//! What a fault was about: keeps what is noted of the files beside the faults, and tells what belongs to a fault.
 #![tactic(auto)]
 
-mod command_text;
-mod contents;
-mod flaws;
-mod line_text;
-mod places;
-mod remembering;
-mod same_files;
-mod script_text;
+mod noting;
 mod shown;
 mod telling;
 
-pub use flaws::TextTrouble;
-pub use line_text::line_trouble;
-pub use remembering::Remembering;
-pub use script_text::script_trouble;
-pub use telling::{Files, LineNames, reason_of, tell_more};
+pub use noting::Noting;
+pub use telling::{CAPTURE_OR_OUTPUT, INPUT_OR_OUTPUT, OUTPUT, Told, tell_more};

@@ -1,9 +1,12 @@
-//! The files of the operating system as a store: read and replaced as a whole, opened, locked and synced. Standard streams that are closed.
+//! The files of the operating system as a store: read and replaced as a whole, opened, locked and synced. Standard streams that are closed, and
+//! where text goes in place of one that is a wire.
 #![tactic(auto)]
 
 mod file_store;
 mod replacing;
 mod streams;
+mod text;
 
 pub use file_store::{FileStore, SystemFile, SystemLock};
 pub use streams::{HeldStreams, hold_streams};
+pub use text::Text;

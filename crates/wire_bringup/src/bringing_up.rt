@@ -282,8 +282,9 @@ fn find_slaves<W: Wire, C: Clock>(
 /// there before. Gives the slaves in the order of the line. Each whose words were read is idle then, with bits 13 and 14 of control and status
 /// clear.
 ///
-/// On a wire that is lent the slaves keep their addresses, also those by alias, their AL states aren't read, and each frame has one
-/// datagram for slaves. An EEPROM that its PDI has is taken by force only where that is allowed, and else it is one that can't be worked on.
+/// On a wire that is lent the slaves keep their addresses, also those by alias, their AL states aren't read, and a frame has as many datagrams
+/// for slaves as the wire has room for (`Room`). An EEPROM that its PDI has is taken by force only where that is allowed, and else it is one that
+/// can't be worked on.
 ///
 /// A command that a slave doesn't acknowledge is tried again for half a second, its error cleared before. Polls of busy slaves have pauses.
 /// Slaves that are busy yet once no slave has got further in 10,000 frames are given up, all at once. Nothing is written to an EEPROM.

@@ -39,13 +39,13 @@ pub record IsReplyTo (asked : Pdu) (address : ℕ) (answer : Pdu) : Type 0 where
   pub address_is : (asked.command ≡ 4) ⊎ (asked.command ≡ 5) → answer.address ≡ address
   pub content_is : asked.command ≡ 5 → answer.content ≡ asked.content
 
--- A reply that one slave has counted stands at this place of the frame, with the first eight bytes of its content.
+-- A reply that one slave has counted stands at this place of the frame, with the first fourteen bytes of its content.
 pub record IsFrom (asked : Pdu) (address : ℕ) (frame : List Pdu) (place : ℕ) (reply : Reply) : Type 0 where
   pub answer : Pdu
   pub there : slice_get frame place ≡ Some answer
   pub replies : IsReplyTo asked address answer
   pub counter : answer.counter ≡ 1
-  pub front : length answer.content ≤ 8 → take (length answer.content) reply.content ≡ answer.content
+  pub front : length answer.content ≤ 14 → take (length answer.content) reply.content ≡ answer.content
 
 -- No answer that one slave has counted stands at this place of the frame.
 abbrev pub IsUncounted : (asked : Pdu) → (address : ℕ) → (frame : List Pdu) → (place : ℕ) → Type 0
@@ -64,12 +64,12 @@ pub record Unanswered (Gives : List ℕ → Type 0) (stations : List ℕ) (asked
 abbrev pub back_of : (command : ℕ) → (content front : List ℕ) → List ℕ
 back_of command content front = if command == 4 then take (length content) front else content
 
--- The datagram reads or writes registers of the slave at this place of the line; it reads eight bytes at most.
+-- The datagram reads or writes registers of the slave at this place of the line; it reads fourteen bytes at most.
 pub record IsFor (slave : ℕ) (asked : Pdu) : Type 0 where
   pub near : slave < 64
   pub by_station : (asked.command ≡ 4) ⊎ (asked.command ≡ 5)
   pub station_is : station_of asked.address ≡ station slave
-  pub short : asked.command ≡ 4 → length asked.content ≤ 8
+  pub short : asked.command ≡ 4 → length asked.content ≤ 14
 
 -- If one slave has counted the datagram, its answer came over the wire.
 abbrev pub Heard : (Gives : List ℕ → Type 0) → (stations : List ℕ) → (asked : Pdu) → Reply → Type 0
@@ -82,5 +82,5 @@ Unheard Gives stations asked reply = reply.counter ≢ 1 → Unanswered Gives st
 
 -- the same of a read or a write of this register of the slave with this station address
 abbrev pub Told : (Gives : List ℕ → Type 0) → (from command register : ℕ) → List ℕ → Reply → Type 0
-Told Gives from command register content reply = reply.counter ≡ 1 → (command ≡ 4 → length content ≤ 8)
+Told Gives from command register content reply = reply.counter ≡ 1 → (command ≡ 4 → length content ≤ 14)
     → Answered Gives from command register (back_of command content reply.content)

@@ -1,3 +1,4 @@
 pub mod Came
 pub mod Numbers
+pub mod Room
 pub mod Sending

@@ -11,11 +11,14 @@ use crate::registers::{APRD, BRD, FPRD, FPWR, STATION};
 use crate::wire::Wire;
 use ecat_frame::{Command, Datagram, Frame, fp};
 
+/// How many bytes of a reply are kept: those of the EEPROM's registers from control and status on (0x0502 to 0x050F).
+pub const KEPT: usize = 14;
+
 /// What came back of a datagram.
 #[derive(Clone, Copy)]
 pub struct Reply {
     /// The first bytes of its content.
-    pub content: [u8; 8],
+    pub content: [u8; KEPT],
     pub counter: u16,
 }
 
@@ -45,12 +48,12 @@ impl Reply {
     }
 }
 
-/// The first eight bytes of these, and zeros where there are fewer.
-fn front_of(bytes: &[u8]) -> [u8; 8]
-    ensures { length bytes.now ≤ 8 → take (length bytes.now) result ≡ bytes.now }
+/// The first bytes of these, as many as are kept, and zeros where there are fewer.
+fn front_of(bytes: &[u8]) -> [u8; KEPT]
+    ensures { length bytes.now ≤ 14 → take (length bytes.now) result ≡ bytes.now }
 {
-    let mut front = [0u8; 8];
-    let count = bytes.len().min(8);
+    let mut front = [0u8; KEPT];
+    let count = bytes.len().min(KEPT);
     front[..count].copy_from_slice(&bytes[..count]);
     front
 }
@@ -82,7 +85,7 @@ pub fn reply_at(asked: Datagram<'_>, address: u32, frame: &Frame, place: usize) 
         }
     }
     Reply {
-        content: [0; 8],
+        content: [0; KEPT],
         counter: 0,
     }
 }

@@ -7,6 +7,7 @@ ghost use Rattle.wire_frames.specs.Numbers.{HasNumber};
 ghost use Rattle.wire_frames.specs.Sending.{LeavesRunning, OnlyEeprom};
 
 use crate::handed::Handed;
+use crate::room::Room;
 use crate::stations::Stations;
 use crate::wire::Wire;
 use ecat_frame::{Command, Datagram, Frame, MAX_LEN};
@@ -51,6 +52,8 @@ pub struct NumberedWire<W> {
     is_lent: bool,
     /// Whether EEPROMs are taken by force.
     is_forced: bool,
+    /// How much a frame may hold.
+    room: Room,
     stations: Stations,
     /// What became of the access to each slave's EEPROM as the line was handed back last.
     handed: [Handed; 64],
@@ -69,15 +72,17 @@ impl<W: Wire> NumberedWire<W> {
             resent: 0,
             is_lent: false,
             is_forced: true,
+            room: Room::whole(),
             stations: Stations::own(),
             handed: [Handed::Nothing; 64],
         }
     }
 
-    /// The same, but for a wire that a master lends. Only if `is_forced` an EEPROM is taken from a PDI that has it.
-    pub fn lent(wire: W, number: u32, is_forced: bool) -> NumberedWire<W>
+    /// The same, but for a wire that a master lends, whose messages may hold so much. Only if `is_forced` an EEPROM is taken from a PDI that has it.
+    pub fn lent(wire: W, number: u32, is_forced: bool, room: Room) -> NumberedWire<W>
         ensures lent { result.is_lent ≡ true }
         ensures forced { result.is_forced ≡ is_forced }
+        ensures room { result.room ≡ room }
     {
         NumberedWire {
             wire,
@@ -86,6 +91,7 @@ impl<W: Wire> NumberedWire<W> {
             resent: 0,
             is_lent: true,
             is_forced,
+            room,
             stations: Stations::unknown(),
             handed: [Handed::Nothing; 64],
         }
@@ -118,6 +124,13 @@ impl<W: Wire> NumberedWire<W> {
         ensures { result ≡ self.now.is_forced }
     {
         self.is_forced
+    }
+
+    /// How much a frame of several datagrams may hold.
+    pub fn room(&self) -> Room
+        ensures { result ≡ self.now.room }
+    {
+        self.room
     }
 
     /// The station addresses of the slaves.

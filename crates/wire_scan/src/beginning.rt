@@ -8,7 +8,7 @@ ghost use Rattle.wire_scan.specs.Backup.{HasNoPast, MayStay};
 use crate::journals::require_empty;
 use crate::plan::is_there;
 use sii_words::Words;
-use station_files::{Fault, MOST_OF_JOURNAL, Store, read_file};
+use station_files::{Fault, MOST_OF_JOURNAL, Place, Store, Wrong, read_file};
 use station_text::LineFile;
 use std::alloc::Global;
 
@@ -69,7 +69,7 @@ fn judge_image<S: Store>(
     let bytes = words.to_bytes()?;
     match read_file(alloc, name, bytes.len() as u64, store) {
         Ok(held) if held.as_slice() == bytes.as_slice() => Ok(()),
-        Ok(_) | Err(Fault::TooLong) => Err(Fault::Exists),
+        Ok(_) | Err(Fault::TooLong) => Err(taken(name, store)),
         Err(fault) => Err(fault),
     }
 }
@@ -88,5 +88,18 @@ fn judge_journal_file<S: Store>(
         return Ok(());
     }
     let journal = read_file(alloc, name, MOST_OF_JOURNAL, store)?;
-    require_empty(alloc, &journal, slaves)
+    match require_empty(alloc, &journal, slaves) {
+        Ok(()) => Ok(()),
+        Err(Fault::Exists) => Err(taken(name, store)),
+        Err(fault) => Err(fault),
+    }
+}
+
+/// The fault for a file of this name that is there with other contents, which is noted.
+fn taken<S: Store>(name: &str, store: &mut S) -> Fault
+    ensures { S.files store.new ≡ S.files store.old }
+{
+    let fault = Fault::Exists;
+    store.note(fault.code(), Place::File(name), &Wrong::Exists);
+    fault
 }

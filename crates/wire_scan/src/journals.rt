@@ -5,22 +5,32 @@ ghost use Rattle.wire_scan.specs.Backup.{IsWithoutPast};
 
 use jrn_format::{JournalFault, scan};
 use sii_words::Words;
-use station_files::Fault;
-use station_line::of_journal;
+use station_files::{Fault, Store};
+use station_line::{note_journal, of_journal};
 use std::alloc::{AllocError, Global};
 
-/// Looks whether these bytes are a journal of a line of slaves with these words.
+/// Looks whether these bytes of the file of this name are a journal of a line of slaves with these words.
 ///
 /// # Errors
 ///
 /// `NotAJournal`, `BadVersion`, `WrongLine` or `BadJournal` where they aren't; `Memory`.
-pub(crate) fn judge_journal(alloc: Global, journal: &[u8], slaves: &[Words]) -> Result<(), Fault>
-    ensures { OnOk result (HasJournal (map length slaves.now) journal.now) }
+pub(crate) fn judge_journal<S: Store>(
+    alloc: Global,
+    name: &str,
+    journal: &[u8],
+    slaves: &[Words],
+    store: &mut S,
+) -> Result<(), Fault>
+    ensures judged { OnOk result (HasJournal (map length slaves.now) journal.now) }
+    ensures same { S.files store.new ≡ S.files store.old }
 {
     let sizes = sizes_of(alloc, slaves)?;
     match scan(alloc, journal, &sizes) {
         Ok(_found) => Ok(()),
-        Err(fault) => Err(of_journal(fault)),
+        Err(fault) => {
+            note_journal(fault, name, journal, slaves.len(), store);
+            Err(of_journal(fault))
+        }
     }
 }
 

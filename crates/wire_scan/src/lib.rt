@@ -11,7 +11,6 @@ mod naming;
 mod opening;
 mod plan;
 mod scan;
-mod scan_rows;
 mod sizes;
 
 pub use asked::{Asked, Tells};

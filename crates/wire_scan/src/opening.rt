@@ -13,7 +13,9 @@ use crate::judging::{judge_slaves, judge_states};
 use crate::sizes::sizes_of_images;
 use sii_words::Words;
 use site_file::OpenFiles;
-use station_files::{Entry, Fault, MOST_OF_JOURNAL, Store, keep_line_apart, load_line, read_file};
+use station_files::{
+    Entry, Fault, MOST_OF_JOURNAL, Place, Store, Wrong, keep_line_apart, load_line, read_file,
+};
 use station_text::LineFile;
 use std::alloc::Global;
 use std::rt::Clock;
@@ -157,7 +159,7 @@ fn read_found<S: Store>(
 {
     let slaves = judge_slaves(alloc, found, line.images.len())?;
     let journal = read_file(alloc, line.journal.as_str(), MOST_OF_JOURNAL, store)?;
-    judge_journal(alloc, &journal, &slaves)?;
+    judge_journal(alloc, line.journal.as_str(), &journal, &slaves, store)?;
     Ok((slaves, journal))
 }
 
@@ -173,7 +175,12 @@ fn lock_journal<S: Store>(
 {
     let Some(lock) = store.lock(line.journal.as_str())? else {
         return match store.look(line.journal.as_str())? {
-            Entry::Other => Err(Fault::NotAFile),
+            Entry::Other => {
+                let fault = Fault::NotAFile;
+                let place = Place::File(line.journal.as_str());
+                store.note(fault.code(), place, &Wrong::NotAFile);
+                Err(fault)
+            }
             _ => Err(Fault::File),
         };
     };

@@ -1,9 +1,8 @@
 //! The subcommand `scan`.
-use crate::scan_rows::write_slaves;
+
 use line_changes::check_of;
-use sii_words::Words;
-use station_json::Form;
-use std::io;
+use station_rows::{Cell, END, Form, Rows, Value, data, named, said};
+use std::alloc::{AllocError, Global};
 use std::io::Write;
 use std::rt::Clock;
 use wire_bringup::{FoundLine, FoundSlave, Sizes, SlaveState, bring_up, hand_back};
@@ -28,10 +27,7 @@ pub fn scan_line<R: Clock + AllocGlobal, W: Wire, O: Write>(
 ) -> Result<(), WireFault> {
     let found = bring_up(rt.alloc(), wire, rt, sizes)?;
     hand_back(wire, &found.states());
-    match form {
-        Form::Text => print_slaves(&found, output)?,
-        Form::Json => write_slaves(rt.alloc(), &found, output)?,
-    }
+    rows_of(rt.alloc(), form, &found)?.write(output)?;
     match first_fault(&found) {
         Some(fault) => Err(WireFault::Line(fault)),
         None => Ok(()),
@@ -50,86 +46,104 @@ fn first_fault(found: &FoundLine) -> Option<LineFault> {
     None
 }
 
-/// Prints a line for each slave.
-fn print_slaves<O: Write>(found: &FoundLine, output: &mut O) -> io::Result<()> {
+/// The rows of the slaves that were found.
+fn rows_of(alloc: Global, form: Form, found: &FoundLine) -> Result<Rows, AllocError> {
+    let mut rows = Rows::new(alloc, form);
     let mut slave = 0u16;
     for each in &found.slaves {
-        print_slave(slave, each, output)?;
+        put_slave(&mut rows, slave, each)?;
         slave = slave.saturating_add(1);
     }
-    output.flush()
+    Ok(rows)
 }
 
-fn print_slave<O: Write>(slave: u16, found: &FoundSlave, output: &mut O) -> io::Result<()> {
+/// Puts the row of a slave: what its words say, or why it can't be worked on, and what was found of it.
+fn put_slave(rows: &mut Rows, slave: u16, found: &FoundSlave) -> Result<(), AllocError> {
     match &found.words {
-        Ok(words) => print_words(slave, words, output)?,
+        Ok(words) => {
+            let identity = words.identity();
+            let eeprom = [
+                data("eeprom", Value::Begin),
+                named("words", words.len()),
+                named("alias", words.alias()),
+                named("check", check_of(words)),
+                named("vendor", Value::Long(identity.vendor)),
+                named("product", Value::Long(identity.product)),
+                named("revision", Value::Long(identity.revision)),
+                named("serial", Value::Long(identity.serial)),
+                END,
+            ];
+            put_found(rows, slave, &eeprom, found)
+        }
         Err(why) => {
             let fault = WireFault::Line(LineFault::Slave { slave, why: *why });
-            write!(output, "slave {slave} {fault}")?;
+            let text = format!(in rows.alloc(); "{fault}")?;
+            put_found(rows, slave, &fault_cells(text.as_str(), fault), found)
         }
     }
-    print_state(found.state, output)?;
+}
+
+/// Why a slave can't be worked on, which text prints so.
+fn fault_cells<'a>(text: &'a str, fault: WireFault) -> [Cell<'a>; 5] {
+    let (code, name) = fault.code();
+    [
+        said("", text),
+        data("fault", Value::Begin),
+        data("code", code),
+        data("name", name),
+        END,
+    ]
+}
+
+/// Puts the row of a slave of which this is said: its state, and the size of its EEPROM, stand behind it.
+fn put_found(
+    rows: &mut Rows,
+    slave: u16,
+    said_of: &[Cell<'_>],
+    found: &FoundSlave,
+) -> Result<(), AllocError> {
+    let mut cells = Vec::new(rows.alloc());
+    cells.push(named("slave", slave))?;
+    cells.extend_from_slice(said_of)?;
+    cells.extend_from_slice(&state_cells(found.state))?;
     if let Some(size) = found.size {
-        print_size(size, output)?;
+        cells.extend_from_slice(&size_cells(size))?;
     }
-    writeln!(output)
+    rows.put("slave", &cells)
 }
 
-fn print_words<O: Write>(slave: u16, words: &Words, output: &mut O) -> io::Result<()> {
-    let (count, alias, check) = (words.len(), words.alias(), check_of(words));
-    write!(
-        output,
-        "slave {slave} words {count} alias {alias} check {check}"
-    )?;
-    let identity = words.identity();
-    let numbers = [
-        ("vendor", identity.vendor),
-        ("product", identity.product),
-        ("revision", identity.revision),
-        ("serial", identity.serial),
-    ];
-    for row in &numbers {
-        let (name, number) = *row;
-        write!(output, " {name} 0x{number:08x}")?;
-    }
-    Ok(())
-}
-
-/// The name of a state (ETG.1000.6).
-pub(crate) fn name_of_state(al_status: u16) -> &'static str {
-    match al_status % 16 {
+/// The state of a slave (ETG.1000.6), whether it tells an error, and whether its PDI has the EEPROM.
+fn state_cells<'a>(state: SlaveState) -> [Cell<'a>; 3] {
+    let status = state.al_status.unwrap_or(0);
+    let name = match status % 16 {
         1 => "init",
         2 => "preop",
         3 => "boot",
         4 => "safeop",
         8 => "op",
         _ => "unknown",
-    }
+    };
+    [
+        named("state", name),
+        named("error", status / 16 % 2 == 1),
+        named("held", state.is_with_pdi()),
+    ]
 }
 
-/// Prints the state of a slave, whether it tells an error, and whether its PDI has the EEPROM.
-fn print_state<O: Write>(state: SlaveState, output: &mut O) -> io::Result<()> {
-    let name = name_of_state(state.al_status.unwrap_or(0));
-    write!(output, " state {name}")?;
-    if state.al_status.is_some_and(|status| status / 16 % 2 == 1) {
-        write!(output, " error")?;
-    }
-    if state.is_with_pdi() {
-        write!(output, " held")?;
-    }
-    Ok(())
-}
-
-/// Prints what word 0x3E says of the size, and what was found.
-fn print_size<O: Write>(size: SizeFound, output: &mut O) -> io::Result<()> {
-    write!(output, " says {} found ", size.says)?;
-    match size.extent {
-        Extent::Repeats(words) | Extent::EndsAt(words) => write!(output, "{words}")?,
-        Extent::Open => write!(output, "open")?,
-        Extent::Uniform => write!(output, "alike")?,
-    }
-    if size.is_larger {
-        write!(output, " larger")?;
-    }
-    Ok(())
+/// What word 0x3E says of the size of an EEPROM, and what was found: a number of words, or how far its words tell it.
+fn size_cells<'a>(size: SizeFound) -> [Cell<'a>; 7] {
+    let (found, extent) = match size.extent {
+        Extent::Repeats(words) | Extent::EndsAt(words) => (named("found", words), Value::Absent),
+        Extent::Open => (data("found", Value::Null), "open".into()),
+        Extent::Uniform => (data("found", Value::Null), "alike".into()),
+    };
+    [
+        data("size", Value::Begin),
+        named("says", size.says),
+        said("found", extent),
+        found,
+        data("extent", extent),
+        named("larger", size.is_larger),
+        END,
+    ]
 }

@@ -2,8 +2,7 @@
 ghost use Rattle.std.specs.Prelude.{◌≡◌};
 
 use crate::plan::is_there;
-use sii_words::Words;
-use station_files::{Fault, Store, read_image_file};
+use station_files::{Fault, Store, load_slave};
 use std::alloc::Global;
 use wire_bringup::Sizes;
 
@@ -41,7 +40,6 @@ fn size_of_image<S: Store>(alloc: Global, name: &str, store: &mut S) -> Result<O
     if !is_there(name, store)? {
         return Ok(None);
     }
-    let bytes = read_image_file(alloc, name, store)?;
-    let words = Words::from_bytes(alloc, &bytes)?;
+    let words = load_slave(alloc, name, store)?;
     Ok(u16::try_from(words.len()).ok())
 }

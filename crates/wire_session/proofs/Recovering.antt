@@ -15,6 +15,7 @@ use Rattle.station_line.specs.Site.{IsSiteOf, files_of, switched_on, HoldsSite}
 use Rattle.wire_faults.specs.declared.faults.WireFault.{WireFault}
 use Rattle.wire_faults.specs.declared.faults.WireFault.TheVariants as wire
 use Rattle.station_line.specs.Init as bench
+use Rattle.station_line.specs.Judging.{HasJournal}
 use Rattle.station_line.specs.Init.{Formats}
 use Rattle.station_files.specs.declared.faults.Fault.TheVariants.{Exists}
 use Rattle.site_wire.specs.declared.device.WireTold.{WireTold}
@@ -78,11 +79,12 @@ recovers_opened Before After result old mid new line plant bytes site only made 
 
 -- ---- the whole
 
-pub recovers : (worked : Worked (Unit {0}) WireTold) (leads : Leads) (old found new : Known) (name : List ℕ) (line : LineFile) (plant : List (List ℕ)) (bytes : List ℕ) → IsFound old name line plant bytes → IsLineApart leads line name → found ≡ old
+pub recovers : (worked : Worked (Unit {0}) WireTold) (leads : Leads) (old found new : Known) (name : List ℕ) (line : LineFile) (plant : List (List ℕ)) (bytes : List ℕ) → IsFound old name line plant bytes
+    → HasJournal (map length plant) bytes → IsLineApart leads line name → found ≡ old
     → EndsRecovery (λ s. IsSomeAnd worked.told (SlavesHold plant s)) worked.ended found new line (switched_on plant bytes) → Recovers worked leads old new name
-recovers worked leads old found new name line plant bytes given apart same ends =
+recovers worked leads old found new name line plant bytes given judged apart same ends =
     let P : Known → Type 0 = λ files. EndsRecovery (λ s. IsSomeAnd worked.told (SlavesHold plant s)) worked.ended files new line (switched_on plant bytes) in
-    inr (record { line = line; plant = plant; bytes = bytes; found = given; apart = apart; ends = subst P same ends })
+    inr (record { line = line; plant = plant; bytes = bytes; found = given; judged = judged; apart = apart; ends = subst P same ends })
 
 -- ---- init
 

@@ -1,5 +1,5 @@
 -- What the files hold after a run on a wire.
-use Rattle.std.proofs.Common.{◌≡◌, ℕ, Bool, false, List, ◌∷◌, ◌++◌, length, None, Option, Some, Result, Ok, Err, inr, sym}
+use Rattle.std.proofs.Common.{◌≡◌, ℕ, Bool, false, List, ◌∷◌, ◌++◌, length, map, None, Option, Some, Result, Ok, Err, inr, sym}
 use Rattle.std.proofs.Common.{subst}
 use Rattle.std.specs.Prelude.{IfSome, IsSomeAnd, IsTrue, OnOk, string_bytes}
 use Rattle.sii_edit.specs.declared.command.Command.{Command}
@@ -20,7 +20,7 @@ use Rattle.script_session.specs.AtDesk.{IsServedTold, LeavesSo, ServesFollowed}
 use Rattle.script_session.proofs.DeskLaws.{served-told}
 use Rattle.script_session.proofs.SoundLaws.{served_soundly}
 use Rattle.station_line.specs.Site.{IsSiteOf, files_of}
-use Rattle.station_line.specs.Judging.{IsRunApart}
+use Rattle.station_line.specs.Judging.{HasJournal, IsRunApart}
 use Rattle.station_line.specs.Opened.{is_old, StartsFrom}
 use Rattle.script_session.specs.Behind.{LedOn, SavesFollowed}
 use Rattle.script_session.specs.Saving.{SavesBehind, SavesLeft, Serves}
@@ -156,15 +156,16 @@ found_behind old mid name line plant bytes same found = subst (λ (files : Known
 
 pub runs : (worked : Worked ExitStatus WireTold) (leads : Leads) (old found new : Known) (name script : List ℕ) (line : LineFile)
     (plant : List (List ℕ)) (bytes : List ℕ) (commands : List Command) → IsFound old name line plant bytes
-    → SpellsCommands old script commands → IsRunApart leads None line name script → found ≡ old
+    → HasJournal (map length plant) bytes → SpellsCommands old script commands → IsRunApart leads None line name script → found ≡ old
     → EndsFound worked found new line plant bytes commands → RunsScript worked leads old new name script
-runs worked leads old found new name script line plant bytes commands given spelt apart same ends =
+runs worked leads old found new name script line plant bytes commands given judged spelt apart same ends =
     let P : Known → Type 0 = λ files. EndsFound worked files new line plant bytes commands in
     inr (record {
       line = line;
       plant = plant;
       bytes = bytes;
       found = given;
+      judged = judged;
       commands = commands;
       spelt = spelt;
       apart = apart;

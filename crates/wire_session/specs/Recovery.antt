@@ -1,5 +1,5 @@
 -- `init` and `recover` on a wire: what the files hold in the end.
-use Rattle.std.specs.Prelude.{◌≡◌, ◌⊎◌, ℕ, List, map, length, string_bytes, Result, IsErr, IsSomeAnd, ⊤}
+use Rattle.std.specs.Prelude.{◌≡◌, ◌⊎◌, ℕ, List, map, length, string_bytes, None, Result, IsErr, IsSomeAnd, ⊤}
 use Rattle.site_core.specs.State.{Seen}
 use Rattle.station_text.specs.declared.line_file.LineFile.{LineFile}
 use Rattle.station_files.specs.Files.{Known, Holds}
@@ -9,6 +9,7 @@ use Rattle.station_files.specs.Locations.{Leads}
 use Rattle.station_alone.specs.Station.{Station}
 use Rattle.station_alone.specs.Recovery.{HasRecovered, BeginsRecovered}
 use Rattle.station_line.specs.Init as bench
+use Rattle.station_line.specs.Judging.{HasJournal}
 use Rattle.station_line.specs.Site.{switched_on, HoldsSite}
 use Rattle.wire_faults.specs.declared.faults.WireFault.{WireFault}
 use Rattle.wire_faults.specs.declared.faults.WireFault.TheVariants as wire
@@ -31,19 +32,20 @@ pub record SavesRecovered (Hold : Station → Type 0) (files : Known) (line : Li
 abbrev pub EndsRecovery : (Station → Type 0) → Result (Unit {0}) WireFault → Known → Known → LineFile → Seen → Type 0
 EndsRecovery Hold result old new line before = Ends (λ done. SavesRecovered Hold new line before) result old new line
 
--- The line was found, its files stand apart, and the site of the words on the wire and the journal's bytes was recovered as far as the result
--- says: the slaves too, by what is told of the devices.
+-- The line was found, the journal is one of these slaves, its files stand apart, and the site of the words on the wire and the journal's bytes was
+-- recovered as far as the result says: the slaves too, by what is told of the devices.
 pub record RecoversFound (worked : Worked (Unit {0}) WireTold) (leads : Leads) (old new : Known) (name : List ℕ) : Type 0 where
   pub line : LineFile
   pub plant : List (List ℕ)
   pub bytes : List ℕ
   pub found : IsFound old name line plant bytes
+  pub judged : HasJournal (map length plant) bytes
   pub apart : IsLineApart leads line name
   pub ends : EndsRecovery (λ s. IsSomeAnd worked.told (SlavesHold plant s)) worked.ended old new line (switched_on plant bytes)
 
--- what `recover` does: it stops before it writes, or it recovers the line
+-- what `recover` does: it stops before it writes and before the line has a device, as where the journal is refused; or it recovers the line
 abbrev pub Recovers : Worked (Unit {0}) WireTold → Leads → Known → Known → List ℕ → Type 0
-Recovers worked leads old new name = (IsErr worked.ended × (new ≡ old)) ⊎ RecoversFound worked leads old new name
+Recovers worked leads old new name = (IsErr worked.ended × (worked.told ≡ None) × (new ≡ old)) ⊎ RecoversFound worked leads old new name
 
 -- `init` is refused as by the station, or before: then nothing was written.
 abbrev pub RefusesInit : Known → Known → Leads → List ℕ → WireFault → Type 0

@@ -1,5 +1,5 @@
 -- `run` on a wire: how the line that was found is served by threads, and what the files hold in the end.
-use Rattle.std.specs.Prelude.{◌≡◌, ◌⊎◌, ℕ, false, List, Option, None, IsErr, IsTrue}
+use Rattle.std.specs.Prelude.{◌≡◌, ◌⊎◌, ℕ, false, List, length, map, Option, None, IsErr, IsTrue}
 use Rattle.sii_edit.specs.declared.command.Command.{Command}
 use Rattle.site_core.specs.State.{Seen}
 use Rattle.site_shadow.specs.Site.{SiteValue}
@@ -9,7 +9,7 @@ use Rattle.station_files.specs.ScriptFiles.{SpellsCommands}
 use Rattle.station_files.specs.declared.faults.ExitStatus.{ExitStatus}
 use Rattle.station_alone.specs.Station.{Station}
 use Rattle.station_files.specs.Locations.{Leads}
-use Rattle.station_line.specs.Judging.{IsRunApart}
+use Rattle.station_line.specs.Judging.{HasJournal, IsRunApart}
 use Rattle.station_line.specs.Site.{IsSiteOf}
 use Rattle.script_session.specs.Saving.{SavesRun, Serves}
 use Rattle.wire_scan.specs.Opening.{IsFound}
@@ -47,17 +47,19 @@ abbrev pub EndsFound : Worked ExitStatus WireTold → Known → Known → LineFi
 EndsFound worked old new line plant bytes commands =
     Ends (λ status. SavesFound new line plant bytes commands worked.told status) worked.ended old new line
 
--- The line was found and the script read, their files stand apart, and the commands were run as far as the result says.
+-- The line was found, the journal is one of its slaves, the script was read, their files stand apart, and the commands were run as far as the result
+-- says.
 pub record RunsFound (worked : Worked ExitStatus WireTold) (leads : Leads) (old new : Known) (name script : List ℕ) : Type 0 where
   pub line : LineFile
   pub plant : List (List ℕ)
   pub bytes : List ℕ
   pub found : IsFound old name line plant bytes
+  pub judged : HasJournal (map length plant) bytes
   pub commands : List Command
   pub spelt : SpellsCommands old script commands
   pub apart : IsRunApart leads None line name script
   pub ends : EndsFound worked old new line plant bytes commands
 
--- what `run` does: it stops before it writes, or it runs the commands
+-- what `run` does: it stops before it writes and before the line has a device, as where the journal is refused; or it runs the commands
 abbrev pub RunsScript : Worked ExitStatus WireTold → Leads → Known → Known → List ℕ → List ℕ → Type 0
-RunsScript worked leads old new name script = (IsErr worked.ended × (new ≡ old)) ⊎ RunsFound worked leads old new name script
+RunsScript worked leads old new name script = (IsErr worked.ended × (worked.told ≡ None) × (new ≡ old)) ⊎ RunsFound worked leads old new name script

@@ -1,10 +1,10 @@
 //! The subcommand `run`.
-ghost use Rattle.std.specs.Prelude.{◌≡◌, ◌≤◌, ◌∷◌, ◌++◌, [], length, None, IfOk, IfSome, IsSomeAnd, IsTrue, OnOk};
+ghost use Rattle.std.specs.Prelude.{◌≡◌, ◌≤◌, ◌∷◌, ◌++◌, [], length, map, None, IfOk, IfSome, IsSomeAnd, IsTrue, OnOk};
 ghost use Rattle.esc_rom.specs.Owned.{OwnsAll};
 ghost use Rattle.station_files.specs.FileNames.{files_with, written_of};
 ghost use Rattle.station_files.specs.Locations.{AreApart};
 ghost use Rattle.station_files.specs.ScriptFiles.{SpellsCommands};
-ghost use Rattle.station_line.specs.Judging.{IsRunApart};
+ghost use Rattle.station_line.specs.Judging.{HasJournal, IsRunApart};
 ghost use Rattle.station_line.specs.Opened.{is_old};
 ghost use Rattle.wire_scan.specs.Opening.{IsFound};
 ghost use Rattle.wire_session.specs.Ending.{Ends};
@@ -105,6 +105,7 @@ pub(crate) fn find_all<R: Clock + AllocGlobal, W: Wire, S: Store>(
 ) -> Result<Given<S::Lock>, WireFault>
     ensures found { IfOk result (λ given.
         IsFound (S.files store.old) order.entry.named.line.now given.found.line given.found.slaves.items given.found.journal.items) }
+    ensures judged { IfOk result (λ given. HasJournal (map length given.found.slaves.items) given.found.journal.items) }
     ensures some { IfOk result (λ given. 1 ≤ length given.found.slaves.items) }
     ensures most { IfOk result (λ given. length given.found.slaves.items ≤ 64) }
     ensures spelt { IfOk result (λ given. SpellsCommands (S.files store.old) order.entry.named.script.now given.commands.items) }

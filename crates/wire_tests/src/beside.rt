@@ -8,7 +8,7 @@ use site_shadow::Parts;
 use site_wire::StopReason;
 use std::alloc::Global;
 use wire_bringup::{Sizes, SlaveState, hand_back};
-use wire_frames::{Cause, LineFault, NumberedWire};
+use wire_frames::{Cause, FRAME_BYTES, LineFault, NumberedWire, Room};
 use wire_practice::{NO_QUIRKS, Quirks};
 
 // A slave with the station address that a master has given it, whose words take three milliseconds to write.
@@ -29,6 +29,14 @@ const OTHER: Slave = Slave {
     quirks: Quirks {
         station: Some(0x1001),
         is_wide: true,
+        ..OPERATIONAL
+    },
+    ..BLANK
+};
+
+const KEPT_TOO: Slave = Slave {
+    quirks: Quirks {
+        station: Some(0x03ea),
         ..OPERATIONAL
     },
     ..BLANK
@@ -166,7 +174,40 @@ const CASES: &[(Habits, Option<usize>)] = &[
         },
         None,
     ),
+    // Messages have a datagram of each slave.
+    (SHARING, Some(3)),
+    (
+        Habits {
+            drops: 3,
+            loses: 5,
+            ..SHARING
+        },
+        Some(3),
+    ),
+    (
+        Habits {
+            holds: TIME_OUT + 1,
+            ..SHARING
+        },
+        Some(3),
+    ),
+    (
+        Habits {
+            doubles: 2,
+            delays: (3, 350),
+            drops: 7,
+            is_turned: true,
+            ..SHARING
+        },
+        Some(3),
+    ),
 ];
+
+// One that carries two datagrams a message.
+const SHARING: Habits = Habits {
+    carries: 2,
+    ..PROMPT
+};
 
 /// A wire that a master with these habits lends. None: memory was refused.
 pub(crate) fn lent<'f>(
@@ -177,8 +218,12 @@ pub(crate) fn lent<'f>(
     is_forced: bool,
 ) -> Option<NumberedWire<Master<'f>>> {
     let line = line_of(alloc, slaves, None)?;
+    let room = Room {
+        datagrams: habits.carries,
+        bytes: FRAME_BYTES,
+    };
     let master = Master::new(line, &bench.clock, habits);
-    Some(NumberedWire::lent(master, 7, is_forced))
+    Some(NumberedWire::lent(master, 7, is_forced, room))
 }
 
 // What came of the words.
@@ -296,6 +341,22 @@ fn a_master_ends_in_the_midst(rt: HostRuntime) {
             assert!(rt; is_completed(rt.alloc(), ends));
         }
     }
+}
+
+// How many messages bring up two slaves beside a master with these habits. None: they aren't brought up.
+fn messages_of(alloc: Global, habits: Habits) -> Option<u32> {
+    let bench = Bench::new();
+    let mut wire = lent(alloc, &bench, &[KEPT, KEPT_TOO], habits, false)?;
+    let _found = brought_up(alloc, &bench, &mut wire)?;
+    Some(wire.wire().messages)
+}
+
+// With two datagrams a message it takes fewer.
+#[test]
+fn slaves_share_messages(rt: HostRuntime) {
+    let one = messages_of(rt.alloc(), PROMPT).unwrap_or(0);
+    let two = messages_of(rt.alloc(), SHARING).unwrap_or(u32::MAX);
+    assert!(rt; one > 100 && two < one);
 }
 
 const SHARED: LineFault = LineFault::SharedAddress {

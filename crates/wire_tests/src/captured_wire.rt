@@ -1,7 +1,7 @@
 //! What a capture of a wire holds, on which frames are lost, doubled and falsified.
 
 use crate::bench::{BLANK, Slave, line_of};
-use line_watch::{Capture, CapturedWire};
+use line_watch::{Capture, ObservedWire, Progress};
 use site_file::RandomAccessFile;
 use std::alloc::Global;
 use std::io;
@@ -177,7 +177,13 @@ fn is_captured_in(rt: &impl Wait, alloc: Global, fate: Fate, front: Front<'_>) -
     let capture = Capture::begin(front).ok()?;
     let still = Still { _handle: rt };
     let clock = PracticeClock::new();
-    let wire = CapturedWire::new(wire_with(alloc, &clock, fate)?, Some(&capture), &still);
+    let progress: Option<&Progress<Vec<u8>>> = None;
+    let wire = ObservedWire::new(
+        wire_with(alloc, &clock, fate)?,
+        Some(&capture),
+        progress,
+        &still,
+    );
     let _found = bring_up(
         alloc,
         &mut NumberedWire::new(wire, 7),

@@ -11,8 +11,8 @@ const TURN: u64 = 1_000;
 /// For how many turns a station waits for an answer.
 pub(crate) const TIME_OUT: u64 = 100;
 
-/// The most bytes of a message.
-const LONGEST: usize = 64;
+/// The most bytes of a message: two datagrams, and its number.
+const LONGEST: usize = 72;
 
 /// How many answers a master keeps.
 const ROOM: usize = 8;
@@ -20,6 +20,8 @@ const ROOM: usize = 8;
 /// What a master does with messages. Each message or answer is one whose number, from 1, is a multiple of this; 0: none.
 #[derive(Clone, Copy)]
 pub(crate) struct Habits {
+    /// How many datagrams a message may have.
+    pub carries: u16,
     /// Each message that it drops.
     pub drops: u32,
     /// For how many turns a message waits before it goes over the wire. A later one takes its place.
@@ -38,8 +40,9 @@ pub(crate) struct Habits {
     pub ends: u32,
 }
 
-/// One that hands each answer back in the next turn.
+/// One that carries one datagram a message, and hands each answer back in the next turn.
 pub(crate) const PROMPT: Habits = Habits {
+    carries: 1,
     drops: 0,
     waits: 0,
     loses: 0,

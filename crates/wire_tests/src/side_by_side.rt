@@ -203,9 +203,9 @@ const OVERCOUNTED: Mishap = Mishap {
 // access of three; for each of three access by force, and access given back; a poll and a clearing of all three.
 const BEFORE: u32 = 2 + 3 + 2 * 3 + 2 * 3 + 2;
 
-// The first of these frames has three commands of ten bytes, at bytes 2, 24 and 46, and the number at 68. The second one has three polls of
-// two bytes, at 2, 16 and 30, and the third one three fetches of four, at 2, 18 and 34. Of a datagram, byte 0 is the command, 2 and 3 are
-// the station address, 4 and 5 the register, 6 the length, 10 and further the content, and the working counter is behind that.
+// The first of these frames has three commands of ten bytes, at bytes 2, 24 and 46, and the number at 68. The second one has three polls, which have
+// ten bytes too. Of a datagram, byte 0 is the command, 2 and 3 are the station address, 4 and 5 the register, 6 the length, 10 and further the
+// content, and the working counter is behind that. Of a poll control and status stand at 10, and the data at 16.
 const TURNED: &[(&[Slave], u32, usize, u8)] = &[
     // Command, address, register, length, content and counter of the second command; the frame's number.
     (PLAINS, 0, 24, 1),
@@ -218,22 +218,21 @@ const TURNED: &[(&[Slave], u32, usize, u8)] = &[
     (PLAINS, 0, 44, 3),
     (PLAINS, 0, 70, 1),
     // Busy, an error, and the counter of the second poll.
-    (PLAINS, 1, 27, 0x80),
-    (PLAINS, 1, 27, 0x20),
-    (PLAINS, 1, 28, 1),
-    // Command, address and counter of the first, the second and the last fetch.
-    (PLAINS, 2, 2, 1),
-    (PLAINS, 2, 20, 1),
-    (PLAINS, 2, 32, 1),
-    (PLAINS, 2, 48, 3),
-    // The second slave's reads load eight bytes, so the third fetch is at byte 38: bit 6 of the second poll; length and counter of the second
-    // fetch; command and counter of the third one.
-    (MIXED, 1, 26, 0x40),
-    (MIXED, 2, 24, 1),
-    (MIXED, 2, 36, 1),
-    (MIXED, 2, 36, 3),
-    (MIXED, 2, 38, 1),
-    (MIXED, 2, 52, 1),
+    (PLAINS, 1, 35, 0x80),
+    (PLAINS, 1, 35, 0x20),
+    (PLAINS, 1, 44, 1),
+    // The command of the first poll, the address of the second one, and the counter of the last one.
+    (PLAINS, 1, 2, 1),
+    (PLAINS, 1, 26, 1),
+    (PLAINS, 1, 66, 3),
+    // The second slave's reads load eight bytes, which the first poll shows, so the third frame has a command, a fetch at byte 24, and a command at
+    // byte 44: bit 6 of the second poll; length and counter of the fetch; command and counter of what is behind it.
+    (MIXED, 1, 34, 0x40),
+    (MIXED, 2, 30, 1),
+    (MIXED, 2, 42, 1),
+    (MIXED, 2, 42, 3),
+    (MIXED, 2, 44, 1),
+    (MIXED, 2, 64, 1),
 ];
 
 // Whether this is found of these slaves where one frame has this fate.
@@ -299,18 +298,19 @@ type Case = (
     Option<u64>,
 );
 
-// The frames to slaves that are all read: each pair of words takes three frames for all slaves: 32 pairs of the first 64 words, and as many
+// The frames to slaves that are all read: each pair of words takes two frames for all slaves: 32 pairs of the first 64 words, and as many
 // from each of seven words on at which chips may begin to repeat. Besides there are two broadcasts, a poll and a clearing of all slaves, and five
-// frames for each slave. Of slaves that load eight bytes each four words take three frames: 16 times, and as many from each of the seven words on.
-// Of slaves of 128 words 64 pairs are read, and 32 from each of six words on.
+// frames for each slave. Of slaves that load eight bytes each four words take two frames: 16 times, and as many from each of the seven words on; the
+// first poll that shows it has four bytes of data, so that those words are fetched in one frame more. Of slaves of 128 words 64 pairs are read, and
+// 32 from each of six words on.
 const CASES: &[Case] = &[
-    (&[PLAIN], None, WELL, Ok(&[READ]), Some(777)),
-    (&[PLAIN, PLAIN], None, WELL, Ok(&[READ, READ]), Some(782)),
-    (PLAINS, None, WELL, Ok(ALL_READ), Some(787)),
-    (&[WIDE], None, WELL, Ok(&[READ]), Some(393)),
-    (&[WIDE, WIDE], None, WELL, Ok(&[READ, READ]), Some(398)),
-    (&[WIDE, WIDE, WIDE], None, WELL, Ok(ALL_READ), Some(403)),
-    (SIX_LARGER, None, WELL, Ok(SIX_SIZES), Some(802)),
+    (&[PLAIN], None, WELL, Ok(&[READ]), Some(521)),
+    (&[PLAIN, PLAIN], None, WELL, Ok(&[READ, READ]), Some(526)),
+    (PLAINS, None, WELL, Ok(ALL_READ), Some(531)),
+    (&[WIDE], None, WELL, Ok(&[READ]), Some(266)),
+    (&[WIDE, WIDE], None, WELL, Ok(&[READ, READ]), Some(271)),
+    (&[WIDE, WIDE, WIDE], None, WELL, Ok(ALL_READ), Some(276)),
+    (SIX_LARGER, None, WELL, Ok(SIX_SIZES), Some(546)),
     (&[PLAIN, BUSY, SLOW], None, WELL, Ok(ALL_READ), None),
     (&[SLOW, MISSES, BUSY], None, WELL, Ok(ALL_READ), None),
     (

@@ -25,11 +25,16 @@ read_of size.Eight bytes = record { pair = take 4 bytes; next = Some (drop 4 byt
 -- whether the slave has taken the command to read the words, and they aren't fetched yet
 abbrev pub has_told : Phase → Bool
 has_told phase.Tells = false
-has_told phase.Polls = true
+has_told (phase.Polls bytes) = true
 has_told (phase.Fetches bytes) = true
 has_told phase.Settles = false
 has_told phase.Clears = false
 has_told phase.Ends = false
+
+-- the most bytes of content that the next datagram of a reader has
+abbrev pub most_asked : Phase → ℕ
+most_asked (phase.Polls size.Eight) = 14
+most_asked other = 10
 
 -- The reader's slave has yet to be told to read.
 abbrev pub NothingTold : Reader → Type 0

@@ -2,6 +2,7 @@
 ghost use Rattle.std.specs.Prelude.{◌≡◌, ◌≤◌, IfOk};
 ghost use Rattle.std.specs.List.{All};
 ghost use Rattle.wire_frames.specs.Came.{CameOver};
+ghost use Rattle.wire_frames.specs.Room.{Fits};
 ghost use Rattle.wire_frames.specs.Sending.{OnlyEeprom};
 ghost use Rattle.wire_words.specs.Reading.{NothingTold, IsUnderWay, AllKept};
 
@@ -10,45 +11,54 @@ use crate::reader::{Reader, step};
 use ecat_frame::Frame;
 use esc_rom::POLLS;
 use std::rt::Clock;
-use wire_frames::{LineFault, NumberedWire, Pace, Wire};
+use wire_frames::{LineFault, NumberedWire, Pace, Room, Wire};
 
 /// The readers of a line, one for each place.
 pub type Readers = [Reader; 64];
 
-/// Whether the reader of this slave asks in a frame of that one alone, or of all.
-fn is_in(only: Option<u16>, slave: u16) -> bool {
-    only.is_none_or(|alone| alone == slave)
+/// What the readers of a line ask in one frame.
+#[derive(Drop)]
+struct Question {
+    frame: Frame,
+    /// Where the datagram of each slave stands in it, if it has one.
+    places: [Option<usize>; 64],
+    /// The slave whose turn is first in the next frame.
+    next: u16,
 }
 
-/// The next reader behind this one that asks something, and the first one behind the last. None where none does.
-fn next_asking(readers: &Readers, before: Option<u16>) -> Option<u16> {
-    let first = before.unwrap_or(63);
-    for step in 1..65u16 {
-        let slave = first.wrapping_add(step) % 64;
-        if readers[usize::from(slave)].is_asking() {
-            return Some(slave);
-        }
-    }
-    None
-}
-
-/// The frame of what they ask, or of what one of them does.
-fn asked_by(readers: &Readers, only: Option<u16>) -> Frame
-    ensures { OnlyEeprom result }
+/// The frame of what they ask, as far as it has room, of the slaves from this one on, as if slave 0 came behind the last one.
+fn asked_by(readers: &Readers, first: u16, room: Room) -> Question
+    ensures only { OnlyEeprom result.frame }
+    ensures fits { Fits room result.frame }
 {
     let mut frame = Frame::new();
-    for slave in 0..64u16 {
-        if is_in(only, slave) {
-            readers[usize::from(slave)].ask(&mut frame);
+    let mut places = [None; 64];
+    for turn in 0..64u16 {
+        let slave = first.wrapping_add(turn) % 64;
+        let reader = readers[usize::from(slave)];
+        if reader.is_asking() {
+            if !room.takes(&frame, reader.most_asked()) {
+                return Question {
+                    frame,
+                    places,
+                    next: slave,
+                };
+            }
+            places[usize::from(slave)] = Some(frame.count());
+            reader.ask(&mut frame);
         }
     }
-    frame
+    Question {
+        frame,
+        places,
+        next: first,
+    }
 }
 
 /// Each that asked takes its answer, in the order of the line. Gives whether one got further.
 fn take_answers<W: Wire>(
     returned: &Frame,
-    only: Option<u16>,
+    places: &[Option<usize>; 64],
     readers: &mut Readers,
     ahead: &mut Ahead,
 ) -> bool
@@ -58,16 +68,13 @@ fn take_answers<W: Wire>(
     ensures told { All (IsUnderWay W.gives) readers.new }
     ensures kept { AllKept W.gives ahead.new }
 {
-    let mut place = 0usize;
     let mut is_further = false;
     for slave in 0..64u16 {
         let reader = readers[usize::from(slave)];
-        let is_asked = is_in(only, slave) && reader.is_asking();
-        let answer = if is_asked { Some(place) } else { None };
-        let next = take_answer::<W>(reader, returned, answer, slave, ahead);
+        let place = places[usize::from(slave)];
+        let next = take_answer::<W>(reader, returned, place, slave, ahead);
         readers[usize::from(slave)] = next;
         is_further = is_further || next.phase != reader.phase;
-        place = place.saturating_add(usize::from(is_asked));
     }
     is_further
 }
@@ -97,8 +104,7 @@ fn take_answer<W: Wire>(
 }
 
 /// Reads until no reader asks for anything more, or none has got further in 10,000 frames: then each that still asks is of a slave that stays
-/// busy, and is given up. A frame in which none got further is followed by a pause. On a wire that is lent each frame has the datagram of one
-/// reader, in turn.
+/// busy, and is given up. A frame in which none got further is followed by a pause. Where a frame hasn't room for all that ask, they take turns.
 pub fn read_in_step<W: Wire, C: Clock>(
     wire: &mut NumberedWire<W>,
     clock: &C,
@@ -111,19 +117,21 @@ pub fn read_in_step<W: Wire, C: Clock>(
     ensures kept { AllKept W.gives ahead.new }
 {
     let mut pace = Pace::new();
-    let mut only = None;
+    let mut first = 0;
     for _frame in 0..u32::MAX {
-        if wire.is_lent() {
-            only = next_asking(&readers, only);
-        }
-        let asked = asked_by(&readers, only);
-        if asked.count() == 0 || u32::from(pace.pauses()) >= POLLS {
+        let Question {
+            frame,
+            places,
+            next,
+        } = asked_by(&readers, first, wire.room());
+        if frame.count() == 0 || u32::from(pace.pauses()) >= POLLS {
             return Ok(readers);
         }
-        let Some(returned) = wire.pass_all(asked) else {
+        let Some(returned) = wire.pass_all(frame) else {
             return Err(LineFault::Silent);
         };
-        if take_answers::<W>(&returned.frame, only, &mut readers, ahead) {
+        first = next;
+        if take_answers::<W>(&returned.frame, &places, &mut readers, ahead) {
             pace = Pace::new();
         } else {
             pace.poll(clock);

@@ -3,12 +3,13 @@ ghost use Rattle.std.specs.Prelude.{◌≡◌, ◌⊎◌, true, false, length, I
 ghost use Rattle.ecat_frame.specs.Command.{code_of};
 ghost use Rattle.ecat_frame.specs.declared.command.Command.TheVariants.{Fprd, Fpwr};
 ghost use Rattle.wire_frames.specs.Came.{CameOver, Told};
+ghost use Rattle.wire_frames.specs.Room.{AddsOne};
 ghost use Rattle.wire_frames.specs.Sending.{InEeprom, OnlyEeprom};
-ghost use Rattle.wire_words.specs.Words.{WordsRead};
-ghost use Rattle.wire_words.specs.Reading.{has_told, GoesOn, StaysAt, IsUnderWay};
+ghost use Rattle.wire_words.specs.Words.{AreOther, WordsRead};
+ghost use Rattle.wire_words.specs.Reading.{has_told, most_asked, GoesOn, StaysAt, IsUnderWay};
 ghost use Rattle.wire_words.specs.declared.reader.Phase.TheVariants as phase;
 
-use crate::reading::{EMPTY, Read, ReadSize, are_other, read_content};
+use crate::reading::{EMPTY, Read, ReadSize, are_other, data_fetched, data_polled, read_content};
 use crate::sizing::{block_behind, words_ahead};
 use crate::telling::Hitch;
 use ecat_frame::{Command, Datagram, Frame, fp};
@@ -32,11 +33,11 @@ const NEXT_HELD: u8 = 0x35;
 pub(crate) enum Phase {
     /// It tells the slave to read words.
     Tells,
-    /// It polls until the slave has read them.
-    Polls,
+    /// It polls until the slave has read them, with so many bytes of the data register behind control and status.
+    Polls(ReadSize),
     /// It fetches so many bytes of them.
     Fetches(ReadSize),
-    /// It polls until the slave is idle: at first, and where something went amiss.
+    /// It polls likewise until the slave is idle: at first, and where something went amiss.
     Settles,
     /// It clears the slave's errors: command 000.
     Clears,
@@ -66,6 +67,8 @@ pub struct Reader {
     pub(crate) held: u8,
     /// How many fetches in a row found that byte there yet.
     early: u32,
+    /// How many bytes a read loads, as the slave showed it last.
+    loads: ReadSize,
     /// How many polls in a row were not counted by one slave alone.
     uncounted: u32,
     /// The last poll that didn't find the slave idle.
@@ -108,6 +111,7 @@ impl Reader {
             stumbles: 0,
             held: HELD,
             early: 0,
+            loads: ReadSize::Four,
             uncounted: 0,
             poll: NOTHING,
             stumble: NOTHING,
@@ -164,10 +168,21 @@ impl Reader {
         self.hitch().unwrap_or(Hitch::Stuck(self.stumble))
     }
 
+    /// The most bytes of content that its next datagram has.
+    pub(crate) fn most_asked(self) -> u16
+        ensures { result ≡ most_asked self.phase }
+    {
+        match self.phase {
+            Phase::Polls(ReadSize::Eight) => 14,
+            _ => 10,
+        }
+    }
+
     /// Puts its datagram behind those of a frame, if there is room for it.
     pub(crate) fn ask(self, frame: &mut Frame)
         requires { OnlyEeprom frame.old }
-        ensures { OnlyEeprom frame.new }
+        ensures only { OnlyEeprom frame.new }
+        ensures adds { AddsOne (most_asked self.phase) frame.old frame.new }
     {
         let station = self.station;
         match self.phase {
@@ -178,9 +193,14 @@ impl Reader {
                 CONTROL,
                 &read_content(self.word, self.held),
             ),
-            Phase::Polls | Phase::Settles => {
-                put_in(frame, Command::Fprd, station, CONTROL, &[0, 0])
-            }
+            Phase::Polls(size) => put_in(
+                frame,
+                Command::Fprd,
+                station,
+                CONTROL,
+                &EMPTY[..6 + size.bytes()],
+            ),
+            Phase::Settles => put_in(frame, Command::Fprd, station, CONTROL, &EMPTY[..10]),
             Phase::Clears => put_in(frame, Command::Fpwr, station, CONTROL, &[0, 0]),
             Phase::Fetches(size) => {
                 put_in(
@@ -306,14 +326,15 @@ impl Reader {
     fn idle(self, status: u16, poll: Last) -> Reader
         ensures { GoesOn status self result }
     {
-        if self.phase != Phase::Polls {
+        if !matches!(self.phase, Phase::Polls(_)) {
             return self.to(Phase::Clears);
         }
         if status >= 0x2000 {
             return self.stumbled(poll);
         }
         let loads = ReadSize::shown_by(status);
-        self.to(Phase::Fetches(loads.fetched_at(self.word)))
+        let fetches = self.to(Phase::Fetches(loads.fetched_at(self.word)));
+        Reader { loads, ..fetches }
     }
 
     /// A byte of the words is the one that its command put there. Where that is so of the first word, they aren't loaded yet, and are fetched again.
@@ -337,7 +358,8 @@ fn put_in(frame: &mut Frame, command: Command, station: u16, register: u16, cont
     requires command { (command ≡ Fprd) ⊎ (command ≡ Fpwr) }
     requires eeprom { InEeprom register (length content.now) }
     requires only { OnlyEeprom frame.old }
-    ensures { OnlyEeprom frame.new }
+    ensures only { OnlyEeprom frame.new }
+    ensures adds { AddsOne (length content.now) frame.old frame.new }
 {
     match frame.push(command, 0, fp(station, register), content) {
         Ok(()) => return,
@@ -378,30 +400,9 @@ fn behind_command<W: Wire>(reader: Reader, returned: &Frame, place: usize) -> Re
     let command = read_content(reader.word, reader.held);
     let taken = answer_to::<W>(reader, Command::Fpwr, CONTROL, &command, returned, place);
     if taken.counter == 1 {
-        reader.to(Phase::Polls)
+        reader.to(Phase::Polls(reader.loads.fetched_at(reader.word)))
     } else {
         reader.stumbled(last_of(Command::Fpwr, CONTROL, &taken))
-    }
-}
-
-/// The reader behind the answer to a poll.
-fn behind_poll<W: Wire>(reader: Reader, returned: &Frame, place: usize) -> Reader
-    requires came { CameOver W.gives returned.now }
-    requires told { IsUnderWay W.gives reader }
-    ensures told { IsUnderWay W.gives result }
-    ensures stays { StaysAt reader result }
-{
-    let shown = answer_to::<W>(reader, Command::Fprd, CONTROL, &[0, 0], returned, place);
-    let poll = last_of(Command::Fprd, CONTROL, &shown);
-    match shown.word() {
-        Some(status) => {
-            let poll = Last {
-                status: Some((status / 256) as u8),
-                ..poll
-            };
-            reader.polled(status, poll)
-        }
-        None => reader.waiting(reader.uncounted.saturating_add(1), poll),
     }
 }
 
@@ -427,6 +428,56 @@ pub(crate) struct Stepped {
     pub(crate) read: Option<Read>,
 }
 
+/// The reader with these words, once they are loaded.
+fn with_words(reader: Reader, read: Read, last: Last) -> Stepped
+    ensures told { has_told result.reader.phase ≡ true → GoesOn 0 reader result.reader }
+    ensures stays { result.read ≡ None → StaysAt reader result.reader }
+    ensures read { IfSome result.read (λ words. (words ≡ read) × AreOther reader.held read.pair) }
+{
+    if are_other(read.pair, reader.held) {
+        Stepped {
+            reader: reader.behind(read),
+            read: Some(read),
+        }
+    } else {
+        Stepped {
+            reader: reader.unsure(read.pair, last),
+            read: None,
+        }
+    }
+}
+
+/// The reader behind the answer to a poll with so many bytes of the data register.
+fn behind_poll<W: Wire>(reader: Reader, size: ReadSize, returned: &Frame, place: usize) -> Stepped
+    requires came { CameOver W.gives returned.now }
+    requires told { IsUnderWay W.gives reader }
+    ensures told { IsUnderWay W.gives result.reader }
+    ensures stays { result.read ≡ None → StaysAt reader result.reader }
+    ensures read { IfSome result.read (WordsRead W.gives reader.station reader.word) }
+{
+    let empty = &EMPTY[..6 + size.bytes()];
+    let shown = answer_to::<W>(reader, Command::Fprd, CONTROL, empty, returned, place);
+    let poll = last_of(Command::Fprd, CONTROL, &shown);
+    let Some(status) = shown.word() else {
+        return Stepped {
+            reader: reader.waiting(reader.uncounted.saturating_add(1), poll),
+            read: None,
+        };
+    };
+    let poll = Last {
+        status: Some((status / 256) as u8),
+        ..poll
+    };
+    let next = reader.polled(status, poll);
+    if next.phase != Phase::Fetches(size) {
+        return Stepped {
+            reader: next,
+            read: None,
+        };
+    }
+    with_words(next, Read::of_bytes(data_polled(&shown), size), poll)
+}
+
 /// The reader behind the fetch of so many bytes of what it read.
 fn behind_fetch<W: Wire>(reader: Reader, size: ReadSize, returned: &Frame, place: usize) -> Stepped
     requires came { CameOver W.gives returned.now }
@@ -445,18 +496,7 @@ fn behind_fetch<W: Wire>(reader: Reader, size: ReadSize, returned: &Frame, place
             read: None,
         };
     }
-    let read = Read::in_reply(&fetched, size);
-    if are_other(read.pair, reader.held) {
-        Stepped {
-            reader: reader.behind(read),
-            read: Some(read),
-        }
-    } else {
-        Stepped {
-            reader: reader.unsure(read.pair, fetch),
-            read: None,
-        }
-    }
+    with_words(reader, Read::of_bytes(data_fetched(&fetched), size), fetch)
 }
 
 /// The reader behind the answer at this place of a frame that came back.
@@ -470,7 +510,8 @@ pub(crate) fn step<W: Wire>(reader: Reader, returned: &Frame, place: usize) -> S
     let next = match reader.phase {
         Phase::Fetches(size) => return behind_fetch::<W>(reader, size, returned, place),
         Phase::Tells => behind_command::<W>(reader, returned, place),
-        Phase::Polls | Phase::Settles => behind_poll::<W>(reader, returned, place),
+        Phase::Polls(size) => return behind_poll::<W>(reader, size, returned, place),
+        Phase::Settles => return behind_poll::<W>(reader, ReadSize::Four, returned, place),
         Phase::Clears => behind_clearing::<W>(reader, returned, place),
         Phase::Ends => reader,
     };

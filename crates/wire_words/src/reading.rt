@@ -1,5 +1,5 @@
 //! Words of a slave that are read by frames of one datagram.
-ghost use Rattle.std.specs.Prelude.{◌≡◌, ◌↔◌, ◌/◌, ◌%◌, ◌<◌, ◌≤◌, true, slice_index, IfOk};
+ghost use Rattle.std.specs.Prelude.{◌≡◌, ◌↔◌, ◌/◌, ◌%◌, ◌<◌, ◌≤◌, true, drop, slice_index, take, IfOk};
 ghost use Rattle.wire_words.specs.Words.{read_command, AreOther, WordsRead};
 ghost use Rattle.wire_words.specs.Reading.{bytes_loaded, read_of};
 ghost use Rattle.wire_words.specs.declared.reading.ReadSize.TheVariants.{Eight};
@@ -9,10 +9,10 @@ use crate::telling::Hitch;
 use ecat_frame::Frame;
 use esc_rom::POLLS;
 use std::rt::Clock;
-use wire_frames::{ATTEMPTS, NumberedWire, Pace, Reply, Wire};
+use wire_frames::{ATTEMPTS, KEPT, NumberedWire, Pace, Reply, Wire};
 
 /// The content of a datagram that reads.
-pub(crate) const EMPTY: [u8; 8] = [0; 8];
+pub(crate) const EMPTY: [u8; KEPT] = [0; KEPT];
 
 /// How many bytes a read command loads into the data register: bit 6 of control and status (ESC data sheet).
 #[derive(Clone, Copy, PartialEq, Eq)]
@@ -60,11 +60,11 @@ pub struct Read {
 }
 
 impl Read {
-    /// The words in the reply to a read of the data register.
-    pub(crate) fn in_reply(reply: &Reply, size: ReadSize) -> Read
-        ensures { result ≡ read_of size reply.now.content }
+    /// The words in these bytes of the data register.
+    pub(crate) fn of_bytes(bytes: [u8; 8], size: ReadSize) -> Read
+        ensures { result ≡ read_of size bytes }
     {
-        let [a, b, c, d, e, f, g, h] = reply.content;
+        let [a, b, c, d, e, f, g, h] = bytes;
         Read {
             pair: [a, b, c, d],
             next: match size {
@@ -73,6 +73,22 @@ impl Read {
             },
         }
     }
+}
+
+/// The data register, in the reply to a read of it.
+pub(crate) fn data_fetched(reply: &Reply) -> [u8; 8]
+    ensures { result ≡ take 8 reply.now.content }
+{
+    let [a, b, c, d, e, f, g, h, ..] = reply.content;
+    [a, b, c, d, e, f, g, h]
+}
+
+/// The data register, in the reply to a read of control and status, the word's number, and it.
+pub(crate) fn data_polled(reply: &Reply) -> [u8; 8]
+    ensures { result ≡ drop 6 reply.now.content }
+{
+    let [_, _, _, _, _, _, a, b, c, d, e, f, g, h] = reply.content;
+    [a, b, c, d, e, f, g, h]
 }
 
 /// The content of the command to read words from this one on. It puts a byte four times where they come to stand.

@@ -1,6 +1,5 @@
 use Rattle.sii_bytes.proofs.EditLaws.{edited_length, refused_so}
 use Rattle.std.proofs.Common.{ap, ◌∙◌}
-use Rattle.sii_words.specs.Plant.{words_of}
 use Rattle.sii_words.specs.Words.{bytes_of}
 use Rattle.sii_bytes.proofs.editing.edited.Goals as goal
 

@@ -1,4 +1,4 @@
-use Rattle.std.proofs.Common.{refl, ap, ◌∙◌}
+use Rattle.std.proofs.Common.{ap, ◌∙◌}
 use Rattle.sii_bytes.specs.declared.judging.Finding.{Finding}
 use Rattle.sii_bytes.specs.Judging.JudgesListing.{bad_check, runs_out, bad_category}
 use Rattle.sii_bytes.proofs.Judged.{malformed_as}

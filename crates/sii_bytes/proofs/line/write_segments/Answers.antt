@@ -1,5 +1,4 @@
-use Rattle.std.proofs.Common.{false, get_or, refl, ap, set, ◌∙◌, List, arith}
-use Rattle.sii_image.specs.declared.process_image.Segment.{Segment}
+use Rattle.std.proofs.Common.{false, get_or, refl, ap, set, ◌∙◌, arith}
 use Rattle.sii_bytes.specs.declared.line.PlacedSegment.{PlacedSegment}
 use Rattle.sii_bytes.specs.Line.{placed_segment}
 use Rattle.sii_bytes.proofs.LineWritten.{written_more}

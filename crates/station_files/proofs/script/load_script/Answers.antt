@@ -1,4 +1,4 @@
-use Rattle.std.proofs.Common.{subst}
+use Rattle.std.proofs.Common.{◌∙◌, subst}
 use Rattle.std.proofs.lemmas.Result.{IfErr-weaker, IfOk-weaker}
 use Rattle.std.specs.List.{AllZip}
 use Rattle.station_files.specs.Files.{Known}
@@ -12,11 +12,11 @@ pub returns-clause-commands : goal.returns-clause-commands
 returns-clause-commands g c =
     let old = g.S.Store.files c.args.store.now in
     let script = c.in_ok-script.script.items in
-    IfOk-weaker c.load_commands.result (λ commands. AllZip (LoadsCommand (g.S.Store.files c.read_file.new.store)) script commands.items) _
+    IfOk-weaker c.load_commands.result (λ commands. AllZip (LoadsCommand (g.S.Store.files c.spelt_script.new.store)) script commands.items) _
     (λ commands loaded. record {
       script = script;
       spelt = of_held (λ text. SpellsScriptFile text script) old c.args.name.now c.in_ok-bytes.bytes.items c.in_ok-bytes.ensures.bytes (rw c.deref.ensures.value at c.in_ok-script.ensures.script);
-      loaded = let P : Known → Type 0 = λ files. AllZip (LoadsCommand files) script commands.items in subst P c.read_file.ensures.same loaded;
+      loaded = let P : Known → Type 0 = λ files. AllZip (LoadsCommand files) script commands.items in subst P (c.spelt_script.ensures.same ∙ c.read_file.ensures.same) loaded;
     })
     (rw c.deref-2.ensures.value at c.load_commands.ensures.commands)
 
@@ -28,7 +28,7 @@ returns-in_err-script-clause-refused g c =
 
 pub returns-clause-refused : goal.returns-clause-refused
 returns-clause-refused g c =
-    IfErr-weaker c.load_commands.result (RefusesCommands (g.S.Store.files c.read_file.new.store) c.in_ok-script.script.items) _
-    (λ fault refused. script_images_refused (g.S.Store.files c.args.store.now) (g.S.Store.files c.read_file.new.store) c.args.name.now c.in_ok-bytes.bytes.items c.in_ok-script.script.items fault
-    c.in_ok-bytes.ensures.bytes (rw c.deref.ensures.value at c.in_ok-script.ensures.script) c.read_file.ensures.same refused)
+    IfErr-weaker c.load_commands.result (RefusesCommands (g.S.Store.files c.spelt_script.new.store) c.in_ok-script.script.items) _
+    (λ fault refused. script_images_refused (g.S.Store.files c.args.store.now) (g.S.Store.files c.spelt_script.new.store) c.args.name.now c.in_ok-bytes.bytes.items c.in_ok-script.script.items fault
+    c.in_ok-bytes.ensures.bytes (rw c.deref.ensures.value at c.in_ok-script.ensures.script) (c.spelt_script.ensures.same ∙ c.read_file.ensures.same) refused)
     (rw c.deref-2.ensures.value at c.load_commands.ensures.refused)

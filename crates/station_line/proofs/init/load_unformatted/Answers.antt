@@ -33,5 +33,5 @@ returns-in_default g c =
         c.in_ok-line.ensures.line,
         is_there files (g.S.Store.files c.keep_line_apart.new.store) (string_bytes c.in_ok-line.line.journal) c.as_str.result.now c.in_ok-look.field-0 same c.as_str.ensures.value c.in_default.not-Absent c.in_ok-look.ensures.entry,
       );
-      same = c.look.ensures.same ∙ same;
+      same = c.note.ensures.same ∙ c.look.ensures.same ∙ same;
     }

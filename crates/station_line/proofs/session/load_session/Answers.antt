@@ -26,7 +26,7 @@ returns-clause-old g c = old-by c.in_ok-slaves.slaves.items c.in_ok-journal.jour
 pub returns-clause-judged : goal.returns-clause-judged
 returns-clause-judged g c =
     judged_by c.in_ok-slaves.slaves.items c.in_ok-journal.journal.items c.in_ok-site.site c.in_ok-refusal.refusal (rw c.deref-4.ensures.value at c.in_ok-site.ensures)
-    (rw (c.deref-2.ensures.value, c.deref-3.ensures.value) at c.in_ok-refusal.ensures)
+    (rw (c.deref-2.ensures.value, c.deref-3.ensures.value) at c.in_ok-refusal.ensures.judged)
 
 pub returns-in_err-line-clause-refused : goal.returns-in_err-line-clause-refused
 returns-in_err-line-clause-refused g c =

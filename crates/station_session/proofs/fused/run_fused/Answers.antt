@@ -1,12 +1,12 @@
 use Rattle.std.proofs.Common.{true}
-use Rattle.station_session.proofs.Ending.{ends-opened-as, ends-unopened}
+use Rattle.station_session.proofs.Ending.{ends-opened, ends-unopened}
 use Rattle.station_session.proofs.fused.run_fused.Goals as goal
 
 pub returns-in-Ok : goal.returns-in-Ok
 returns-in-Ok g c =
     let session = c.args.given.session in
-    ends-opened-as true (g.S.Store.files c.args.store.now) (g.S.Store.files c.run_station.new.store) session.line session.site c.with_device-site.result session.is_old c.in-Ok.alone c.args.given.commands.items c.run_station.result
-    c.with_device-site.ensures c.requires.old c.in-Ok.ensures.starts c.run_station.ensures
+    ends-opened true (g.S.Store.files c.args.store.now) (g.S.Store.files c.run_station.new.store) session.line session.site session.is_old c.in-Ok.alone c.args.given.commands.items c.run_station.result
+    c.requires.old c.in-Ok.ensures.starts c.run_station.ensures
 
 pub returns : goal.returns
 returns g c =

@@ -1,14 +1,14 @@
 use Rattle.std.proofs.Common.{false, sym, subst}
 use denote.Param.Send.{sendable}
 use Rattle.site_file.proofs.Sent.{device-send}
-use Rattle.line_watch.proofs.Sent.{captured-send, watched-send}
+use Rattle.line_watch.proofs.Sent.{watched-send}
 use Rattle.station_session.specs.RunFiles.{RunKeepsFiles}
 use Rattle.station_session.proofs.Ending.{told-too}
 use Rattle.station_session.proofs.RunFiles.{run_on_files, told_as}
 use Rattle.station_session.proofs.run.run_opened.Goals as goal
 
 pub run_site-served-requires-send-D : goal.run_site-served-requires-send-D
-run_site-served-requires-send-D g c κs lives = search (captured-send, watched-send, device-send, sendable) depth 40
+run_site-served-requires-send-D g c κs lives = search (watched-send, device-send, sendable) depth 40
 
 pub returns-clause-ends : goal.returns-clause-ends
 returns-clause-ends g c =
@@ -25,5 +25,5 @@ returns-clause-kept g c =
     let told = c.with_all_told-served in
     subst (λ t. RunKeepsFiles _ given.session.site.seen given.commands.items told.result.status t) (sym told.ensures.told)
     (told_as _ given.session.site.seen given.commands.items ran.result.status told.result.status ran.result.told told.ensures.status
-    (run_on_files _ _ _ _ (λ device seen follows. (device.device.device, follows)) (λ device seen follows told tells. tells.calls) (λ device seen follows well. well) ran.result.told
+    (run_on_files _ _ _ _ (λ device seen follows. (device.device, follows)) (λ device seen follows told tells. tells.calls) (λ device seen follows well. well) ran.result.told
     given.session.site.seen given.commands.items ran.result.status c.requires.fresh.new ran.ensures.goes))

@@ -1,24 +1,18 @@
-use Rattle.std.proofs.Common.{rules, ◌≡◌, true, length, refl, sym, subst}
-use Rattle.wire_words.specs.Words.{AreOther, WordsRead}
-use Rattle.wire_words.specs.Reading.{has_told}
-use Rattle.wire_words.specs.declared.reading.Read.{Read}
-use Rattle.wire_words.specs.declared.reading.ReadSize.{ReadSize}
-use Rattle.wire_words.specs.declared.reader.Phase.{Phase}
-use Rattle.wire_words.specs.declared.reader.Phase.TheVariants as phase
-use Rattle.wire_words.proofs.Words.{words_told}
+use Rattle.std.proofs.Common.{rules, ◌≡◌, length, refl}
+use Rattle.wire_words.proofs.Words.{read_fetched, under_way_yet}
 use Rattle.wire_words.proofs.reader.behind_fetch.Goals as goal
 
-pub returns-then-are_other-clause-read : goal.returns-then-are_other-clause-read
-returns-then-are_other-clause-read g c =
-    subst (λ (r : Read). WordsRead g.W.Wire.gives c.args.reader.station c.args.reader.word r) (sym c.in_reply-read.ensures)
-    (words_told g.W.Wire.gives c.args.reader.station c.args.reader.word c.args.reader.held c.args.size c.bytes.result _ c.answer_to-fetched.result
-    c.bytes.ensures.number c.bytes.ensures.most refl eight counted
-    (c.requires.told.told (subst (λ (p : Phase). has_told p ≡ true) (sym c.requires.fetches) refl)) c.answer_to-fetched.ensures
-    (subst (λ (r : Read). AreOther c.args.reader.held r.pair) c.in_reply-read.ensures (c.are_other.ensures c.if-are_other.true))
-    (λ is. c.requires.told.eight (subst (λ (s : ReadSize). c.args.reader.phase ≡ phase.Fetches s) is c.requires.fetches)))
+pub returns-clause-told : goal.returns-clause-told
+returns-clause-told g c = under_way_yet g.W.Wire.gives c.args.reader c.with_words.result.reader c.requires.told c.with_words.ensures.told
+
+pub returns-clause-read : goal.returns-clause-read
+returns-clause-read g c =
+    read_fetched g.W.Wire.gives c.args.reader c.args.size c.bytes.result _ c.answer_to-fetched.result c.data_fetched.result c.of_bytes.result
+    c.with_words.result.read c.bytes.ensures.number c.bytes.ensures.most refl kept counted c.requires.told c.requires.fetches
+    c.answer_to-fetched.ensures c.data_fetched.ensures c.of_bytes.ensures c.with_words.ensures.read
   where
-    eight : length c.answer_to-fetched.result.content ≡ 8
-    eight = search rules
+    kept : length c.answer_to-fetched.result.content ≡ 14
+    kept = search rules
 
     counted : c.answer_to-fetched.result.counter ≡ 1
     counted = search rules

@@ -35,6 +35,6 @@ returns g c =
     record {
       hears =
           hears-disk c.hand_out.result next c.args.self.now _ c.hand_out.ensures.tells
-          (noted-call s.history c.note.new.history s.tickets.total s.refusals.total s.pool s.is_out_of_memory c.args.self.now (DiskAsked answer) (DiskAsked next) c.self.view_is c.note.ensures (ap (λ (a : DiskNext). DiskAsked a) c.of-answer.ensures));
+          (noted-call s.history c.note.new.history s.tickets.total s.refusals.total s.pool s.is_out_of_memory s.seen c.args.self.now (DiskAsked answer) (DiskAsked next) c.self.view_is c.note.ensures (ap (λ (a : DiskNext). DiskAsked a) c.of-answer.ensures));
       answered = answered-by g.T.Tickets.opened s.core s.history c.note.new.history (DiskAsked answer) c.self.invariant.0 (c.of-answer.ensures ∙ c.in-Ok-disk_next.ensures.answer) c.note.ensures;
     }

@@ -59,7 +59,7 @@ returns-then-is_done-clause-hears g c =
       ap is_done (sym (plan-asked opened s.history later now.calls None c.note-in-Err-ImageOverLimit.ensures same)) ∙ sym c.is_done.ensures ∙ c.if-is_done.true,
       (
         subst (λ (b : Book). process_image (planned b) ≡ None) (c.self.invariant.0.same ∙ ap (replayed opened) same) none,
-        noted-call s.history later s.tickets.total s.refusals.total s.pool s.is_out_of_memory now (PlanAsked None) (PlanAsked None) c.self.view_is c.note-in-Err-ImageOverLimit.ensures refl,
+        noted-call s.history later s.tickets.total s.refusals.total s.pool s.is_out_of_memory s.seen now (PlanAsked None) (PlanAsked None) c.self.view_is c.note-in-Err-ImageOverLimit.ensures refl,
       ),
     )
 
@@ -79,7 +79,7 @@ returns-else-is_done-clause-hears g c =
       ap is_done (sym (plan-asked opened s.history later now.calls None c.note-in-Err-ImageOverLimit.ensures same)) ∙ sym c.is_done.ensures ∙ c.if-is_done.false,
       (
         subst (λ (b : Book). process_image (planned b) ≡ None) (c.self.invariant.0.same ∙ ap (replayed opened) same) none,
-        noted-call s.history later s.tickets.total s.refusals.total s.pool s.is_out_of_memory now (PlanAsked None) (PlanAsked None) c.self.view_is c.note-in-Err-ImageOverLimit.ensures refl,
+        noted-call s.history later s.tickets.total s.refusals.total s.pool s.is_out_of_memory s.seen now (PlanAsked None) (PlanAsked None) c.self.view_is c.note-in-Err-ImageOverLimit.ensures refl,
       ),
     )
 

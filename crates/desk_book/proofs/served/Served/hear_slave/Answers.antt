@@ -37,7 +37,7 @@ returns g c =
     record {
       hears =
           hears-slave slave c.hand_out_at.result answer c.args.self.now _ c.hand_out_at.ensures.tells
-          (noted-call s.history later s.tickets.total s.refusals.total s.pool s.is_out_of_memory c.args.self.now call call c.self.view_is c.note.ensures refl);
+          (noted-call s.history later s.tickets.total s.refusals.total s.pool s.is_out_of_memory s.seen c.args.self.now call call c.self.view_is c.note.ensures refl);
       answered = answered-by opened s.core s.history later call c.self.invariant.0 asked.answer c.note.ensures;
       wear = wears-few c.hand_out_at.result (replayed opened later) (worn-by opened s.core c.rom_next-answer.new.self s.history later call c.self.invariant.0 asked.answer asked.book c.note.ensures asked.wear);
     }

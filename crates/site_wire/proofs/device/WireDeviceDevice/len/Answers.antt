@@ -2,12 +2,12 @@ use Rattle.std.proofs.Common.{ap, ◌∙◌}
 use Rattle.site_file.specs.declared.files.FileDevice.{FileDevice}
 use Rattle.site_file.specs.Device.{AsksLength}
 use Rattle.site_wire.proofs.Journal.{handed_on}
-use Rattle.site_wire.proofs.Following.{length_keeps}
+use Rattle.site_wire.proofs.Following.{length_asks}
 use Rattle.site_wire.proofs.device.WireDeviceDevice.len.Goals as goal
 
 pub returns-clause-follows : goal.returns-clause-follows
 returns-clause-follows g c =
-    length_keeps c.args.self.now c.end_call.new.self c.end_call.result
+    length_asks c.args.self.now c.end_call.new.self c.end_call.result
     (ap (λ (j : FileDevice _). j.asking.part) c.end_call.ensures.journal ∙ c.len-passing.ensures.part)
     (handed_on (AsksLength c.args.self.now.journal) c.len-passing.result c.end_call.result c.len-passing.new.self c.end_call.new.self.journal
     c.end_call.ensures.same c.end_call.ensures.journal c.len-passing.ensures.asks)

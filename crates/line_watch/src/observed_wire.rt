@@ -1,0 +1,201 @@
+//! A wire whose frames are written down and counted.
+ghost use Rattle.std.specs.Prelude.{◌≡◌, ◌≤◌, length, take};
+
+use crate::capture::Capture;
+use crate::ethernet::Way;
+use crate::progress::Progress;
+use ecat_frame::{Command, Datagram, Frame, MAX_LEN};
+use site_file::RandomAccessFile;
+use std::io;
+use std::io::Write;
+use std::rt::Clock;
+use std::sync::Wait;
+use wire_frames::Wire;
+
+/// The register of control and status of an EEPROM (ETG.1000.4).
+const CONTROL: u32 = 0x0502;
+
+/// The register of the words that were read.
+const DATA: u32 = 0x0508;
+
+/// A wire, the capture in which its frames are written down, and the progress for which they count, if there are these. It answers each call as
+/// the wire does.
+///
+/// A frame is written down once it is sent, and as one is received, so the capture has what a tap on the wire sees: each sending of a frame
+/// that is sent again, and each EtherCAT frame that comes, also one that is late, falsified or of somebody else. A frame that can't be sent
+/// isn't written down.
+///
+/// A slave is busy from the command to read or write a word to the poll that shows it idle. A word that is written or read again counts again.
+#[derive(Drop)]
+pub struct ObservedWire<'o, W, F, T, R> {
+    wire: W,
+    capture: Option<&'o Capture<F>>,
+    progress: Option<&'o Progress<T>>,
+    rt: &'o R,
+    /// The station addresses of the slaves that were told a command, in that order.
+    stations: [u16; 64],
+    /// How many there are.
+    told: usize,
+}
+
+/// What a datagram says of a slave's words.
+#[derive(Clone, Copy)]
+enum Word {
+    /// Words are to be read.
+    Asked,
+    /// A word is to be written.
+    Told,
+    /// So many words were read.
+    Read(usize),
+    /// The slave is idle.
+    Idle,
+}
+
+/// What a datagram that goes to control and status says of words.
+fn command_in(datagram: Datagram<'_>) -> Option<Word> {
+    match (datagram.command, datagram.content) {
+        (Command::Fpwr, [_, command, _, _, _, _, ..]) if command % 8 == 1 => Some(Word::Asked),
+        (Command::Fpwr, [_, command, _, _, _, _, ..]) if command % 8 == 2 => Some(Word::Told),
+        _ => None,
+    }
+}
+
+/// What a read that one slave answered says of words.
+fn answer_in(register: u32, content: &[u8]) -> Option<Word> {
+    match (register, content) {
+        (CONTROL, [_, status]) if *status < 0x80 => Some(Word::Idle),
+        (DATA, words) => Some(Word::Read(words.len() / 2)),
+        _ => None,
+    }
+}
+
+/// What a datagram says of words, as it goes or comes back.
+fn word_in(way: Way, datagram: Datagram<'_>) -> Option<Word> {
+    let register = datagram.address / 65536;
+    match way {
+        Way::Out if register == CONTROL => command_in(datagram),
+        Way::Back if datagram.command == Command::Fprd && datagram.counter == 1 => {
+            answer_in(register, datagram.content)
+        }
+        _ => None,
+    }
+}
+
+/// So many of these bytes, from the first on, or all of them if there are fewer.
+fn front_of(bytes: &[u8], count: usize) -> &[u8]
+    ensures front { result.now ≡ take count bytes.now }
+    ensures most { length result.now ≤ count }
+{
+    &bytes[..count.min(bytes.len())]
+}
+
+/// The frame of so many bytes at the front of these, up to its 1,500th byte.
+fn frame_in(bytes: &[u8], count: usize) -> &[u8]
+    ensures frame { result.now ≡ take count (take MAX_LEN bytes.now) }
+    ensures fits { length result.now ≤ MAX_LEN }
+{
+    front_of(front_of(bytes, MAX_LEN), count)
+}
+
+impl<'o, W: Wire, F: RandomAccessFile + Drop, T: Write, R: Wait + Clock> ObservedWire<
+    'o,
+    W,
+    F,
+    T,
+    R,
+> {
+    /// Makes the wire whose frames are written down in this capture, and count for this progress.
+    pub fn new(
+        wire: W,
+        capture: Option<&'o Capture<F>>,
+        progress: Option<&'o Progress<T>>,
+        rt: &'o R,
+    ) -> ObservedWire<'o, W, F, T, R> {
+        ObservedWire {
+            wire,
+            capture,
+            progress,
+            rt,
+            stations: [0; 64],
+            told: 0,
+        }
+    }
+
+    /// Writes down the frame of so many bytes at the front of these.
+    fn write_down(&self, way: Way, bytes: &[u8], count: usize) {
+        if let Some(capture) = self.capture {
+            capture.note(self.rt, way, frame_in(bytes, count));
+        }
+    }
+
+    /// The place of a slave among those that were told a command.
+    fn place_of(&mut self, station: u16) -> usize {
+        for place in 0..self.told.min(64) {
+            if self.stations[place] == station {
+                return place;
+            }
+        }
+        let place = self.told;
+        if place < 64 {
+            self.stations[place] = station;
+            self.told = place + 1;
+        }
+        place
+    }
+
+    /// Counts what a datagram says.
+    fn count(&mut self, progress: &Progress<T>, way: Way, datagram: Datagram<'_>) {
+        let Some(word) = word_in(way, datagram) else {
+            return;
+        };
+        let is_busy = match word {
+            Word::Asked => true,
+            Word::Told => {
+                progress.add_word();
+                true
+            }
+            Word::Read(count) => {
+                progress.add_read(count as u64);
+                return;
+            }
+            Word::Idle => false,
+        };
+        let place = self.place_of((datagram.address % 65536) as u16);
+        progress.set_busy(place, is_busy);
+    }
+
+    /// Counts what a frame says, as it goes or comes.
+    fn count_frame(&mut self, way: Way, bytes: &[u8]) {
+        let Some(progress) = self.progress else {
+            return;
+        };
+        if let Ok(frame) = Frame::parse(bytes) {
+            for datagram in frame.datagrams() {
+                self.count(progress, way, datagram);
+            }
+        }
+        progress.look(self.rt);
+    }
+}
+
+impl<'o, W: Wire, F: RandomAccessFile + Drop, T: Write, R: Wait + Clock> Wire
+    for ObservedWire<'o, W, F, T, R> {
+    ghost gives = { W.gives };
+
+    fn send(&mut self, frame: &[u8]) -> io::Result<()> {
+        self.count_frame(Way::Out, frame);
+        self.wire.send(frame)?;
+        self.write_down(Way::Out, frame, frame.len());
+        Ok(())
+    }
+
+    /// What isn't an EtherCAT frame, whose length is 0, isn't written down.
+    fn receive(&mut self, bytes: &mut [u8]) -> io::Result<usize> {
+        let count = self.wire.receive(bytes)?;
+        if count > 0 {
+            self.write_down(Way::Back, bytes, count);
+        }
+        self.count_frame(Way::Back, &bytes[..count.min(bytes.len())]);
+        Ok(count)
+    }
+}

@@ -1,0 +1,13 @@
+//! The subcommands on a wire: their command line, and a task for each, over any wire, files and streams.
+
+mod arguments;
+mod backups;
+mod capture;
+mod rows;
+mod serving;
+mod shared_arguments;
+mod sizes;
+
+pub use arguments::{Arguments, Task, Tenure, read_arguments};
+pub use backups::back_up_to;
+pub use serving::{Connection, Screen, refuse_text, serve_on_wire};

@@ -1,0 +1,280 @@
+//! The subcommands of the program, with their help.
+
+use crate::arguments::{JSON, LINE, REPORT, VERBOSE};
+use crate::pages::explain_row;
+use crate::wire::shared_arguments::{
+    BESIDE, CAPTURE, CARRY, EVENTS, FORCE, QUIET, RESIZE, SCRIPT, TAKE, TRUST, WORDS,
+};
+use command_line::{Argument, Kind, Program, Subcommand, TEXT, TIMEOUT, TYPED_COMMANDS, WIRE};
+
+/// The help text on what `scan` prints.
+const SCAN_ANSWERS: &str = "Answers, a line for each slave:
+  slave P words N alias A check C vendor V product Q revision R serial S
+                   P is its position, from 0, and N the size of its EEPROM;
+                   C is ok, or bad with the check byte found and the one expected
+  slave P fault CODE NAME ..
+                   it can't be worked on; the other slaves are listed all the same
+Behind either stands:
+  state T          the AL state: init, preop, boot, safeop, op or unknown
+  error            the slave tells an error of that state
+  held             its PDI has the EEPROM, or is offered it
+  says W found F   W words are there by word 0x3e, and F were found: open where the
+                   words don't repeat up to word 4096, and alike where all words
+                   that were compared are the same, so that it can't be told
+  larger           it has more than 4096 words; the first 4096 are worked on";
+
+const SCAN: Subcommand = Subcommand {
+    name: "scan",
+    about: "Prints what the slaves of the line are",
+    long_about: "Brings up the line and reads the EEPROM of each slave. No word and no file is written, but for that of --capture.",
+    after_help: "Example:\n  sii_wire -i eth0 scan",
+    after_long_help: SCAN_ANSWERS,
+    arguments: &[WORDS, JSON, BESIDE, CARRY, TAKE, CAPTURE, QUIET],
+};
+
+fn scan_row() -> Subcommand {
+    SCAN
+}
+
+/// The help text on the files of `backup`.
+const BACKUP_FILES: &str =
+    "A line file that is there says where the images go. Where LINE isn't there it is
+written too: of a name like line.toml it names line-s0.bin, line-s1.bin and so on,
+and line-journal.bin. No file that is there already is written over. An image file
+with its slave's words counts as written, and an empty journal of the line as made;
+where one holds anything else comes fault 94 Exists, and nothing is written. So a
+backup that failed can be made again.
+
+Answers, a line for each slave whose word 0x3e tells another size than it has:
+  slave P words N says W
+                   N words were backed up, and W are there by word 0x3e
+  ... larger       it has more than 4096 words; the first 4096 are worked on
+and then, where the journal was made:
+  formatted AREA   it is empty; its area has AREA bytes
+and with --to, behind all:
+  line NAME        the name of the line file";
+
+/// The help text on the folder of a backup.
+const FOLDER_HELP: &str =
+    "Writes the line file, the image files and the journal into FOLDER, which has to be
+there, under names that begin with the date and the time in UTC, as
+FOLDER/20261126-211500.toml and FOLDER/20261126-211500-s0.bin, and prints the name of
+the line file. Nothing that is there is written over.";
+
+/// The line file of `backup`, where the files don't go to a folder.
+const BACKED_LINE: Argument = Argument {
+    kind: Kind::WordUnless("to"),
+    ..LINE
+};
+
+const FOLDER: Argument = Argument {
+    id: "to",
+    kind: Kind::TextWithout("FOLDER", "LINE"),
+    help: "Writes a backup of its own into this folder, under the date and the time",
+    long_help: FOLDER_HELP,
+};
+
+const BACKUP: Subcommand = Subcommand {
+    name: "backup",
+    about: "Writes the words of each slave to its image file",
+    long_about: "Brings up the line, reads the EEPROM of each slave, writes its words to its image file, and makes an empty journal if there is \
+        none. No word of a slave is written.",
+    after_help: "Examples:\n  sii_wire -i eth0 backup line.toml\n  sii_wire -i eth0 backup --to backups",
+    after_long_help: BACKUP_FILES,
+    arguments: &[
+        BACKED_LINE,
+        FOLDER,
+        WORDS,
+        BESIDE,
+        CARRY,
+        TAKE,
+        CAPTURE,
+        QUIET,
+    ],
+};
+
+fn backup_row() -> Subcommand {
+    BACKUP
+}
+
+/// The help text on what `init` prints.
+const INIT_ANSWERS: &str = "Answers:
+  formatted AREA   the journal is there, and empty; its area has AREA bytes
+The line file has to name an image file for each slave, and these have to be there,
+as backup leaves them. A journal that is there already is never written over:
+fault 94 Exists.";
+
+const INIT: Subcommand = Subcommand {
+    name: "init",
+    about: "Makes an empty journal for the line",
+    long_about: "Brings up the line, and makes an empty journal for as many slaves. No word of a slave is written.",
+    after_help: "Example:\n  sii_wire -i eth0 init line.toml",
+    after_long_help: INIT_ANSWERS,
+    arguments: &[LINE, BESIDE, CARRY, TAKE, TRUST, CAPTURE, QUIET],
+};
+
+fn init_row() -> Subcommand {
+    INIT
+}
+
+/// The help text on what `run` does.
+const RUN_TASK: &str =
+    "Brings up the line, submits the commands of the script in order, carries them out,
+all slaves at the same time, and writes the words of each slave to its image file.";
+
+/// Examples of `run`.
+const RUN_EXAMPLES: &str = "Examples:
+  sii_wire -i eth0 run line.toml script.toml
+  sii_wire -i eth0 run line.toml -e 'alias = { slave = 2, value = 7 }'";
+
+/// The help text on what `run` prints and writes.
+const RUN_ANSWERS: &str = "Answers:
+  command I accepted N           command I of the script has number N, from 0
+  command I refused CODE NAME    it isn't done, and changes nothing
+  ... at P                       of a group, edit P is the reason
+  accepted A durable D settled S
+                                 how many commands were accepted, how many of
+                                 them no power cut can undo any more, and how
+                                 many are in the slaves
+The script is one of sii_station, whose run --help shows a command of each kind. It
+is read before a frame is sent. In the end each image file has the words of its
+slave. After a fault of the line or the journal the image files are as they were.
+Recover the line then: each durable command is done as a whole.
+
+Before a word is written it is refused: an image file larger than its slave's EEPROM
+(fault 109), a slave above Pre-Operational (110), an EEPROM that its PDI has (111),
+and a command that makes word 0x3e tell another size than the EEPROM has (112).";
+
+const RUN: Subcommand = Subcommand {
+    name: "run",
+    about: "Runs the commands of a script on the line",
+    long_about: RUN_TASK,
+    after_help: RUN_EXAMPLES,
+    after_long_help: RUN_ANSWERS,
+    arguments: &[
+        LINE,
+        SCRIPT,
+        TYPED_COMMANDS,
+        BESIDE,
+        CARRY,
+        FORCE,
+        TRUST,
+        RESIZE,
+        REPORT,
+        EVENTS,
+        CAPTURE,
+        QUIET,
+    ],
+};
+
+fn run_row() -> Subcommand {
+    RUN
+}
+
+/// The help text on what `plan` prints.
+const PLAN_ANSWERS: &str = "Answers, which sii_station plan --help lists in full:
+  command I accepted N           as run would answer, see run --help
+  command I refused CODE NAME
+  accepted A durable D settled S
+  slave P word 0xW old 0xO new 0xN
+                                 word W of slave P would get the value N in
+                                 place of O
+  writes words W bytes B syncs S
+                                 how much would be written
+and the process image before and after, if it changes.
+
+The line is found as for run: with the same flags, and refused for the same reasons
+before anything is printed. No word of a slave and no file is written, but for that
+of --capture.";
+
+/// Examples of `plan`.
+const PLAN_EXAMPLES: &str = "Examples:
+  sii_wire -i eth0 plan line.toml script.toml
+  sii_wire -i eth0 plan line.toml -e 'alias = { slave = 2, value = 7 }'";
+
+const PLAN: Subcommand = Subcommand {
+    name: "plan",
+    about: "Says what a script would do to the line, and does nothing",
+    long_about: "Brings up the line, and prints how run would answer each command of the script, which words of which slaves would change, and \
+        how much would be written.",
+    after_help: PLAN_EXAMPLES,
+    after_long_help: PLAN_ANSWERS,
+    arguments: &[
+        LINE,
+        SCRIPT,
+        TYPED_COMMANDS,
+        JSON,
+        BESIDE,
+        CARRY,
+        FORCE,
+        TRUST,
+        RESIZE,
+        CAPTURE,
+        QUIET,
+    ],
+};
+
+fn plan_row() -> Subcommand {
+    PLAN
+}
+
+/// The help text on what `recover` prints and writes.
+const RECOVER_ANSWERS: &str = "Answers:
+  recovered batches B commands C words W
+                   the journal held B batches that weren't done, with C commands,
+                   and W words of them were written to the slaves
+Each of these commands is then done as a whole, nothing of a command that didn't
+come to be durable is, and each image file has the words of its slave, also where
+it had others. A line can be recovered again at any time; of a line that is in
+order it says 0, 0, 0. After a fault of the line or the journal the image files
+are as they were. Recover the line again then.";
+
+const RECOVER: Subcommand = Subcommand {
+    name: "recover",
+    about: "Recovers the line after a power cut",
+    long_about: "Brings up the line, does what is live in its journal, and writes the words of each slave to its image file.",
+    after_help: "Example:\n  sii_wire -i eth0 recover line.toml",
+    after_long_help: RECOVER_ANSWERS,
+    arguments: &[LINE, BESIDE, CARRY, TAKE, TRUST, REPORT, CAPTURE, QUIET],
+};
+
+fn recover_row() -> Subcommand {
+    RECOVER
+}
+
+/// The subcommands, in the order of the help. A table that a function names becomes part of what is proved of it, so each row stands in a
+/// function of its own.
+pub(crate) fn rows() -> [Subcommand; 7] {
+    [
+        scan_row(),
+        backup_row(),
+        init_row(),
+        run_row(),
+        plan_row(),
+        recover_row(),
+        explain_row(),
+    ]
+}
+
+/// The help text on how the program is started, and on its exit status.
+const STARTING: &str =
+    "The network interface comes first: sii_wire -i eth0 scan. Without a name -i lists all;
+--timeout MS (100) says after how long a frame is lost. Text goes to standard output,
+faults to standard error as: fault CODE NAME. explain says what a code means.
+Exit status: 0 done, 1 a command was refused, 2 wrong usage, 3 a file or its form,
+4 the line, 5 no memory.";
+
+/// What stands before the subcommand.
+const OPTIONS: &[Argument] = &[WIRE, TEXT, TIMEOUT, VERBOSE];
+
+/// The program with these subcommands.
+pub(crate) fn wire_program(subcommands: &[Subcommand]) -> Program<'_> {
+    Program {
+        name: "sii_wire",
+        about: "Works on the SII EEPROMs of a line of EtherCAT slaves on a wire",
+        version: "0.1.0",
+        after_help: STARTING,
+        options: OPTIONS,
+        subcommands,
+    }
+}

@@ -1,0 +1,132 @@
+//! Arguments that several subcommands on a wire have.
+
+use command_line::{Argument, Kind};
+
+pub(crate) const SCRIPT: Argument = Argument {
+    id: "SCRIPT",
+    kind: Kind::WordUnless("command"),
+    help: "The script file: the commands in order, in TOML",
+    long_help: "",
+};
+
+/// The help text on sizes.
+const WORDS_HELP: &str =
+    "How many words the EEPROMs of slaves have, as their data sheets say it: 64 to 4096, a
+multiple of 64. It is needed for blank EEPROMs, whose size can't be told. Later
+calls take the size of each slave from its image file.
+
+Example:
+  sii_wire -i eth0 backup line.toml --words 0=512,3=1024";
+
+/// The sizes of EEPROMs.
+pub(crate) const WORDS: Argument = Argument {
+    id: "words",
+    kind: Kind::Text("SLAVE=N,.."),
+    help: "How many words the EEPROMs of these slaves have",
+    long_help: WORDS_HELP,
+};
+
+pub(crate) const TRUST: Argument = Argument {
+    id: "trust-images",
+    kind: Kind::Flag,
+    help: "Goes by the size of an image file even where the EEPROM is found to be smaller",
+    long_help: "",
+};
+
+pub(crate) const FORCE: Argument = Argument {
+    id: "force",
+    kind: Kind::Flag,
+    help: "Works on slaves above Pre-Operational too, and takes EEPROMs that their PDI has",
+    long_help: "",
+};
+
+pub(crate) const RESIZE: Argument = Argument {
+    id: "resize",
+    kind: Kind::Flag,
+    help: "Lets commands make word 0x3e tell another size than the EEPROM has",
+    long_help: "",
+};
+
+/// The help text on work beside a master.
+const BESIDE_HELP: &str =
+    "A master keeps the line running, and lends the wire. Slaves keep the station addresses
+that it gave them, and nothing is written but registers 0x0500 to 0x050f, those of the
+EEPROM. An EEPROM that was offered to a PDI is asked for, and is handed back at the end.";
+
+/// Work beside a master.
+pub(crate) const BESIDE: Argument = Argument {
+    id: "beside",
+    kind: Kind::Flag,
+    help: "Works beside a master that lends the wire, and leaves its line running",
+    long_help: BESIDE_HELP,
+};
+
+/// The help text on how much a message to a master may hold.
+const CARRY_HELP: &str =
+    "A message to the master holds up to N datagrams (1 to 64), of each slave one at most,
+which take up to BYTES bytes (28 to 1486), each with its header and working counter.
+Where nothing is said it holds one.";
+
+/// How much a message to a master may hold.
+pub(crate) const CARRY: Argument = Argument {
+    id: "carry",
+    kind: Kind::Text("N[,BYTES]"),
+    help: "Lets a message to the master hold several datagrams",
+    long_help: CARRY_HELP,
+};
+
+/// Beside a master, EEPROMs are taken from PDIs that have them.
+pub(crate) const TAKE: Argument = Argument {
+    id: "force",
+    kind: Kind::FlagWith("beside"),
+    help: "Takes EEPROMs that their PDI has beside a master too",
+    long_help: "",
+};
+
+/// No line with the progress.
+pub(crate) const QUIET: Argument = Argument {
+    id: "quiet",
+    kind: Kind::ShortFlag('q'),
+    help: "Draws no line with the progress",
+    long_help: "Draws no line with the progress. Without this option, where standard error is a
+terminal and the work takes longer than a second, a line there says how many words
+were read and how many were written, each as often as that was done, and how many
+slaves are busy with one. It is drawn over itself ten times a second at most, and
+erased before anything else is printed and at the end.",
+};
+
+/// What happens, as it happens.
+pub(crate) const EVENTS: Argument = Argument {
+    id: "events",
+    kind: Kind::Flag,
+    help: "Prints what happens to the commands as it happens, for programs",
+    long_help: "Prints behind the answers, each line as soon as it is so:
+  event durable N  N commands are durable by now
+  event settled N  N commands are settled by now
+  event access P uncounted
+                   slave P didn't take the access to its EEPROM back at the end;
+                   or: silent, no frame came back
+  event image L    the process image is another one: L lines follow, as layout
+                   prints it. It counts once the slaves start again",
+};
+
+/// The help text on capture files.
+const CAPTURE_FILE: &str =
+    "Writes each frame to FILE as it goes over the wire, also one that is sent again, and
+each EtherCAT frame that comes, in the pcap format with times in nanoseconds: open
+it with Wireshark or tshark. The source address tells the way: 00:10:20:30:40:50
+out, and 02:10:20:30:40:50 back, as slaves mark it. A capture that is there already
+is written anew; a FILE that holds anything else stays, and no frame is sent. If
+FILE can't be written further, the work goes on and tells it at its end.
+
+Example:
+  sii_wire -i eth0 run line.toml script.toml --capture frames.pcap
+  tshark -r frames.pcap";
+
+/// The option.
+pub(crate) const CAPTURE: Argument = Argument {
+    id: "capture",
+    kind: Kind::Text("FILE"),
+    help: "Writes the frames on the wire to FILE, in the pcap format",
+    long_help: CAPTURE_FILE,
+};
