@@ -35,6 +35,7 @@
 #include <stdio.h>
 #include <stdlib.h>
 #include <string.h>
+#include <sys/mman.h>
 #include <sys/socket.h>
 #include <time.h>
 #include <unistd.h>
@@ -450,6 +451,8 @@ int main(int argc, char **argv) {
     now = clock_us();
     for (int k = 0; k < slave_count; k++) power_up(slaves[k]);
     int wire = open_wire(argv[argc - 1]);
+    // Where it may, its memory stays in place.
+    mlockall(MCL_CURRENT | MCL_FUTURE);
     printf("%d slaves\n", slave_count);
     struct sigaction action = { .sa_handler = interrupt };
     sigaction(SIGTERM, &action, NULL);

@@ -7,11 +7,12 @@
 //
 // Meanwhile it lends the wire to a station that it starts (`sii_wire .. --beside --carry N`; docs/EMBEDDING.md says what both may do). The
 // station's standard input is one end of a socket pair, of which each message is an Ethernet frame around an EtherCAT frame. Its datagrams
-// ride in the next cyclic frame, after the master's own, if there is room, else in a frame between two cycles, and come back as a message of
-// the same form. Where the frame is lost, or a datagram in it could disturb the line, no message comes back. A cycle carries no more bytes of
-// them than the budget; a message for which none is left waits for the next cycle, and one that is longer than the budget or a frame is dropped.
+// ride in the next cyclic frame, after the master's own, as far as there is room, the others in frames between two cycles, where there is time
+// for them, or in later cyclic frames. Once all are back, late ones too, they go back as a message of the same form. Where a frame is lost, or a
+// datagram could disturb the line, no message comes back; a later message takes the place of one that is under way. A cycle carries no more bytes of
+// them than the budget. Messages that fit the cyclic frame are back soonest: as the master begins it says how long they may be (--carry N,BYTES).
 //   --period US      how long a cycle takes (1000)
-//   --budget BYTES   how many bytes a cycle carries for the station, each datagram with header and counter (14860: ten full frames)
+//   --budget BYTES   how many bytes a cycle carries for the station, each datagram with header and counter, at least 28 (14860: ten full frames)
 //   --seconds S      how long to work; 0: until the station has ended, or an interrupt (0)
 // An interface - is a socket that is descriptor 0 and takes Ethernet frames. The last line is
 // 'cycles N missed M lost L counters C states S delay D us, rides R': M deadlines were missed by a whole period, L frames weren't back by the
@@ -41,10 +42,11 @@
 
 enum { ETHERNET = 14, LONGEST = 1514, SHORTEST = 60, HEADER = 10, COUNTER = 2, MORE = 0x8000 };
 enum { SPARE_NS = 300000 };  // so long before a cycle no other frame goes out
-enum { MOST = LONGEST - ETHERNET - 2 - HEADER - COUNTER };  // what fits a frame after a datagram without data
+enum { LONGEST_RIDE = HEADER + 16 + COUNTER };  // the longest datagram of a station
 enum { NOP = 0, APRD = 1, APWR = 2, FPRD = 4, FPWR = 5, BRD = 7, BWR = 8, LRW = 12 };
 enum { ADDRESS = 0x0010, AL_CONTROL = 0x0120, AL_STATUS = 0x0130, AL_CODE = 0x0134, SII_ACCESS = 0x0500, SII_CONTROL = 0x0502, SII_DATA = 0x0508,
        SII_END = 0x0510, FMMUS = 0x0600, MANAGERS = 0x0800, FIRST_ADDRESS = 1001, MAX_ROWS = 1024 };
+enum { BACK = 1, LATE_ONE = 2 };  // what came while a frame was waited for
 enum { INIT = 1, PRE_OPERATIONAL = 2, SAFE_OPERATIONAL = 4, OPERATIONAL = 8, ACKNOWLEDGE = 0x10 };
 
 // A sync manager in the process image, as a line of the layout says.
@@ -94,29 +96,44 @@ static size_t add(struct frame *it, unsigned command, unsigned index, unsigned a
     return it->length - size - COUNTER;
 }
 
+// The bytes of a datagram, with its header and its counter.
+static size_t size_of(const uint8_t *datagram) { return HEADER + (get16(datagram + 6) & 0x7ff) + COUNTER; }
+
+// Marks a datagram as followed by one more, or as the last one.
+static void mark(uint8_t *datagram, int is_followed) {
+    put16(datagram + 6, (get16(datagram + 6) & ~(unsigned)MORE) | (is_followed ? MORE : 0));
+}
+
 // Marks each datagram but the last as followed by one more, writes the length, and sends the frame.
 static int send_frame(struct frame *it) {
-    size_t at = ETHERNET + 2, next;
-    for (; (next = at + HEADER + (get16(it->bytes + at + 6) & 0x7ff) + COUNTER) < it->length; at = next)
-        put16(it->bytes + at + 6, get16(it->bytes + at + 6) | MORE);
+    for (size_t at = ETHERNET + 2, next; at < it->length; at = next) {
+        next = at + size_of(it->bytes + at);
+        mark(it->bytes + at, next < it->length);
+    }
     put16(it->bytes + ETHERNET, (unsigned)(it->length - ETHERNET - 2) | 0x1000);
     size_t length = it->length < SHORTEST ? SHORTEST : it->length;
     return send(wire, it->bytes, length, MSG_DONTWAIT) == (ssize_t)length;
 }
 
-// Waits for the frame that went out, until a time. What else comes is late or of somebody else.
-static int receive(struct frame *it, int64_t until) {
+// Takes a packet as the answer to a frame that went out, if it is that.
+static int take(struct frame *it, const uint8_t *packet, ssize_t length) {
+    if (length < (ssize_t)it->length || memcmp(packet + 12, it->bytes + 12, 6)) return 0;
+    memcpy(it->bytes, packet, it->length);
+    return 1;
+}
+
+// Waits for the frame that went out, until a time, and for a late one before it, if there is one. What else comes is of somebody else. Gives
+// which of the two are back.
+static int receive(struct frame *it, struct frame *late, int64_t until) {
     uint8_t packet[LONGEST];
-    for (;;) {
+    for (int came = 0;;) {
         int64_t left = until - now_ns();
         struct timespec wait = { left > 0 ? left / 1000000000 : 0, left > 0 ? left % 1000000000 : 0 };
         struct pollfd ready = { .fd = wire, .events = POLLIN };
-        if (ppoll(&ready, 1, &wait, NULL) <= 0) return 0;
+        if (ppoll(&ready, 1, &wait, NULL) <= 0) return came;
         ssize_t length = recv(wire, packet, sizeof packet, MSG_DONTWAIT);
-        if (length < (ssize_t)it->length || memcmp(packet + 12, it->bytes + 12, 4)) continue;
-        if (packet[ETHERNET + 3] != it->bytes[ETHERNET + 3] || packet[ETHERNET + 2] != it->bytes[ETHERNET + 2]) continue;
-        memcpy(it->bytes, packet, it->length);
-        return 1;
+        if (take(it, packet, length)) return came | BACK;
+        if (late && take(late, packet, length)) came |= LATE_ONE;
     }
 }
 
@@ -128,7 +145,7 @@ static unsigned one(unsigned command, unsigned address, unsigned offset, uint8_t
         struct frame frame;
         begin(&frame);
         size_t at = add(&frame, command, ++index, address, offset, data, size);
-        if (!send_frame(&frame) || !receive(&frame, now_ns() + 100000000)) continue;
+        if (!send_frame(&frame) || !receive(&frame, NULL, now_ns() + 100000000)) continue;
         memcpy(data, frame.bytes + at, size);
         return get16(frame.bytes + at + size);
     }
@@ -257,11 +274,10 @@ static void read_layout(const char *name) {
 
 // ---- The wire that is lent
 
-// A message of the station, an Ethernet frame: its bytes, up to the end of its datagrams; a length of 0 where there is none. How many bytes the
-// cycle has left for datagrams.
-struct ride { uint8_t bytes[LONGEST]; size_t length, left; };
-
-static size_t size_of(const struct ride *ride) { return ride->length - ETHERNET - 2; }
+// A message of the station, an Ethernet frame: its bytes, up to the end of its datagrams; a length of 0 where there is none. The datagrams before
+// `at` have gone out. How many bytes the cycle has left for datagrams. A frame with some of them that is late, and where they stand in it; 0 where
+// none is.
+struct ride { uint8_t bytes[LONGEST]; size_t length, at, left; struct frame late; size_t late_at; };
 
 // Whether a datagram of the station leaves the running line as it is: it counts the slaves, reads a station address, or is for the registers
 // of an EEPROM.
@@ -277,51 +293,65 @@ static int is_harmless(const uint8_t *at, size_t size) {
 static int is_message(const struct ride *ride, size_t length) {
     if (length < ETHERNET + 2 || ride->bytes[12] != 0x88 || ride->bytes[13] != 0xa4 || ride->length > length) return 0;
     size_t at = ETHERNET + 2;
-    for (unsigned more = 1; more; more = get16(ride->bytes + at + 6) & MORE, at += HEADER + (get16(ride->bytes + at + 6) & 0x7ff) + COUNTER) {
+    for (unsigned more = 1; more; at += size_of(ride->bytes + at)) {
         if (at + HEADER + COUNTER > ride->length) return 0;
-        size_t size = get16(ride->bytes + at + 6) & 0x7ff;
-        if (at + HEADER + size + COUNTER > ride->length || !is_harmless(ride->bytes + at, size)) return 0;
-        if (!(get16(ride->bytes + at + 6) & MORE) && at + HEADER + size + COUNTER != ride->length) return 0;
+        size_t end = at + size_of(ride->bytes + at);
+        if (end > ride->length || end - at > LONGEST_RIDE || !is_harmless(ride->bytes + at, end - at - HEADER - COUNTER)) return 0;
+        more = get16(ride->bytes + at + 6) & MORE;
+        if (!more && end != ride->length) return 0;
     }
     return 1;
 }
 
-// Takes a message of the station, unless one waits already. Gives whether the cycle may carry it.
+// Takes the last message of the station, in the place of one that waits or is under way. Gives whether there is one.
 static int take_message(int lent, struct ride *ride) {
-    if (!ride->length) {
-        ssize_t length = recv(lent, ride->bytes, sizeof ride->bytes, MSG_DONTWAIT);
-        if (length < ETHERNET + 2) return 0;
-        ride->length = ETHERNET + 2 + (get16(ride->bytes + ETHERNET) & 0x7ff);
-        if (!is_message(ride, (size_t)length) || size_of(ride) > budget || size_of(ride) > MOST) ride->length = 0;
+    for (ssize_t length; (length = recv(lent, ride->bytes, sizeof ride->bytes, MSG_DONTWAIT)) > 0;) {
+        ride->length = length < ETHERNET + 2 ? 0 : ETHERNET + 2 + (get16(ride->bytes + ETHERNET) & 0x7ff);
+        ride->at = ETHERNET + 2;
+        ride->late_at = 0;
+        if (!is_message(ride, (size_t)length)) ride->length = 0;
     }
-    return ride->length && size_of(ride) <= ride->left;
+    return ride->length > 0;
 }
 
-// Puts the datagrams of a message after those of the frame. Gives where they stand, or 0 where they don't fit.
+// Puts datagrams of a message after those of the frame: the next ones, as many as fit and the cycle has bytes for. While a frame with some of them
+// is late the others wait. Gives where they stand, or 0 where there are none.
 static size_t put_ride(struct frame *frame, struct ride *ride) {
-    size_t at = frame->length;
-    if (at + size_of(ride) > LONGEST) return 0;
-    memcpy(frame->bytes + at, ride->bytes + ETHERNET + 2, size_of(ride));
-    frame->length += size_of(ride);
-    ride->left -= size_of(ride);
-    return at;
+    size_t begins = frame->length, size;
+    if (ride->late_at) return 0;
+    for (; ride->at < ride->length; ride->at += size, frame->length += size, ride->left -= size) {
+        size = size_of(ride->bytes + ride->at);
+        if (frame->length + size > LONGEST || size > ride->left) break;
+        memcpy(frame->bytes + frame->length, ride->bytes + ride->at, size);
+    }
+    return frame->length > begins ? begins : 0;
 }
 
-// Hands the datagrams back as they came.
-static void hand_back(int lent, const struct ride *ride, const struct frame *frame, size_t at) {
-    uint8_t bytes[LONGEST];
-    memcpy(bytes, ride->bytes, ETHERNET + 2);
-    memcpy(bytes + ETHERNET + 2, frame->bytes + at, size_of(ride));
-    if (send(lent, bytes, ride->length, MSG_DONTWAIT | MSG_NOSIGNAL) == (ssize_t)ride->length) count.rides++;
+// Puts the datagrams from this place of the frame on back into the message. Once it has all, it is handed back.
+static void take_back(int lent, struct ride *ride, const struct frame *frame, size_t riding) {
+    for (size_t at = ride->at - (frame->length - riding), size; at < ride->at; at += size, riding += size) {
+        size = size_of(ride->bytes + at);
+        memcpy(ride->bytes + at, frame->bytes + riding, size);
+        mark(ride->bytes + at, at + size < ride->length);
+    }
+    if (ride->at < ride->length) return;
+    if (send(lent, ride->bytes, ride->length, MSG_DONTWAIT | MSG_NOSIGNAL) == (ssize_t)ride->length) count.rides++;
+    ride->length = 0;
 }
 
-// Sends a frame and waits for it, and hands back what rode in it. A message that rode is gone, whether it came back or not. Gives whether the
-// frame came back.
+// Sends a frame and waits for it, and takes back what rode in it, or in a late one. Gives whether it is back.
 static int pass(int lent, struct ride *ride, struct frame *frame, size_t riding, int64_t until) {
-    int is_back = send_frame(frame) && receive(frame, until);
-    if (riding && is_back) hand_back(lent, ride, frame, riding);
-    if (riding) ride->length = 0;
-    return is_back;
+    int came = send_frame(frame) ? receive(frame, ride && ride->late_at ? &ride->late : NULL, until) : 0;
+    if (came & LATE_ONE) {
+        take_back(lent, ride, &ride->late, ride->late_at);
+        ride->late_at = 0;
+    }
+    if (riding && came & BACK) take_back(lent, ride, frame, riding);
+    if (riding && !(came & BACK)) {
+        ride->late = *frame;
+        ride->late_at = riding;
+    }
+    return came & BACK;
 }
 
 // Starts the station with its end of the pair as standard input. Gives the other one.
@@ -335,7 +365,7 @@ static int start_station(char **words, pid_t *station) {
 
 // ---- Cycles
 
-// Between two cycles a station's frame goes out by itself, as long as there is time for it to come back. A NOP carries its index.
+// Between two cycles a station's datagrams go out by themselves, as long as there is time for the frame to come back. A NOP carries its index.
 static void ride_between(int lent, struct ride *ride, uint8_t *index, int64_t until) {
     for (int64_t left; (left = until - now_ns() - SPARE_NS) > 0;) {
         struct frame frame;
@@ -392,6 +422,12 @@ static void become_operational(int64_t period) {
     printf("%u slaves are Operational\n", slave_count - left_count);
 }
 
+// How long a message may be to fit the cyclic frame and the budget, without its number.
+static size_t longest_message(void) {
+    size_t own = ETHERNET + 2 + HEADER + image_size + COUNTER + HEADER + 2 + COUNTER, room = LONGEST - own;
+    return (room < budget ? room : budget) - HEADER - COUNTER;
+}
+
 // The station's status; -1 where it hasn't ended, and isn't waited for.
 static int status_of(pid_t station, int options) {
     int status;
@@ -428,7 +464,8 @@ int main(int argc, char **argv) {
         else if (!strcmp(argv[at], "--budget")) budget = (size_t)atol(argv[at + 1]);
         else if (!strcmp(argv[at], "--seconds")) seconds = atol(argv[at + 1]);
         else errx(2, "%s: not taken", argv[at]);
-    if (argc - at < 2 || (argc - at > 2 && strcmp(argv[at + 2], "--")) || period < 50 || seconds < 0)
+    if (argc - at < 2 || (argc - at > 2 && strcmp(argv[at + 2], "--")) || period < 50 || seconds < 0
+        || budget < LONGEST_RIDE)
         errx(2, "usage: master [--period US] [--budget BYTES] [--seconds S] INTERFACE LAYOUT [-- STATION [ARGUMENT..]]");
     struct sockaddr_ll place = { .sll_family = AF_PACKET, .sll_protocol = htons(0x88a4) };
     wire = strcmp(argv[at], "-") ? socket(AF_PACKET, SOCK_RAW | SOCK_CLOEXEC, 0) : 0;
@@ -444,6 +481,7 @@ int main(int argc, char **argv) {
     mlockall(MCL_CURRENT | MCL_FUTURE);
     sched_setscheduler(0, SCHED_FIFO | SCHED_RESET_ON_FORK, &(struct sched_param){ .sched_priority = 50 });
     become_operational(period * 1000);
+    if (argc - at > 2) printf("a cyclic frame has room for a message of %zu bytes\n", longest_message());
     int status = run(period * 1000, seconds, argc - at > 2 ? argv + at + 3 : argv + argc);
     for (unsigned k = 0; k < slave_count; k++) change_state(k, INIT);
     printf("cycles %lu missed %lu lost %lu counters %lu states %lu delay %lld us, rides %lu\n", count.cycles, count.missed, count.lost,

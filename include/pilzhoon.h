@@ -1,8 +1,8 @@
 /*
  * Pilzhoon: EtherCAT EEPROM images (SII), judged, read and changed.
  *
- * The library keeps no state, prints nothing, opens nothing and starts no thread. A call that works on images takes memory by
- * malloc while it runs, a few times what it is given, and gives all of it back before it returns. So it may be called from several
+ * The library keeps no state, prints nothing, opens nothing and starts no thread. A call that works on images, but pz_set_alias, takes memory
+ * by malloc while it runs, a few times what it is given, and gives all of it back before it returns. So it may be called from several
  * threads at once, on different images, but not from a signal handler, nor from a task that must not wait for malloc.
  *
  * Every call that can be refused answers a pz_code, PZ_OK or why. A refused call changes nothing of what it was given, but for the detail of
@@ -209,9 +209,9 @@ pz_code pz_string(const uint8_t *content, size_t length, size_t number, uint8_t 
 
 /*
  * Sets the configured station alias of an image, word 4, and the check byte with it, the low byte of word 7 (ETG.1000.6). No other byte
- * changes.
+ * changes. It takes no memory, looks at the first 15 bytes alone, and fits in a cycle.
  *
- * Answers PZ_OK, PZ_ODD_LENGTH, PZ_BAD_SIZE (not 64 to 4,096 words), PZ_BAD_CHECK (the check byte was wrong before) or PZ_MEMORY.
+ * Answers PZ_OK, PZ_ODD_LENGTH, PZ_BAD_SIZE (not 64 to 4,096 words) or PZ_BAD_CHECK (the check byte was wrong before).
  */
 pz_code pz_set_alias(uint8_t *image, size_t length, uint16_t alias);
 

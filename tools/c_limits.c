@@ -1,12 +1,22 @@
 /* c_limits: calls the library with lengths and pointers at and beyond the limits of pilzhoon.h: no bytes, odd ones, too few, too many, NULL
- * where an array is empty, room that is too small, bytes of an access that the library didn't write. Each input lies in a block of its own
- * length, so that a sanitizer or valgrind sees a byte too many. Ends with status 1 at the first answer that the header doesn't give. */
+ * where an array is empty, room that is too small, bytes of an access that the library didn't write, and no memory. Each input lies in a block
+ * of its own length, so that a sanitizer or valgrind sees a byte too many. Ends with status 1 at the first answer that the header doesn't give.
+ * The linker has to put __wrap_malloc in the place of malloc (-Wl,--wrap=malloc). */
 #include "pilzhoon.h"
 #include <stdio.h>
 #include <stdlib.h>
 #include <string.h>
 
 static unsigned long calls;
+/* Whether malloc refuses memory, to the library too. */
+static int is_refused;
+
+void *__real_malloc(size_t size);
+void *__wrap_malloc(size_t size);
+
+void *__wrap_malloc(size_t size) {
+    return is_refused ? NULL : __real_malloc(size);
+}
 
 static void must(int holds, const char *call, size_t length, unsigned code) {
     calls++;
@@ -48,8 +58,12 @@ static void try_image(size_t length) {
     must(fits(of_image(length), code) && (has_detail || detail == 0), "pz_judge", length, code);
     code = pz_category(image, length, SIZE_MAX, &place);
     must(of_image(length) ? code == of_image(length) : code == PZ_NO_SUCH_CATEGORY || code == PZ_RUNS_OUT, "pz_category", length, code);
+    is_refused = 1;
+    pz_code without = pz_read_head(image, length, &head);
     code = pz_set_alias(image, length, 7);
-    must(fits(of_image(length), code), "pz_set_alias", length, code);
+    is_refused = 0;
+    must(without == (of_image(length) ? of_image(length) : PZ_MEMORY), "pz_read_head without memory", length, without);
+    must(fits(of_image(length), code) && code != PZ_MEMORY, "pz_set_alias without memory", length, code);
     if (code != PZ_OK) must(!length || !memcmp(image, before, length), "pz_set_alias changes an image that it refuses,", length, code);
     free(image);
     free(before);

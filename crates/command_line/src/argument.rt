@@ -112,19 +112,11 @@ fn option<'a>(arg: Arg<'a>, kind: Kind) -> Arg<'a> {
 
 /// The argument with what reads a text of this kind, where not every text is taken.
 fn parsed<'a>(arg: Arg<'a>, kind: Kind) -> Arg<'a> {
-    match parser_of(kind) {
-        Some(parser) => arg.value_parser(parser),
-        None => arg,
-    }
-}
-
-/// What reads a text of this kind, where not every text is taken.
-fn parser_of<'a>(kind: Kind) -> Option<ValueParser<'a>> {
     match kind {
-        Kind::SmallWord | Kind::Small(_) => Some(value_parser!(u16)),
-        Kind::Large(_) => Some(value_parser!(u32)),
-        Kind::WordOf(words) => Some(ValueParser::Names(words)),
-        _ => None,
+        Kind::SmallWord | Kind::Small(_) => arg.value_parser(value_parser!(u16)),
+        Kind::Large(_) => arg.value_parser(value_parser!(u32)),
+        Kind::WordOf(words) => arg.value_parser(ValueParser::Names(words)),
+        _ => arg,
     }
 }
 

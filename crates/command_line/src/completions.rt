@@ -12,44 +12,22 @@ pub enum Shell {
     Fish,
 }
 
-/// A block of a shell's script. In its texts `@p` is the program's name, `@s` are the names of all subcommands, `@n` is the subcommand's name
-/// and `@a` what it does, and `@l` is the option's name and `@h` what it does.
-#[derive(Clone, Copy)]
-struct Block {
-    /// Whether there is one of each subcommand; else it is about the program itself.
-    is_each: bool,
-    before: &'static str,
-    /// What stands there of each option.
-    option: &'static str,
-    behind: &'static str,
-}
-
-/// Of each subcommand a line `show) options='--hex --help' ;;`, after one of the program itself, and one of its subcommand `help`, which is
-/// followed by a subcommand's name.
-const BASH: &[Block] = &[
-    Block {
-        is_each: false,
-        before: "_@p() {
+/// What bash reads: of each subcommand a line `show) options='--hex --help' ;;`, after one of the program itself, and one of its subcommand `help`,
+/// which is followed by a subcommand's name.
+///
+/// In a script `@p` is the program's name, `@s` are the names of all subcommands, `@n` is the subcommand's name and `@a` what it does, and `@l` is
+/// the option's name and `@h` what it does. What stands between `%` and `%` is there for each subcommand; between `~` and `~`, for each option
+/// of the subcommand, or else of the program.
+const BASH: &str = "_@p() {
     local word=${COMP_WORDS[COMP_CWORD]} sub= i names= options=
     for ((i = 1; i < COMP_CWORD; i++)); do
         case ${COMP_WORDS[i]} in -*) ;; *) sub=${COMP_WORDS[i]}; break ;; esac
     done
     case $sub in
-    '') names='@s' options='",
-        option: " --@l",
-        behind: "' ;;
+    '') names='@s' options='~ --@l~' ;;
     help) names='@s' ;;
-",
-    },
-    Block {
-        is_each: true,
-        before: "    @n) options='",
-        option: " --@l",
-        behind: "' ;;\n",
-    },
-    Block {
-        is_each: false,
-        before: "    esac
+%    @n) options='~ --@l~' ;;
+%    esac
     if [[ $word == -* ]]; then
         COMPREPLY=($(compgen -W \"$options\" -- \"$word\"))
     elif [[ $names ]]; then
@@ -59,77 +37,34 @@ const BASH: &[Block] = &[
     fi
 }
 complete -o filenames -F _@p @p
-",
-        option: "",
-        behind: "",
-    },
-];
+";
 
 /// Of each subcommand a line `'show:What it does'`, and a line `show) _arguments '--hex[What it does]' '*:file:_files' ;;`: its options, which
 /// are followed by files; then the options of the program itself.
-const ZSH: &[Block] = &[
-    Block {
-        is_each: false,
-        before: "#compdef @p
+const ZSH: &str = "#compdef @p
 _@p() {
     local -a names
     names=(
-",
-        option: "",
-        behind: "",
-    },
-    Block {
-        is_each: true,
-        before: "        '@n:@a'\n",
-        option: "",
-        behind: "",
-    },
-    Block {
-        is_each: false,
-        before: "    )
+%        '@n:@a'
+%    )
     if (( CURRENT == 2 )); then
         _describe subcommand names
     fi
     case $words[2] in
-",
-        option: "",
-        behind: "",
-    },
-    Block {
-        is_each: true,
-        before: "    @n) _arguments",
-        option: " '--@l[@h]'",
-        behind: " '*:file:_files' ;;\n",
-    },
-    Block {
-        is_each: false,
-        before: "    -*) _arguments",
-        option: " '--@l[@h]'",
-        behind: " ;;
+%    @n) _arguments~ '--@l[@h]'~ '*:file:_files' ;;
+%    -*) _arguments~ '--@l[@h]'~ ;;
     esac
 }
 compdef _@p @p
-",
-    },
-];
+";
 
 /// A line of each option of the program; then of each subcommand a line, and a line of each of its options.
-const FISH: &[Block] = &[
-    Block {
-        is_each: false,
-        before: "",
-        option: "complete -c @p -n '__fish_use_subcommand' -l @l -d '@h'\n",
-        behind: "",
-    },
-    Block {
-        is_each: true,
-        before: "complete -c @p -n __fish_use_subcommand -f -a @n -d '@a'\n",
-        option: "complete -c @p -n '__fish_seen_subcommand_from @n' -l @l -d '@h'\n",
-        behind: "",
-    },
-];
+const FISH: &str = "~complete -c @p -n '__fish_use_subcommand' -l @l -d '@h'
+~%complete -c @p -n __fish_use_subcommand -f -a @n -d '@a'
+~complete -c @p -n '__fish_seen_subcommand_from @n' -l @l -d '@h'
+~%";
 
-/// What the texts of a block are about.
+/// What the texts of a script are about.
 #[derive(Clone, Copy)]
 struct Subject<'c, 'a> {
     program: &'c Command<'a>,
@@ -169,31 +104,26 @@ fn push_described(
 }
 
 fn push_script(program: &Command<'_>, shell: Shell, text: &mut String) -> Result<(), AllocError> {
-    let blocks = match shell {
+    let script = match shell {
         Shell::Bash => BASH,
         Shell::Zsh => ZSH,
         Shell::Fish => FISH,
     };
-    for block in blocks {
-        if block.is_each {
-            push_each(*block, program, text)?;
+    for (place, block) in script.split('%').enumerate() {
+        if place % 2 == 0 {
+            push_block(block, program, program, text)?;
         } else {
-            push_block(*block, program, program, text)?;
+            for command in program.get_subcommands() {
+                push_block(block, program, command, text)?;
+            }
         }
     }
     Ok(())
 }
 
-/// A block of each subcommand.
-fn push_each(block: Block, program: &Command<'_>, text: &mut String) -> Result<(), AllocError> {
-    for command in program.get_subcommands() {
-        push_block(block, program, command, text)?;
-    }
-    Ok(())
-}
-
+/// A part of a script that is about this subcommand, or the program itself.
 fn push_block<'c, 'a>(
-    block: Block,
+    block: &str,
     program: &'c Command<'a>,
     command: &'c Command<'a>,
     text: &mut String,
@@ -203,17 +133,32 @@ fn push_block<'c, 'a>(
         command,
         option: None,
     };
-    push_words(block.before, subject, text)?;
-    for option in command.get_arguments() {
-        if option.get_long().is_some() {
-            let option = Some(option);
-            push_words(block.option, Subject { option, ..subject }, text)?;
+    for (place, words) in block.split('~').enumerate() {
+        if place % 2 == 0 {
+            push_words(words, subject, text)?;
+        } else {
+            push_options(words, subject, text)?;
         }
     }
-    push_words(block.behind, subject, text)
+    Ok(())
 }
 
-/// A text of a block.
+/// These words of each option.
+fn push_options(
+    words: &str,
+    subject: Subject<'_, '_>,
+    text: &mut String,
+) -> Result<(), AllocError> {
+    for option in subject.command.get_arguments() {
+        if option.get_long().is_some() {
+            let option = Some(option);
+            push_words(words, Subject { option, ..subject }, text)?;
+        }
+    }
+    Ok(())
+}
+
+/// A text of a script.
 fn push_words(words: &str, subject: Subject<'_, '_>, text: &mut String) -> Result<(), AllocError> {
     let mut is_marked = false;
     for letter in words.chars() {

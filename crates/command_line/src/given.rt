@@ -3,7 +3,7 @@
 use crate::argument::{Argument, Kind};
 use crate::input_script::TYPED;
 use crate::typed_commands::typed_text;
-use crate::unread::Flaw;
+use crate::unread::Unread;
 use clap::ArgMatches;
 use std::alloc::{AllocError, Global};
 use std::time::Duration;
@@ -23,15 +23,6 @@ struct Value<'a> {
     id: &'static str,
     /// Its text; empty for an option without a value.
     text: &'a str,
-}
-
-/// How many units pass before a power cut, and what a torn word is left as.
-#[derive(Clone, Copy)]
-pub struct Cut {
-    /// So many writes or words pass.
-    pub count: u32,
-    /// What is left of the next one.
-    pub left: u16,
 }
 
 impl<'a> Given<'a> {
@@ -98,7 +89,7 @@ impl<'a> Given<'a> {
     /// # Errors
     ///
     /// A command isn't one line of TOML on its own; or memory was refused.
-    pub(crate) fn typed(&self, alloc: Global) -> Result<Option<Vec<u8>>, Flaw> {
+    pub(crate) fn typed(&self, alloc: Global) -> Result<Option<Vec<u8>>, Unread> {
         if self.commands.is_empty() {
             return Ok(None);
         }
@@ -113,12 +104,13 @@ impl<'a> Given<'a> {
         }
     }
 
-    /// A power cut behind so many units, as this option and `--left` say. `--left` is checked even without the option.
+    /// A power cut behind so many units, as this option and `--left` say: their number, and what is left of the next one. `--left` is checked
+    /// even without the option.
     ///
     /// # Errors
     ///
     /// The text for one that isn't in digits.
-    pub fn cut(&self, id: &str) -> Result<Option<Cut>, &'static str> {
+    pub fn cut(&self, id: &str) -> Result<Option<(u32, u16)>, &'static str> {
         let count = self.text(id);
         let left = self.text("left");
         if !count.is_none_or(is_digits) || !left.is_none_or(is_digits) {
@@ -126,7 +118,7 @@ impl<'a> Given<'a> {
         }
         let left = left.unwrap_or("0").parse::<u16>().unwrap_or(0);
         match count.unwrap_or("").parse::<u32>() {
-            Ok(count) => Ok(Some(Cut { count, left })),
+            Ok(count) => Ok(Some((count, left))),
             Err(_) => Ok(None),
         }
     }

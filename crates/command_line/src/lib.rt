@@ -6,7 +6,6 @@
 mod argument;
 mod completions;
 mod escaped;
-mod explaining;
 mod given;
 mod input_script;
 mod launched;
@@ -14,15 +13,13 @@ mod manual;
 mod program;
 mod reading;
 mod subcommand;
-mod typed;
 mod typed_commands;
 mod unread;
 
 pub use argument::{Argument, Kind};
 pub use completions::{Shell, completion_script};
 pub use escaped::Escaped;
-pub use explaining::EXPLAIN;
-pub use given::{Cut, Given, is_digits};
+pub use given::{Given, is_digits};
 pub use input_script::{INPUT, InputScript, Script, TYPED};
 pub use launched::{TEXT, TIMEOUT, WIRE};
 pub use manual::manual_page;

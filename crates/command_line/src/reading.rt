@@ -2,7 +2,7 @@
 
 use crate::given::Given;
 use crate::program::{Program, described};
-use crate::unread::{Flaw, Unread, why_unread};
+use crate::unread::{Unread, why_unread};
 use clap::error::ErrorKind;
 use clap::{ArgMatches, Command, Error};
 use std::alloc::{AllocError, Global};
@@ -106,8 +106,7 @@ pub fn read_typed(
     given: &Given<'_>,
 ) -> Result<Option<Vec<u8>>, Unread> {
     match given.typed(alloc) {
-        Ok(typed) => Ok(typed),
-        Err(Flaw::Memory) => Err(Unread::Memory),
-        Err(Flaw::Wrong(text)) => Err(refuse(alloc, program, words, text.as_str())),
+        Err(Unread::Wrong(text)) => Err(refuse(alloc, program, words, text.as_str())),
+        typed => typed,
     }
 }

@@ -1,9 +1,10 @@
 //! Commands that are typed in place of a script file.
+ghost use Rattle.std.specs.Prelude.{◌≡◌, IfOk};
+ghost use Rattle.command_line.specs.Typed.{is_one_line, script_of};
 
 use crate::argument::{Argument, Kind};
-use crate::typed::{is_line, typed_script};
-use crate::unread::Flaw;
-use std::alloc::Global;
+use crate::unread::Unread;
+use std::alloc::{AllocError, Global};
 use toml::de::Error;
 
 /// The help text on typed commands.
@@ -25,7 +26,7 @@ pub const TYPED_COMMANDS: Argument = Argument {
 /// # Errors
 ///
 /// What is wrong with a command that isn't one line of TOML on its own; or memory was refused.
-pub(crate) fn typed_text(alloc: Global, commands: &[&str]) -> Result<Vec<u8>, Flaw> {
+pub(crate) fn typed_text(alloc: Global, commands: &[&str]) -> Result<Vec<u8>, Unread> {
     for command in commands {
         judge(alloc, command)?;
     }
@@ -33,10 +34,10 @@ pub(crate) fn typed_text(alloc: Global, commands: &[&str]) -> Result<Vec<u8>, Fl
 }
 
 /// Refuses a typed command that isn't one line of TOML on its own.
-fn judge(alloc: Global, line: &str) -> Result<(), Flaw> {
+fn judge(alloc: Global, line: &str) -> Result<(), Unread> {
     if !is_line(line) {
         let flaw = "a command behind -e is one line, as in a script behind [[command]]";
-        return Err(Flaw::of_text(String::from_str(alloc, flaw)));
+        return Err(Unread::of_text(String::from_str(alloc, flaw)));
     }
     match toml::table_from_str(alloc, line) {
         Ok(table) => {
@@ -48,10 +49,37 @@ fn judge(alloc: Global, line: &str) -> Result<(), Flaw> {
 }
 
 /// The flaw of a line that is no TOML.
-fn no_toml(alloc: Global, line: &str, error: &Error) -> Flaw {
+fn no_toml(alloc: Global, line: &str, error: &Error) -> Unread {
     if error.is_memory() {
-        return Flaw::Memory;
+        return Unread::Memory;
     }
     let why = error.message();
-    Flaw::of_text(format!(in alloc; "-e '{line}' is no TOML: {why}"))
+    Unread::of_text(format!(in alloc; "-e '{line}' is no TOML: {why}"))
+}
+
+/// The line that begins a command of a script file.
+const HEAD: &str = "[[command]]\n";
+
+/// Returns whether a typed command is one line, so that it can't be more than one command of a script.
+fn is_line(command: &str) -> bool
+    ensures line { result ≡ is_one_line command.now }
+{
+    let bytes = command.as_bytes();
+    !bytes.contains(&b'\n') && !bytes.contains(&b'\r')
+}
+
+/// Returns the text of a script file with these commands, in order: each one is the line behind a `[[command]]`.
+///
+/// # Errors
+///
+/// Memory was refused.
+fn typed_script(alloc: Global, commands: &[&str]) -> Result<Vec<u8>, AllocError>
+    ensures text { IfOk result (λ text. text.items ≡ script_of (λ command. command.now) commands.now) }
+{
+    let bodies = commands.join(alloc, "\n[[command]]\n")?;
+    let mut text = Vec::new(alloc);
+    text.extend_from_slice(HEAD.as_bytes())?;
+    text.extend_from_slice(bodies.as_bytes())?;
+    text.push(b'\n')?;
+    Ok(text)
 }

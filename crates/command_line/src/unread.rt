@@ -19,28 +19,9 @@ pub enum Unread {
     Wrong(String),
 }
 
-/// What is wrong with typed commands.
-#[derive(Drop)]
-pub(crate) enum Flaw {
-    /// Memory was refused.
-    Memory,
-    /// The text says what is wrong.
-    Wrong(String),
-}
-
-impl Flaw {
-    /// The flaw that this text says, if there was memory for it.
-    pub(crate) fn of_text(text: Result<String, AllocError>) -> Flaw {
-        match text {
-            Ok(text) => Flaw::Wrong(text),
-            Err(_) => Flaw::Memory,
-        }
-    }
-}
-
-impl From<AllocError> for Flaw {
-    fn from(_error: AllocError) -> Flaw {
-        Flaw::Memory
+impl From<AllocError> for Unread {
+    fn from(_error: AllocError) -> Unread {
+        Unread::Memory
     }
 }
 
@@ -57,6 +38,14 @@ pub(crate) fn why_unread(alloc: Global, error: &Error) -> Unread {
 }
 
 impl Unread {
+    /// What this text says is wrong, if there was memory for it.
+    pub(crate) fn of_text(text: Result<String, AllocError>) -> Unread {
+        match text {
+            Ok(text) => Unread::Wrong(text),
+            Err(_) => Unread::Memory,
+        }
+    }
+
     /// Prints the text to the stream for faults, or the fault, and returns the exit status.
     pub fn report<E: Write>(&self, faults: &mut E) -> ExitStatus {
         match self {

@@ -6,13 +6,13 @@ ghost use Rattle.cyclic.specs.Registers.{manager_bytes, fmmu_bytes};
 use sii_image::Segment;
 
 /// The address of the first FMMU (ETG.1000.4). Each has 16 bytes.
-pub const FMMUS: u16 = 0x0600;
+pub(crate) const FMMUS: u16 = 0x0600;
 
 /// The address of the first sync manager (ETG.1000.4). Each has 8 bytes.
-pub const SYNC_MANAGERS: u16 = 0x0800;
+pub(crate) const SYNC_MANAGERS: u16 = 0x0800;
 
 /// The number of FMMUs of a slave.
-pub const FMMU_COUNT: u16 = 8;
+pub(crate) const FMMU_COUNT: u16 = 8;
 
 /// The type of an FMMU for inputs of the master.
 const READS: u8 = 1;

@@ -2,7 +2,7 @@
 
 ghost use denote.Param.Send.{IsSync};
 
-use crate::memory::room;
+use crate::memory::{Memory, room};
 use crate::session::Scenario;
 use book_model::SubmitRefusal;
 use runner_cases::asks::{Ask, command};
@@ -65,7 +65,13 @@ impl<T: Tickets, R: Refusals> Submitter<T, R> {
             tickets: room(rt, alloc, count),
             receipts: room(rt, alloc, count),
         };
-        submitter.submit_rounds(rt, desk, false);
+        if matches!(scenario.pace, Pace::Queued) {
+            let tries = match scenario.memory {
+                Memory::Ample => 1,
+                Memory::RefusedOnce => 2,
+            };
+            submitter.submit_rounds(rt, desk, tries);
+        }
         submitter
     }
 
@@ -89,11 +95,13 @@ impl<T: Tickets, R: Refusals> Submitter<T, R> {
         }
     }
 
-    /// Submits all commands once, each with a second try if memory was refused, and waits for each if the pace is `OneByOne`.
-    fn submit_all<W: Wait>(&mut self, rt: &W, desk: &Desk<T, R>) {
+    /// Submits all commands once, each in so many tries if memory is refused, and waits for each if the pace is `OneByOne`.
+    fn submit_all<W: Wait>(&mut self, rt: &W, desk: &Desk<T, R>, tries: u32) {
         for ask in self.asks {
-            if !self.is_submitted(rt, desk, ask) {
-                self.is_submitted(rt, desk, ask);
+            for _try in 0..tries {
+                if self.is_submitted(rt, desk, ask) {
+                    break;
+                }
             }
             if matches!(self.pace, Pace::OneByOne) {
                 self.wait_all(rt, desk);
@@ -101,13 +109,17 @@ impl<T: Tickets, R: Refusals> Submitter<T, R> {
         }
     }
 
-    /// Submits the commands that are for the time of serving, or for the time before.
-    fn submit_rounds<W: Wait>(&mut self, rt: &W, desk: &Desk<T, R>, is_served: bool) {
-        if is_served == matches!(self.pace, Pace::Queued) {
-            return;
-        }
+    /// Submits the commands in all rounds, each in so many tries if memory is refused.
+    fn submit_rounds<W: Wait>(&mut self, rt: &W, desk: &Desk<T, R>, tries: u32) {
         for _round in 0..self.rounds {
-            self.submit_all(rt, desk);
+            self.submit_all(rt, desk, tries);
+        }
+    }
+
+    /// Submits the commands once the line is served, unless they were queued before. Memory is ample then.
+    fn submit_served<W: Wait>(&mut self, rt: &W, desk: &Desk<T, R>) {
+        if !matches!(self.pace, Pace::Queued) {
+            self.submit_rounds(rt, desk, 1);
         }
     }
 
@@ -142,7 +154,7 @@ pub(crate) fn start_submitting<
         requires { IsSync W.row }
     {
         let mut own = submitter;
-        own.submit_rounds(rt, desk, true);
+        own.submit_served(rt, desk);
         own
     };
     match scope.spawn(submits) {
@@ -181,7 +193,7 @@ pub(crate) struct Driver<T: Tickets, R: Refusals> {
 
 impl<T: Tickets, R: Refusals> Client<T, R> for Driver<T, R> {
     fn drive<W: Wait + Threads + Sync>(&mut self, rt: &W, desk: &Desk<T, R>) {
-        self.submitter.submit_rounds(rt, desk, true);
+        self.submitter.submit_served(rt, desk);
         self.submitter.wait_all(rt, desk);
         wait_for_others(rt, desk, self.accepted);
     }

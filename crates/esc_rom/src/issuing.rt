@@ -1,7 +1,6 @@
 //! Issuing a word: sending the command that writes it.
 
-ghost use Rattle.std.specs.Prelude.{◌≡◌, ◌++◌};
-ghost use Rattle.std.specs.Int.{w16, w32, to_le_bytes};
+ghost use Rattle.std.specs.Prelude.{◌≡◌};
 ghost use Rattle.site_core.specs.Line.{Owns};
 ghost use Rattle.site_core.specs.declared.answers.Issued.{Issued};
 ghost use Rattle.rom_steps.specs.declared.step.End.TheVariants as ends;
@@ -11,20 +10,6 @@ ghost use Rattle.esc_rom.specs.Sent.{IssueSends};
 use crate::driving::drive;
 use rom_steps::{End, begin_issue};
 use site_core::{DeviceFault, Issued, Site};
-
-/// Control and status: write enable, and the command write.
-const WRITE: u16 = 0x0201;
-
-/// The content of the datagram that writes a word, for the control register: write enable and the command, the word's number in 32
-/// bits, and its value (ETG.1000.4, slave information interface).
-pub fn write_content(word: u16, value: u16) -> [u8; 8]
-    ensures { result ≡ to_le_bytes w16 0x0201 ++ to_le_bytes w32 word ++ to_le_bytes w16 value }
-{
-    let [enable, command] = WRITE.to_le_bytes();
-    let [a, b, c, d] = u32::from(word).to_le_bytes();
-    let [low, high] = value.to_le_bytes();
-    [enable, command, a, b, c, d, low, high]
-}
 
 /// The outcome at the end of an issue.
 fn issued_at(end: End) -> Issued

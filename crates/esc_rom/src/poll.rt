@@ -9,9 +9,10 @@ ghost use Rattle.esc_rom.specs.Courses.{Takes};
 ghost use Rattle.esc_rom.specs.Sent.{PollsBy, WaitsBy};
 
 use crate::fault::Stop;
-use crate::registers::{CONTROL, POLLS};
+use crate::limits::POLLS;
 use crate::send::send;
 use ecat_frame::{Command, Datagram, Frame};
+use rom_steps::CONTROL;
 use site_core::Site;
 
 /// How the last command of an idle slave ended.

@@ -40,9 +40,11 @@ pub fn diff_images<R: Read, S: Store, W: Write>(
     store: &mut S,
     output: &mut W,
 ) -> Result<ExitStatus, Fault>
-    ensures status { IfOk result (λ status. IfKnown (option_map (λ name. name.now) compared.entry.old) (option_map (λ name. name.now) compared.entry.new)
+    ensures status { IfOk result (λ status. IfKnown
+        (option_map (λ name. name.now) compared.entry.old) (option_map (λ name. name.now) compared.entry.new)
         (R.remaining input.old) (S.files store.old) (λ first second. TellsDifference compared.entry.hex first second status)) }
-    ensures refused { IfErr result (λ fault. IfKnown (option_map (λ name. name.now) compared.entry.old) (option_map (λ name. name.now) compared.entry.new)
+    ensures refused { IfErr result (λ fault. IfKnown
+        (option_map (λ name. name.now) compared.entry.old) (option_map (λ name. name.now) compared.entry.new)
         (R.remaining input.old) (S.files store.old) (λ first second. RefusesPair compared.entry.hex first second fault)) }
     ensures same { S.files store.new ≡ S.files store.old }
 {

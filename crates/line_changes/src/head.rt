@@ -42,55 +42,22 @@ impl Head {
 pub(crate) fn put_heads(rows: &mut Rows, old: Head, new: Head) -> Result<(), AllocError> {
     let (was, is) = (old.identity, new.identity);
     let fields = [
+        ("words", old.count.into(), new.count.into()),
+        ("alias", old.alias.into(), new.alias.into()),
+        ("check", Value::Byte(old.check), Value::Byte(new.check)),
+        ("vendor", Value::Long(was.vendor), Value::Long(is.vendor)),
+        ("product", Value::Long(was.product), Value::Long(is.product)),
         (
-            old.count != new.count,
-            "words",
-            old.count.into(),
-            new.count.into(),
-        ),
-        (
-            old.alias != new.alias,
-            "alias",
-            old.alias.into(),
-            new.alias.into(),
-        ),
-        (
-            old.check != new.check,
-            "check",
-            Value::Byte(old.check),
-            Value::Byte(new.check),
-        ),
-        (
-            was.vendor != is.vendor,
-            "vendor",
-            Value::Long(was.vendor),
-            Value::Long(is.vendor),
-        ),
-        (
-            was.product != is.product,
-            "product",
-            Value::Long(was.product),
-            Value::Long(is.product),
-        ),
-        (
-            was.revision != is.revision,
             "revision",
             Value::Long(was.revision),
             Value::Long(is.revision),
         ),
-        (
-            was.serial != is.serial,
-            "serial",
-            Value::Long(was.serial),
-            Value::Long(is.serial),
-        ),
+        ("serial", Value::Long(was.serial), Value::Long(is.serial)),
     ];
-    for (differs, field, a, b) in &fields {
-        if *differs {
-            rows.put(
-                "head",
-                &[bare("field", *field), bare("a", *a), bare("b", *b)],
-            )?;
+    for (field, a, b) in &fields {
+        if *a != *b {
+            let row = [bare("field", *field), bare("a", *a), bare("b", *b)];
+            rows.put("head", &row)?;
         }
     }
     Ok(())

@@ -3,28 +3,28 @@ ghost use Rattle.std.specs.Prelude.{◌≡◌, IfErr};
 ghost use Rattle.station_files.specs.Faults.{IsOfStream};
 
 use crate::report::{Before, words_now};
-use sii_image::ImageFault;
+use sii_image::{ImageFault, image_of};
 use sii_words::Plant;
 use station_files::{Fault, Store};
-use station_listing::{Code, list_layout};
+use station_listing::Code;
 use station_rows::{Form, Rows, bare, data, put_layout, said};
 use std::alloc::{AllocError, Global};
 use std::io;
 use std::io::Write;
 
-/// Puts the process image of a line with these contents, as `layout` lists it, or that there is none. `image` says which one it is.
+/// Puts the process image of a line with these contents, as `layout` lists it, or that there is none. `name` says which one it is.
 ///
 /// # Errors
 ///
 /// Memory was refused.
-fn put_image(rows: &mut Rows, image: &str, plant: &Plant) -> Result<(), AllocError> {
-    match list_layout(rows.alloc(), plant) {
-        Ok(listing) => put_layout(rows, Some(image), &listing),
+fn put_image(rows: &mut Rows, name: &str, plant: &Plant) -> Result<(), AllocError> {
+    match image_of(rows.alloc(), plant) {
+        Ok(image) => put_layout(rows, Some(name), &image),
         Err(ImageFault::ImageOverLimit) => {
             let code = Code::ImageOverLimit;
             let row = [
                 said("", "none:"),
-                data("image", image),
+                data("image", name),
                 bare("code", code.number()),
                 bare("name", code.entry().name),
             ];
@@ -35,7 +35,7 @@ fn put_image(rows: &mut Rows, image: &str, plant: &Plant) -> Result<(), AllocErr
 }
 
 /// The process image of a line with these contents, as text.
-fn image_of(alloc: Global, plant: &Plant) -> Result<Rows, AllocError> {
+fn rows_of(alloc: Global, plant: &Plant) -> Result<Rows, AllocError> {
     let mut rows = Rows::new(alloc, Form::Text);
     put_image(&mut rows, "", plant)?;
     Ok(rows)
@@ -47,8 +47,8 @@ fn image_of(alloc: Global, plant: &Plant) -> Result<Rows, AllocError> {
 ///
 /// Memory was refused.
 pub fn put_images(rows: &mut Rows, before: &Plant, after: &Plant) -> Result<(), AllocError> {
-    let old = image_of(rows.alloc(), before)?;
-    let new = image_of(rows.alloc(), after)?;
+    let old = rows_of(rows.alloc(), before)?;
+    let new = rows_of(rows.alloc(), after)?;
     if old.as_str() == new.as_str() {
         return Ok(());
     }
@@ -86,8 +86,8 @@ fn print_other<W: Write>(
 ) -> Result<(), Fault>
     ensures failed { IfErr result IsOfStream }
 {
-    let old = image_of(alloc, before)?;
-    let new = image_of(alloc, after)?;
+    let old = rows_of(alloc, before)?;
+    let new = rows_of(alloc, after)?;
     if old.as_str() != new.as_str() {
         write_image(new.as_str(), output)?;
     }

@@ -6,20 +6,20 @@ use sii_bytes::{
 };
 use std::alloc::Global;
 
-/// The codes that zeros get: from their head, their judgement, a new alias, category 0, the removal of a category, an image, and as a
-/// line.
-type Codes = [u32; 7];
+/// The codes that zeros get: from their head, their judgement, a new alias, category 0, the removal of a category, an image, as a line, and
+/// a new alias once their check byte is right.
+type Codes = [u32; 8];
 
 /// A number of bytes, 8,194 at most, and the codes of so many zeros.
 type Zeros = (usize, Codes);
 
 const ZEROS: &[Zeros] = &[
-    (126, [2, 2, 2, 2, 2, 2, 2]),
-    (127, [1, 1, 1, 1, 1, 1, 1]),
-    (128, [0, 15, 15, 16, 16, 15, 0]),
-    (130, [0, 15, 15, 3, 2, 2, 2]),
-    (8_192, [0, 15, 15, 0, 16, 15, 0]),
-    (8_194, [2, 2, 2, 2, 2, 2, 2]),
+    (126, [2, 2, 2, 2, 2, 2, 2, 2]),
+    (127, [1, 1, 1, 1, 1, 1, 1, 1]),
+    (128, [0, 15, 15, 16, 16, 15, 0, 0]),
+    (130, [0, 15, 15, 3, 2, 2, 2, 0]),
+    (8_192, [0, 15, 15, 0, 16, 15, 0, 0]),
+    (8_194, [2, 2, 2, 2, 2, 2, 2, 2]),
 ];
 
 const NO_HEAD: Head = Head {
@@ -53,6 +53,16 @@ fn line_code(alloc: Global, bytes: &[u8]) -> u32 {
     place_line(alloc, bytes, &[bytes.len()], &mut segments, &mut sizes)
 }
 
+/// The code of the alias 0x1234 for zeros whose check byte is right; 255 where it, or the check byte with it, isn't where it belongs.
+fn renamed_code(bytes: &mut [u8]) -> u32 {
+    if bytes.len() > 14 {
+        bytes[14] = 0x30;
+    }
+    let code = set_alias(bytes, 0x1234);
+    let is_set = bytes.len() > 14 && bytes[8] == 0x34 && bytes[9] == 0x12 && bytes[14] == 0xC7;
+    if code == 0 && !is_set { 255 } else { code }
+}
+
 /// The codes of these zeros.
 fn codes_of(alloc: Global, bytes: &mut [u8], image: &[u8]) -> Codes {
     let mut head = NO_HEAD;
@@ -62,10 +72,11 @@ fn codes_of(alloc: Global, bytes: &mut [u8], image: &[u8]) -> Codes {
     let judged = judge_image(alloc, bytes, &mut detail);
     let found = find_category(alloc, bytes, 0, &mut place);
     let line = line_code(alloc, bytes);
-    let named = set_alias(alloc, bytes, 7);
+    let named = set_alias(bytes, 7);
     let removed = edit_category(alloc, bytes, 10, &[]);
     let written = edit_image(alloc, bytes, image);
-    [read, judged, named, found, removed, written, line]
+    let renamed = renamed_code(bytes);
+    [read, judged, named, found, removed, written, line, renamed]
 }
 
 /// Whether so many zeros get their codes.

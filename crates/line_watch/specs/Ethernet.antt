@@ -1,8 +1,8 @@
 -- EtherCAT frames in Ethernet frames, as a tap on the wire sees them (ETG.1000.4), without the check sequence.
 use Rattle.std.specs.Prelude.{ℕ, ◌-◌, List, [], ◌∷◌, ◌++◌, length}
 use Rattle.std.specs.List.{repeat}
-use Rattle.line_watch.specs.declared.ethernet.Way.{Way}
-use Rattle.line_watch.specs.declared.ethernet.Way.TheVariants.{Out, Back}
+use Rattle.line_watch.specs.declared.pcap.Way.{Way}
+use Rattle.line_watch.specs.declared.pcap.Way.TheVariants.{Out, Back}
 
 -- The first byte of the source address: a slave marks the frames that come back, by bit 1.
 abbrev pub mark_of : Way → ℕ

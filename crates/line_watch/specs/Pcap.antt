@@ -1,7 +1,7 @@
 -- Capture files: the classic pcap format with times in nanoseconds (draft-ietf-opsawg-pcap). All numbers are low byte first.
 use Rattle.std.specs.Prelude.{◌≡◌, ℕ, List, ◌++◌, length}
 use Rattle.std.specs.Int.{w16, w32, to_le_bytes}
-use Rattle.line_watch.specs.declared.ethernet.Way.{Way}
+use Rattle.line_watch.specs.declared.pcap.Way.{Way}
 use Rattle.line_watch.specs.Ethernet.{packet}
 
 -- magic number, version 2.4, two reserved words, the most bytes of a packet, link type 1 (Ethernet)

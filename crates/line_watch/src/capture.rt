@@ -2,9 +2,8 @@
 ghost use Rattle.std.specs.Prelude.{◌≤◌, length, IfOk};
 ghost use Rattle.line_watch.specs.Pcap.{IsRecord};
 
-use crate::ethernet::Way;
-use crate::pcap::{BEGIN, Record, file_header};
-use crate::time::Time;
+use crate::pcap::{BEGIN, LONGEST, Way, file_header, record_of};
+use arrayvec::ArrayVec;
 use ecat_frame::MAX_LEN;
 use site_file::RandomAccessFile;
 use std::io;
@@ -111,12 +110,13 @@ fn is_free<F: RandomAccessFile>(file: &F) -> io::Result<bool> {
 }
 
 /// The record of a frame with these bytes, that goes this way now.
-fn record_now<R: Clock>(rt: &R, way: Way, frame: &[u8]) -> io::Result<Record>
+fn record_now<R: Clock>(rt: &R, way: Way, frame: &[u8]) -> io::Result<ArrayVec<u8, LONGEST>>
     requires { length frame.now ≤ MAX_LEN }
-    ensures { IfOk result (λ noted. IsRecord way frame.now noted.bytes.items) }
+    ensures { IfOk result (λ noted. IsRecord way frame.now noted.items) }
 {
-    let time = Time::now(rt)?;
-    Ok(Record::of(time, way, frame))
+    let now = rt.since_1970()?;
+    let seconds = u32::try_from(now.as_secs()).unwrap_or(u32::MAX);
+    Ok(record_of(seconds, now.subsec_nanos(), way, frame))
 }
 
 /// Writes the record of a frame at this byte of the file. Returns where it ends.

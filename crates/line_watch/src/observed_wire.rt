@@ -2,7 +2,7 @@
 ghost use Rattle.std.specs.Prelude.{◌≡◌, ◌≤◌, length, take};
 
 use crate::capture::Capture;
-use crate::ethernet::Way;
+use crate::pcap::Way;
 use crate::progress::Progress;
 use ecat_frame::{Command, Datagram, Frame, MAX_LEN};
 use site_file::RandomAccessFile;
@@ -36,49 +36,6 @@ pub struct ObservedWire<'o, W, F, T, R> {
     stations: [u16; 64],
     /// How many there are.
     told: usize,
-}
-
-/// What a datagram says of a slave's words.
-#[derive(Clone, Copy)]
-enum Word {
-    /// Words are to be read.
-    Asked,
-    /// A word is to be written.
-    Told,
-    /// So many words were read.
-    Read(usize),
-    /// The slave is idle.
-    Idle,
-}
-
-/// What a datagram that goes to control and status says of words.
-fn command_in(datagram: Datagram<'_>) -> Option<Word> {
-    match (datagram.command, datagram.content) {
-        (Command::Fpwr, [_, command, _, _, _, _, ..]) if command % 8 == 1 => Some(Word::Asked),
-        (Command::Fpwr, [_, command, _, _, _, _, ..]) if command % 8 == 2 => Some(Word::Told),
-        _ => None,
-    }
-}
-
-/// What a read that one slave answered says of words.
-fn answer_in(register: u32, content: &[u8]) -> Option<Word> {
-    match (register, content) {
-        (CONTROL, [_, status]) if *status < 0x80 => Some(Word::Idle),
-        (DATA, words) => Some(Word::Read(words.len() / 2)),
-        _ => None,
-    }
-}
-
-/// What a datagram says of words, as it goes or comes back.
-fn word_in(way: Way, datagram: Datagram<'_>) -> Option<Word> {
-    let register = datagram.address / 65536;
-    match way {
-        Way::Out if register == CONTROL => command_in(datagram),
-        Way::Back if datagram.command == Command::Fprd && datagram.counter == 1 => {
-            answer_in(register, datagram.content)
-        }
-        _ => None,
-    }
 }
 
 /// So many of these bytes, from the first on, or all of them if there are fewer.
@@ -143,22 +100,28 @@ impl<'o, W: Wire, F: RandomAccessFile + Drop, T: Write, R: Wait + Clock> Observe
         place
     }
 
-    /// Counts what a datagram says.
+    /// Counts what a datagram says of a slave's words, as it goes or comes back: words are to be read, or one written; words were read; or the
+    /// slave is idle.
     fn count(&mut self, progress: &Progress<T>, way: Way, datagram: Datagram<'_>) {
-        let Some(word) = word_in(way, datagram) else {
-            return;
-        };
-        let is_busy = match word {
-            Word::Asked => true,
-            Word::Told => {
-                progress.add_word();
-                true
+        let register = datagram.address / 65536;
+        let is_busy = match (way, datagram.command, register, datagram.content) {
+            (Way::Out, Command::Fpwr, CONTROL, [_, command, _, _, _, _, ..]) => {
+                match command % 8 {
+                    1 => true,
+                    2 => {
+                        progress.add_word();
+                        true
+                    }
+                    _ => return,
+                }
             }
-            Word::Read(count) => {
-                progress.add_read(count as u64);
+            (Way::Back, Command::Fprd, CONTROL, [_, status])
+                if datagram.counter == 1 && *status < 0x80 => { false }
+            (Way::Back, Command::Fprd, DATA, words) if datagram.counter == 1 => {
+                progress.add_read((words.len() / 2) as u64);
                 return;
             }
-            Word::Idle => false,
+            _ => return,
         };
         let place = self.place_of((datagram.address % 65536) as u16);
         progress.set_busy(place, is_busy);

@@ -1,28 +1,41 @@
-//! The bytes of a capture file.
+//! The bytes of a capture file: each EtherCAT frame in an Ethernet frame, as a record.
 ghost use Rattle.std.specs.Prelude.{◌≡◌, ◌+◌, ◌-◌, ◌≤◌, ◌++◌, [], ◌∷◌, length};
 ghost use Rattle.std.specs.List.{repeat};
 ghost use Rattle.arrayvec.specs.ArrayVec.{array_vec_len};
-ghost use Rattle.line_watch.specs.Ethernet.{packet};
+ghost use Rattle.line_watch.specs.Ethernet.{header, packet};
 ghost use Rattle.line_watch.specs.Pcap.{file_header, record_bytes};
 
-use crate::ethernet::{BEFORE, SHORTEST, Way, header};
-use crate::time::Time;
 use arrayvec::ArrayVec;
 use ecat_frame::MAX_LEN;
 
 /// How many bytes a capture file begins with.
 pub(crate) const BEGIN: usize = 24;
 
-/// The most bytes of an Ethernet frame, without its check sequence.
+/// How many bytes stand before an EtherCAT frame: destination, source and EtherType.
+const BEFORE: usize = 14;
+
+/// The fewest bytes of an Ethernet frame, without its check sequence.
+const SHORTEST: usize = 60;
+
+/// The most of them.
 const PACKET: usize = BEFORE + MAX_LEN;
 
 /// The most bytes of a record: 16 before the packet, and the longest packet.
-const LONGEST: usize = 16 + PACKET;
+pub(crate) const LONGEST: usize = 16 + PACKET;
 
 const ZEROS: [u8; SHORTEST] = [0; SHORTEST];
 
+/// Which way a frame went.
+#[derive(Clone, Copy)]
+pub enum Way {
+    /// To the slaves.
+    Out,
+    /// Back from them.
+    Back,
+}
+
 /// What a capture file begins with.
-pub fn file_header() -> [u8; BEGIN]
+pub(crate) fn file_header() -> [u8; BEGIN]
     ensures { result ≡ file_header }
 {
     [
@@ -30,35 +43,20 @@ pub fn file_header() -> [u8; BEGIN]
     ]
 }
 
-/// A frame as a record of a capture file.
-#[derive(Drop)]
-pub struct Record {
-    bytes: ArrayVec<u8, LONGEST>,
-}
-
-impl Record {
-    /// The record of a frame with these bytes, 1,500 at most, that went this way at this time.
-    pub fn of(time: Time, way: Way, frame: &[u8]) -> Record
-        requires { length frame.now ≤ MAX_LEN }
-        ensures { result.bytes.items ≡ record_bytes time.seconds time.nanos (packet way frame.now) }
-    {
-        let packet = packet_of(way, frame);
-        let length = packet.len() as u32;
-        let mut bytes = ArrayVec::new();
-        put(&mut bytes, &time.seconds.to_le_bytes());
-        put(&mut bytes, &time.nanos.to_le_bytes());
-        put(&mut bytes, &length.to_le_bytes());
-        put(&mut bytes, &length.to_le_bytes());
-        put(&mut bytes, packet.as_slice());
-        Record { bytes }
-    }
-
-    /// The bytes of the record.
-    pub fn as_slice(&self) -> &[u8]
-        ensures { result.now ≡ self.now.bytes.items }
-    {
-        self.bytes.as_slice()
-    }
+/// The record of a frame with these bytes, 1,500 at most, that went this way so many seconds and nanoseconds after the beginning of 1970.
+pub(crate) fn record_of(seconds: u32, nanos: u32, way: Way, frame: &[u8]) -> ArrayVec<u8, LONGEST>
+    requires { length frame.now ≤ MAX_LEN }
+    ensures { result.items ≡ record_bytes seconds nanos (packet way frame.now) }
+{
+    let packet = packet_of(way, frame);
+    let length = packet.len() as u32;
+    let mut bytes = ArrayVec::new();
+    put(&mut bytes, &seconds.to_le_bytes());
+    put(&mut bytes, &nanos.to_le_bytes());
+    put(&mut bytes, &length.to_le_bytes());
+    put(&mut bytes, &length.to_le_bytes());
+    put(&mut bytes, packet.as_slice());
+    bytes
 }
 
 /// The Ethernet frame of an EtherCAT frame with these bytes, that goes this way.
@@ -72,6 +70,19 @@ fn packet_of(way: Way, frame: &[u8]) -> ArrayVec<u8, PACKET>
     let behind = padding(bytes.len());
     put(&mut bytes, behind);
     bytes
+}
+
+/// What stands before an EtherCAT frame that went this way.
+fn header(way: Way) -> [u8; BEFORE]
+    ensures { result ≡ header way }
+{
+    let mark = match way {
+        Way::Out => 0x00,
+        Way::Back => 0x02,
+    };
+    [
+        0xff, 0xff, 0xff, 0xff, 0xff, 0xff, mark, 0x10, 0x20, 0x30, 0x40, 0x50, 0x88, 0xa4,
+    ]
 }
 
 /// Appends bytes, for which there must be room.

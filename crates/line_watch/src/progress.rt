@@ -102,17 +102,17 @@ impl<T: Write> Progress<T> {
     }
 
     /// Counts words that were read from a slave.
-    pub fn add_read(&self, words: u64) {
+    pub(crate) fn add_read(&self, words: u64) {
         self.read.fetch_add(words, SeqCst);
     }
 
     /// Counts a word that a slave has written.
-    pub fn add_word(&self) {
+    pub(crate) fn add_word(&self) {
         self.words.fetch_add(1, SeqCst);
     }
 
     /// Remembers whether a slave is busy with a word.
-    pub fn set_busy(&self, slave: usize, is_busy: bool) {
+    pub(crate) fn set_busy(&self, slave: usize, is_busy: bool) {
         if slave >= 64 {
             return;
         }
@@ -135,7 +135,7 @@ impl<T: Write> Progress<T> {
     }
 
     /// Draws the line, if its time has come and no other thread is at it.
-    pub fn look<R: Clock>(&self, rt: &R) {
+    pub(crate) fn look<R: Clock>(&self, rt: &R) {
         let Ok(now) = rt.monotonic() else {
             return;
         };
@@ -152,12 +152,7 @@ impl<T: Write> Progress<T> {
 
     /// Erases the line, and writes these bytes. No line is drawn until they end with a line feed. Then they are flushed, so that whole lines
     /// stand on the terminal; whether that fails is told by the next flush.
-    pub(crate) fn give_way<W: Write, R: Wait>(
-        &self,
-        rt: &R,
-        writer: &mut W,
-        bytes: &[u8],
-    ) -> io::Result<usize>
+    fn give_way<W: Write, R: Wait>(&self, rt: &R, writer: &mut W, bytes: &[u8]) -> io::Result<usize>
         ensures { WritesAtMost result bytes.now }
     {
         let mut line = self.line.lock(rt);
@@ -170,5 +165,44 @@ impl<T: Write> Progress<T> {
             }
         }
         written
+    }
+}
+
+/// A writer, and the progress whose line is erased before each write, if there is one. It writes what the writer does.
+#[derive(Drop)]
+pub struct Cleared<'a, W, T, R> {
+    writer: &'a mut W,
+    progress: Option<&'a Progress<T>>,
+    rt: &'a R,
+}
+
+impl<'a, W: Write, T: Write, R: Wait> Cleared<'a, W, T, R> {
+    /// Makes the writer before which the line of this progress is erased.
+    pub fn new(
+        writer: &'a mut W,
+        progress: Option<&'a Progress<T>>,
+        rt: &'a R,
+    ) -> Cleared<'a, W, T, R> {
+        Cleared {
+            writer,
+            progress,
+            rt,
+        }
+    }
+}
+
+impl<'a, W: Write, T: Write, R: Wait> Write for Cleared<'a, W, T, R> {
+    fn write(&mut self, bytes: &[u8]) -> io::Result<usize> {
+        match self.progress {
+            Some(progress) => progress.give_way(self.rt, self.writer, bytes),
+            None => self.writer.write(bytes),
+        }
+    }
+
+    fn flush(&mut self) -> io::Result<()> {
+        if let Some(progress) = self.progress {
+            progress.erase(self.rt);
+        }
+        self.writer.flush()
     }
 }

@@ -19,12 +19,24 @@ const PAUSE: u64 = 500;
 
 /// A wire on which each frame takes a while, once it is slow.
 #[derive(Drop)]
-struct SlowWire<'r, W, C> {
-    wire: W,
+pub(crate) struct SlowWire<'r, W, C> {
+    pub wire: W,
     clock: &'r C,
-    is_slow: bool,
+    pub is_slow: bool,
     /// How many datagrams a frame has had at most since, without its number.
     most: usize,
+}
+
+impl<'r, W, C> SlowWire<'r, W, C> {
+    /// One that isn't slow yet.
+    pub(crate) fn new(wire: W, clock: &'r C) -> SlowWire<'r, W, C> {
+        SlowWire {
+            wire,
+            clock,
+            is_slow: false,
+            most: 0,
+        }
+    }
 }
 
 impl<'r, W: Wire, C: Clock> Wire for SlowWire<'r, W, C> {
@@ -51,13 +63,8 @@ fn ended<R: Wait + Threads + Clock + Sync>(
     alloc: Global,
     bench: &Bench,
 ) -> Option<(bool, usize)> {
-    let slow = SlowWire {
-        wire: PracticeWire::new(slaves_of(alloc, &THREE)?, &bench.clock),
-        clock: rt,
-        is_slow: false,
-        most: 0,
-    };
-    let mut wire = NumberedWire::new(slow, 7);
+    let under = PracticeWire::new(slaves_of(alloc, &THREE)?, &bench.clock);
+    let mut wire = NumberedWire::new(SlowWire::new(under, rt), 7);
     let parts = parts_on(alloc, bench, &mut wire)?;
     wire.wire().is_slow = true;
     let locked = LockedLine::new(LiveLine::new(wire));

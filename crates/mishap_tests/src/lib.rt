@@ -4,6 +4,8 @@
 #[cfg(test)]
 mod joined;
 #[cfg(test)]
+mod uncounted;
+#[cfg(test)]
 mod wire_runs;
 #[cfg(test)]
 mod wire_threads;

@@ -1,6 +1,6 @@
 //! What C calls. `include/pilzhoon.h` says it in C's words.
 
-ghost use Rattle.std.specs.Prelude.{◌≡◌, ◌≤◌, ◌==◌, not, Err};
+ghost use Rattle.std.specs.Prelude.{◌≡◌, ◌≢◌, ◌≤◌, ◌==◌, not, Err};
 ghost use Rattle.pilzhoon.specs.Numbers.{IsNumberOf, Numbers};
 ghost use Rattle.sii_words.specs.CheckByte.{IsChecked};
 ghost use Rattle.sii_words.specs.Words.{IsDeviceSize, IsImageSize, bytes_of};
@@ -54,11 +54,12 @@ pub extern "C" fn pz_category(
 
 /// Sets the alias of an image, as `sii_bytes::set_alias` does.
 #[unsafe(no_mangle)]
-pub extern "C" fn pz_set_alias(alloc: Global, image: &mut [u8], value: u16) -> u32
-    ensures { Answers IsImageSize image.old result (λ words. IsChecked words × (image.new ≡ bytes_of (with_alias words value)))
+pub extern "C" fn pz_set_alias(image: &mut [u8], value: u16) -> u32
+    ensures answer { Answers IsImageSize image.old result (λ words. IsChecked words × (image.new ≡ bytes_of (with_alias words value)))
         (λ words. (result ≡ 15) × ¬ IsChecked words) (image.new ≡ image.old) }
+    ensures memory { result ≢ 20 }
 {
-    sii_bytes::set_alias(alloc, image, value)
+    sii_bytes::set_alias(image, value)
 }
 
 /// Replaces, adds or removes a category of a device, as `sii_bytes::edit_category` does.

@@ -109,7 +109,7 @@ fn or_else(step: Option<Step>, other: Option<Step>) -> Option<Step>
 }
 
 /// The step that these numbers are; `None` if they are none.
-pub fn step_in(a: Access) -> Option<Step>
+pub(crate) fn step_in(a: Access) -> Option<Step>
     ensures { result ≡ step_in a }
 {
     or_else(opening_in(a), or_else(word_step_in(a), or_ended(end_in(a))))
@@ -149,7 +149,7 @@ fn end_as_numbers(end: End) -> Access
 }
 
 /// A step as numbers.
-pub fn access_of(step: Step) -> Access
+pub(crate) fn access_of(step: Step) -> Access
     ensures { step_in result ≡ Some step }
 {
     match step {

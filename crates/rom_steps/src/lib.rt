@@ -16,8 +16,9 @@ mod settling;
 mod step;
 mod taking;
 
-pub use access::{Access, access_of, step_in};
+pub use access::Access;
 pub use back::{Back, Rested, WordPair};
 pub use datagram::{ToSend, next_of};
+pub use registers::{ACCESS, CONTENT, CONTROL, write_content};
 pub use step::{End, Step, begin_issue, begin_opening, begin_reading, begin_settling};
 pub use taking::{stop, take};

@@ -1,7 +1,7 @@
 pub mod BytesLaws
 pub mod EditLaws
 pub mod Judged
-pub mod AliasSet
+pub mod AliasInPlace
 pub mod EditRefusals
 pub mod LineRead
 pub mod LineWritten

@@ -7,37 +7,37 @@ use sii_edit::Cause;
 use sii_words::WordsFault;
 
 /// The call is done.
-pub const DONE: u32 = 0;
+pub(crate) const DONE: u32 = 0;
 
 /// The chain of categories is cut off.
-pub const RUNS_OUT: u32 = 3;
+pub(crate) const RUNS_OUT: u32 = 3;
 
 /// The content of a category can't be read.
-pub const BAD_CATEGORY: u32 = 4;
+pub(crate) const BAD_CATEGORY: u32 = 4;
 
 /// The check byte is wrong.
-pub const BAD_CHECK: u32 = 15;
+pub(crate) const BAD_CHECK: u32 = 15;
 
 /// There is no such category.
-pub const NO_SUCH_CATEGORY: u32 = 16;
+pub(crate) const NO_SUCH_CATEGORY: u32 = 16;
 
 /// There is no process image.
-pub const OVER_LIMIT: u32 = 19;
+pub(crate) const OVER_LIMIT: u32 = 19;
 
 /// Memory was refused.
-pub const MEMORY: u32 = 20;
+pub(crate) const MEMORY: u32 = 20;
 
 /// There are no such slaves: none, or more than 64, or their lengths don't make up the bytes.
-pub const BAD_LINE: u32 = 212;
+pub(crate) const BAD_LINE: u32 = 212;
 
 /// There is no room for the answer.
-pub const NO_SPACE: u32 = 213;
+pub(crate) const NO_SPACE: u32 = 213;
 
 /// The content has no item of this number.
-pub const NO_SUCH_ITEM: u32 = 214;
+pub(crate) const NO_SUCH_ITEM: u32 = 214;
 
 /// The code of bytes that can't be read as words.
-pub fn words_code(fault: WordsFault) -> u32
+pub(crate) fn words_code(fault: WordsFault) -> u32
     ensures { result ≡ code_of_words fault }
 {
     match fault {
@@ -48,7 +48,7 @@ pub fn words_code(fault: WordsFault) -> u32
 }
 
 /// The code of a refused command.
-pub fn cause_code(cause: Cause) -> u32
+pub(crate) fn cause_code(cause: Cause) -> u32
     ensures { result ≡ code_of_cause cause }
 {
     match cause {

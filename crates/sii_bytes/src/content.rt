@@ -82,10 +82,7 @@ fn content_words(alloc: Global, content: &[u8]) -> Result<Vec<u16>, u32>
 fn managers_in(alloc: Global, content: &[u8]) -> Result<Vec<Manager>, u32>
     ensures { FindsList (λ v. v.items) AreManagers content.now result }
 {
-    let words = match content_words(alloc, content) {
-        Ok(words) => words,
-        Err(code) => return Err(code),
-    };
+    let words = content_words(alloc, content)?;
     match syncms(alloc, &words) {
         Ok(managers) => Ok(managers),
         Err(_) => Err(MEMORY),
@@ -95,10 +92,7 @@ fn managers_in(alloc: Global, content: &[u8]) -> Result<Vec<Manager>, u32>
 fn pdos_in(alloc: Global, content: &[u8]) -> Result<Vec<Pdo>, u32>
     ensures { FindsList (λ v. views v.items) ArePdos content.now result }
 {
-    let words = match content_words(alloc, content) {
-        Ok(words) => words,
-        Err(code) => return Err(code),
-    };
+    let words = content_words(alloc, content)?;
     match pdos(alloc, 50, &words) {
         Ok(all) => Ok(all),
         Err(CatFault::Memory) => Err(MEMORY),
@@ -109,10 +103,7 @@ fn pdos_in(alloc: Global, content: &[u8]) -> Result<Vec<Pdo>, u32>
 fn strings_in(alloc: Global, content: &[u8]) -> Result<Vec<Vec<u8>>, u32>
     ensures { FindsList (λ v. texts v.items) AreStrings content.now result }
 {
-    let words = match content_words(alloc, content) {
-        Ok(words) => words,
-        Err(code) => return Err(code),
-    };
+    let words = content_words(alloc, content)?;
     match strings(alloc, &words) {
         Ok(all) => Ok(all),
         Err(CatFault::Memory) => Err(MEMORY),

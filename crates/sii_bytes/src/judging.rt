@@ -1,6 +1,6 @@
 //! Judges an image.
 
-ghost use Rattle.std.specs.Prelude.{◌≡◌, ◌≢◌, All, MatchOption};
+ghost use Rattle.std.specs.Prelude.{◌≢◌, All, MatchOption};
 ghost use Rattle.station_listing.specs.declared.content.Content.TheVariants.{Malformed};
 ghost use Rattle.sii_bytes.specs.Judging.{IsFirstMalformed, Judges, JudgesListing};
 
@@ -8,19 +8,6 @@ use crate::codes::{BAD_CATEGORY, BAD_CHECK, DONE, MEMORY, RUNS_OUT};
 use crate::reading::read_image;
 use station_listing::{CheckByte, ListedCategory, ListedChain, Listing, list_image};
 use std::alloc::Global;
-
-/// A code, and the number that is told beside it.
-#[derive(Clone, Copy)]
-struct Finding {
-    code: u32,
-    detail: usize,
-}
-
-fn found(code: u32, detail: usize) -> Finding
-    ensures { result ≡ record { code = code; detail = detail } }
-{
-    Finding { code, detail }
-}
 
 /// The type of the first category whose content can't be read.
 fn first_malformed(categories: &[ListedCategory]) -> Option<u16>
@@ -34,20 +21,21 @@ fn first_malformed(categories: &[ListedCategory]) -> Option<u16>
     None
 }
 
-fn judge_listing(listing: &Listing) -> Finding
-    ensures { JudgesListing listing.now result.code result.detail }
+/// The code of what is found first, and the number that is told beside it.
+fn judge_listing(listing: &Listing) -> (u32, usize)
+    ensures { JudgesListing listing.now result.0 result.1 }
 {
     match listing.check {
-        CheckByte::Wrong { expected, .. } => return found(BAD_CHECK, usize::from(expected)),
+        CheckByte::Wrong { expected, .. } => return (BAD_CHECK, usize::from(expected)),
         CheckByte::Right => {}
     }
     let categories = match &listing.chain {
         ListedChain::Whole(categories) => categories,
-        ListedChain::RunsOut { at } => return found(RUNS_OUT, *at),
+        ListedChain::RunsOut { at } => return (RUNS_OUT, *at),
     };
     match first_malformed(categories) {
-        Some(kind) => found(BAD_CATEGORY, usize::from(kind)),
-        None => found(DONE, 0),
+        Some(kind) => (BAD_CATEGORY, usize::from(kind)),
+        None => (DONE, 0),
     }
 }
 
@@ -68,9 +56,9 @@ pub fn judge_image(alloc: Global, bytes: &[u8], detail: &mut usize) -> u32
     };
     match list_image(alloc, &image) {
         Ok(listing) => {
-            let finding = judge_listing(&listing);
-            *detail = finding.detail;
-            finding.code
+            let (code, found) = judge_listing(&listing);
+            *detail = found;
+            code
         }
         Err(_) => MEMORY,
     }

@@ -13,10 +13,6 @@ mod reading;
 
 pub use alias::set_alias;
 pub use category::{CategoryPlace, find_category};
-pub use codes::{
-    BAD_LINE, DONE, MEMORY, NO_SPACE, NO_SUCH_CATEGORY, NO_SUCH_ITEM, OVER_LIMIT, cause_code,
-    words_code,
-};
 pub use content::{EntryRow, PdoRow, SyncManager, read_entry, read_manager, read_pdo, read_string};
 pub use editing::{edit_category, edit_image};
 pub use head::{Head, read_head};

@@ -6,21 +6,21 @@ ghost use Rattle.sii_cats.specs.Bytes.{bytes_of, padded};
 use std::alloc::{AllocError, Global};
 
 /// The word made of a low and a high byte.
-pub fn pair(low: u8, high: u8) -> u16
+pub(crate) fn pair(low: u8, high: u8) -> u16
     ensures { bytes_of (result ∷ []) ≡ low ∷ high ∷ [] }
 {
     u16::from_le_bytes([low, high])
 }
 
 /// The low and the high byte of a word.
-pub fn halves(word: u16) -> (u8, u8)
+pub(crate) fn halves(word: u16) -> (u8, u8)
     ensures { result ≡ (word % 256, word / 256) }
 {
     ((word % 256) as u8, (word / 256) as u8)
 }
 
 /// Adds four words.
-pub fn push_four(words: &mut Vec<u16>, four: [u16; 4]) -> Result<(), AllocError>
+pub(crate) fn push_four(words: &mut Vec<u16>, four: [u16; 4]) -> Result<(), AllocError>
     ensures { OnOk result (words.new.items ≡ words.old.items ++ four) }
 {
     words.extend_from_slice(&four)
@@ -45,7 +45,7 @@ fn word_of(bytes: &[u8]) -> Option<(u16, &[u8])>
 /// # Errors
 ///
 /// `AllocError` if memory was refused.
-pub fn packed(alloc: Global, bytes: &[u8]) -> Result<Vec<u16>, AllocError>
+pub(crate) fn packed(alloc: Global, bytes: &[u8]) -> Result<Vec<u16>, AllocError>
     ensures { IfOk result (λ v. bytes_of v.items ≡ padded bytes.now) }
 {
     let mut words = Vec::new(alloc);

@@ -65,7 +65,7 @@ fn header_at(words: &[u16], at: usize) -> Result<Option<Category>, ChainFault>
 /// # Errors
 ///
 /// As for `chain`.
-pub fn walk(alloc: Global, words: &[u16]) -> Result<(Vec<Category>, usize), ChainFault>
+pub(crate) fn walk(alloc: Global, words: &[u16]) -> Result<(Vec<Category>, usize), ChainFault>
     requires { 64 ≤ length words.now }
     ensures exact { GivesChain (λ x. map (member_of words.now) x.0.items) words.now result }
     ensures walked { IfOk result (λ x. IsWalked words.now x.0.items x.1) }

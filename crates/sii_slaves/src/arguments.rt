@@ -123,10 +123,9 @@ pub fn read_arguments<'a>(alloc: Global, words: &'a [String]) -> Result<Argument
 
 /// The slaves that the words ask for, or why these are refused.
 fn practice_of<'a>(given: &Given<'a>) -> Result<Practice<'a>, &'static str> {
-    let cut = given.cut("cut")?.map(|cut| PowerCut {
-        word: cut.count,
-        left: cut.left,
-    });
+    let cut = given
+        .cut("cut")?
+        .map(|(word, left)| PowerCut { word, left });
     let Some(quirks) = QuirkList::of(given.word("quirks")) else {
         return Err(
             "LIST has items as 'missed=3' or '1:chip=128', separated by commas: see sii_slaves --help",

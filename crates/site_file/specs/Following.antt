@@ -33,7 +33,8 @@ pub data Step {F : Type 0} (old : Seen) (before : FileDevice F) (new : Seen) (af
       → at ≤ length old.state.disk.bytes → WritesDisk old at bytes given new → IsTold old.faults passing given
       → CallsJournal (writes at bytes) before passing after → Step old before new after
   -- a sync; where the device passes it, the site has done it
-  sync : (passing : Passing) (given : Result (Unit {0}) DeviceFault) → old.is_stopped ≡ false → SyncsDisk old given new → IsTold old.faults passing given
+  sync : (passing : Passing) (given : Result (Unit {0}) DeviceFault) → old.is_stopped ≡ false
+      → SyncsDisk old given new → IsTold old.faults passing given
       → CallsJournal syncs before passing after → Step old before new after
   -- a half becomes idle as the device says, before it takes a datagram
   rest : (slave : ℕ) (half rested later : SlaveHalf) (resting : Resting) → old.is_stopped ≡ false

@@ -17,7 +17,7 @@ use crate::owned::{OpenFiles, OwnedFiles};
 use ecat_frame::Frame;
 use esc_model::{RomHalf, WordWrite};
 use sii_words::History;
-use site_shadow::{Device, Lends, LinePart, Passing, Pattern, Resting, ShadowSite};
+use site_shadow::{Device, Lends, LinePart, Passing, Pattern, Resting};
 use std::{io, mem};
 
 /// The number of bytes of the journal that are compared at a time.
@@ -41,9 +41,6 @@ pub struct FileDevice<F> {
     /// Whether a call on a file has failed, or it was put behind a shadow that had seen a call. From then on it asks nothing.
     has_failed: bool,
 }
-
-/// A line and a disk in files.
-pub type FileSite<F> = ShadowSite<FileDevice<F>>;
 
 /// The files of a device that is done, and all that was asked of them since it was made.
 #[derive(Drop)]

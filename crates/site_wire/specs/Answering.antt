@@ -1,6 +1,6 @@
 -- What came back of a datagram, beside the answer of the shadow (ETG.1000.4, slave information interface).
 use Rattle.std.specs.Prelude.{◌≡◌, ℕ, ◌+◌, ◌/◌, ◌<◌, ◌≤◌, ◌==◌, nat_le, Bool, true, false, List, length, take, min}
-use Rattle.std.specs.Prelude.{slice_index, slice_get}
+use Rattle.std.specs.Prelude.{◌∷◌, [], slice_index, slice_get}
 use Rattle.std.specs.Prelude.{Option, Some, None, IsTrue, if◌then◌else◌}
 use Rattle.ecat_frame.specs.Frame.{Pdu}
 use Rattle.ecat_frame.specs.Command.{code_of}
@@ -54,6 +54,13 @@ pub record IsAnswer (given : Pdu) (answer : Answer) : Type 0 where
   pub length : answer.length ≡ length given.content
   pub short : answer.length ≤ 16
   pub written : given.command ≡ 5 → (found_of answer).content ≡ given.content
+
+-- This is the answer to the one datagram of a frame, and no slave counted it.
+pub record IsUncounted (frame : List Pdu) (answer : Answer) : Type 0 where
+  pub asked : Pdu
+  pub one : frame ≡ asked ∷ []
+  pub is_answer : IsAnswer asked answer
+  pub counter : answer.counter ≡ 0
 
 -- in what a byte that was read at this register is another
 abbrev pub difference_at : (register given found : ℕ) → Option Difference

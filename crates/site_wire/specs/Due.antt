@@ -1,6 +1,6 @@
 -- Which frames go to a slave (ETG.1000.4, slave information interface).
 use Rattle.std.specs.Prelude.{◌≡◌, ◌+◌, ◌<◌, ◌≤◌, ◌^◌, ◌%◌, ◌==◌, ◌&&◌, nat_le, Bool, true, ℕ, ◌∷◌}
-use Rattle.std.specs.Prelude.{◌++◌, [], length, slice_index, IsTrue, List}
+use Rattle.std.specs.Prelude.{◌++◌, [], length, not, slice_index, IsTrue, List}
 use Rattle.std.specs.Int.{w16, w32, to_le_bytes}
 use Rattle.ecat_frame.specs.Frame.{Pdu}
 use Rattle.esc_model.specs.Bytes.{register_of, double_word_at}
@@ -16,6 +16,10 @@ pub record WritesControl (d : Pdu) : Type 0 where
 -- The datagram has a command for the EEPROM: it writes both bytes of control and status.
 abbrev pub is_command : Pdu → Bool
 is_command d = d.command == 5 && nat_le (register_of d.address) 0x0502 && nat_le 0x0504 (register_of d.address + length d.content)
+
+-- a slave that takes this command is busy then: it isn't command 000, bits 8 to 10 of control and status (ETG.1000.4)
+abbrev pub begins_work : Pdu → Bool
+begins_work d = is_command d && not (slice_index d.content 1 % 8 == 0)
 
 -- These bytes, from control and status on, are a command with all that it needs: none; or read a word and the next one, which the half
 -- has; or write a word that it has.

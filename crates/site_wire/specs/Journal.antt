@@ -22,7 +22,8 @@ pub data JournalStep {F : Type 0} (old : Seen) (before : FileDevice F) (new : Se
       → at ≤ length old.state.disk.bytes → WritesDisk old at bytes given new → IsTold old.faults passing given
       → CallsJournal (writes at bytes) before passing after → JournalStep old before new after
   -- a sync; where the journal passes it, the site has done it
-  sync : (passing : Passing) (given : Result (Unit {0}) DeviceFault) → old.is_stopped ≡ false → SyncsDisk old given new → IsTold old.faults passing given
+  sync : (passing : Passing) (given : Result (Unit {0}) DeviceFault) → old.is_stopped ≡ false
+      → SyncsDisk old given new → IsTold old.faults passing given
       → CallsJournal syncs before passing after → JournalStep old before new after
   -- a half rests and takes a datagram; the journal is asked nothing
   rest : (slave : ℕ) (later : SlaveHalf) → old.is_stopped ≡ false → new.state ≡ with_half old.state slave later → Extends old new

@@ -15,7 +15,8 @@ use crate::reach::Reach;
 use crate::sending::Sender;
 use ecat_frame::{Command, Frame, fp};
 use esc_model::{RomHalf, WordWrite, station_address};
-use esc_rom::{CONTENT, CONTROL, POLLS, write_content};
+use esc_rom::POLLS;
+use rom_steps::{CONTENT, CONTROL, write_content};
 use std::rt::Clock;
 use wire_frames::{ATTEMPTS, Pace, UNCOUNTED};
 

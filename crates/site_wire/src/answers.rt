@@ -34,7 +34,7 @@ pub struct Answer {
     length: usize,
     /// The first of them.
     front: [u8; LONGEST],
-    /// Whether the frame was sent more than once. Then the slave may have taken it before.
+    /// Whether the slave may have taken it before: the frame was sent more than once, or no slave counted it.
     pub(crate) again: bool,
 }
 
@@ -186,7 +186,7 @@ fn shown_of(status: u8) -> Shown
 }
 
 /// Whether the answer is to the datagram that was sent, of which the shadow gives `given`.
-fn is_answer(given: Datagram<'_>, answer: &Answer) -> bool
+pub(crate) fn is_answer(given: Datagram<'_>, answer: &Answer) -> bool
     ensures { IsTrue result ↔ IsAnswer (pdu given.entry) answer.now }
 {
     let is_written = given.command.code() != FPWR || given.content == answer.content();

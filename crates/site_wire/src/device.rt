@@ -83,9 +83,6 @@ struct SlaveWrite {
 /// A line on a wire, and a disk in a file.
 pub type WireSite<'f, W, F, C> = ShadowSite<WireDevice<'f, LiveLine<W>, F, C>>;
 
-/// A line on a wire that threads share, and a disk in a file.
-pub type SharedSite<'f, R, W, F, C> = ShadowSite<WireDevice<'f, SharedLine<'f, R, W>, F, C>>;
-
 impl SlaveWrite {
     /// It was issued once.
     fn begun() -> SlaveWrite {

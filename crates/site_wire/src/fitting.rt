@@ -1,7 +1,7 @@
 //! Which datagrams go to a slave.
 ghost use Rattle.std.specs.Prelude.{◌≡◌, ◌≤◌, ◌%◌, ◌↔◌, ◌∷◌, [], length, slice_index, IsTrue, IfSome};
 ghost use Rattle.ecat_frame.specs.Frame.{pdu};
-ghost use Rattle.site_wire.specs.Due.{WritesControl, IsFit, NamesInside, is_command};
+ghost use Rattle.site_wire.specs.Due.{IsFit, NamesInside, WritesControl, begins_work, is_command};
 ghost use Rattle.wire_frames.specs.Sending.{IsForEeprom};
 ghost use Rattle.site_wire.specs.Known.{IsKnown};
 ghost use Rattle.esc_model.specs.Bytes.{double_word_at};
@@ -9,7 +9,7 @@ ghost use Rattle.esc_model.specs.SlaveHalf.{is_busy};
 
 use ecat_frame::{Datagram, Frame};
 use esc_model::RomHalf;
-use esc_rom::{ACCESS, CONTENT, CONTROL};
+use rom_steps::{ACCESS, CONTENT, CONTROL};
 use wire_frames::{FPRD, FPWR, register_of};
 
 /// Whether a busy slave takes nothing of the datagram: it writes to control and status or behind them.
@@ -18,6 +18,17 @@ pub(crate) fn waits_for_rest(datagram: Datagram<'_>) -> bool
 {
     let end = register_of(datagram.address) + datagram.content.len();
     datagram.command.code() == FPWR && end > usize::from(CONTROL)
+}
+
+/// Whether a slave that takes the datagram is busy then: it writes a command other than 000 to control and status.
+pub(crate) fn begins_work(datagram: Datagram<'_>) -> bool
+    ensures { result ≡ begins_work (pdu datagram.entry) }
+{
+    let high = match datagram.content.get(1) {
+        Some(high) => *high,
+        None => 0,
+    };
+    is_command(datagram) && high % 8 != 0
 }
 
 /// Whether the half is busy, and takes nothing of the datagram.

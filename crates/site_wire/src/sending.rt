@@ -1,16 +1,18 @@
 // What a device sends to the slaves of its line. Each datagram is noted: the contract of `Sender::pass` says what was sent and what came back, and
 // in which order. That a datagram which is noted is the one that is sent is read from that function, and that the answer is the one that came, of
 // this datagram, from `LiveLine::pass`, `SharedLine::pass` and `Answer::read`.
-ghost use Rattle.std.specs.Prelude.{◌≡◌, ◌∷◌, [], true, length};
+ghost use Rattle.std.specs.Prelude.{◌≡◌, ◌⊎◌, ◌∷◌, [], true, length, IfSome, IsSomeAnd};
 ghost use Rattle.std.specs.List.{All};
 ghost use Rattle.std.specs.Option.{option_map};
 ghost use Rattle.ecat_frame.specs.Frame.{Pdu};
 ghost use Rattle.wire_frames.specs.Sending.{IsForEeprom};
 ghost use Rattle.site_wire.specs.Due.{IsDue};
-ghost use Rattle.site_wire.specs.Answering.{found_of};
+ghost use Rattle.site_wire.specs.Answering.{found_of, IsUncounted};
+ghost use Rattle.site_wire.specs.declared.sending.Resend.TheVariants.{Never};
 ghost use Rattle.site_wire.specs.Sent.{exchanged, Notes, Sends};
 
-use crate::answers::Answer;
+use crate::answers::{Answer, is_answer};
+use crate::fitting::{begins_work, only_datagram};
 use crate::reach::Reach;
 use ecat_frame::Frame;
 use esc_model::RomHalf;
@@ -18,8 +20,8 @@ use sii_words::History;
 use std::mem;
 use std::snapshot::Snapshot;
 
-/// A frame of one datagram that was sent until it came back, three times at most, and what came back, if anything did. In contracts alone: it takes
-/// no memory.
+/// A frame of one datagram that was sent until it came back, three times at most, and again where no slave counted it, and what came back last, if
+/// anything did. In contracts alone: it takes no memory.
 #[derive(Drop)]
 pub struct Exchange {
     frame: Snapshot<Frame>,
@@ -123,15 +125,64 @@ impl<L: Drop> Sender<L> {
     }
 }
 
+/// Whether a datagram is sent again.
+#[derive(Clone, Copy)]
+enum Resend {
+    /// It isn't: what came back isn't its answer, or a slave counted it.
+    Never,
+    /// At once: no slave counted it.
+    AtOnce,
+    /// Not before polls show the slave idle: no slave counted it, but one that took it all the same is busy.
+    AfterPolls,
+}
+
+impl Resend {
+    /// Whether the one datagram of a frame is sent again, where this came back.
+    fn of(frame: &Frame, answer: &Answer) -> Resend
+        ensures { (result ≡ Never) ⊎ IsUncounted frame.now answer.now }
+    {
+        match only_datagram(frame) {
+            Some(asked) if answer.counter == 0 && is_answer(asked, answer) => {
+                if begins_work(asked) {
+                    Resend::AfterPolls
+                } else {
+                    Resend::AtOnce
+                }
+            }
+            _ => Resend::Never,
+        }
+    }
+}
+
 impl<L: Reach> Sender<L> {
-    /// Sends a frame of one datagram, as `Reach::pass` does.
+    /// What came back of this frame, or what comes back as it is sent again.
+    fn counted(&mut self, half: &RomHalf, frame: &Frame, answer: Option<Answer>) -> Option<Answer>
+        requires due { IsDue half.now frame.now }
+        requires eeprom { All IsForEeprom frame.now }
+        ensures log { self.new.log ≡ self.old.log }
+        ensures same { (result ≡ answer) ⊎ IsSomeAnd answer (IsUncounted frame.now) }
+        ensures again { (result ≡ answer) ⊎ IfSome result (λ found. found.again ≡ true) }
+    {
+        let mut found = answer?;
+        match Resend::of(frame, &found) {
+            Resend::Never => return answer,
+            Resend::AtOnce => found = self.line.pass(half, frame)?,
+            Resend::AfterPolls => {}
+        }
+        found.again = true;
+        Some(found)
+    }
+
+    /// Sends a frame of one datagram, as `Reach::pass` does; where no slave counts it, three times at most, but once if it begins work.
     pub(crate) fn pass(&mut self, half: &RomHalf, frame: &Frame) -> Option<Answer>
         requires due { IsDue half.now frame.now }
         requires eeprom { All IsForEeprom frame.now }
         ensures { (d : Pdu) → frame.now ≡ d ∷ []
             → Sends self.old.log.all self.new.log.all (exchanged d (option_map found_of result) ∷ []) }
     {
-        let answer = self.line.pass(half, frame);
+        let first = self.line.pass(half, frame);
+        let second = self.counted(half, frame, first);
+        let answer = self.counted(half, frame, second);
         self.log.note(frame, &answer);
         answer
     }

@@ -7,4 +7,3 @@ pub mod ImageText
 pub mod LineFiles
 pub mod Locations
 pub mod ScriptFiles
-pub mod Show

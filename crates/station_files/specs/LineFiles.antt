@@ -1,14 +1,12 @@
 -- A line in files: the line file, and the image files that it names.
-use Rattle.std.specs.Prelude.{◌≡◌, ◌⊎◌, ◌/◌, ◌%◌, ◌^◌, ℕ, List, ◌∷◌, ◌++◌, length, map, IsSomeAnd, IsUtf8, None}
+use Rattle.std.specs.Prelude.{◌≡◌, ◌⊎◌, ◌/◌, ◌%◌, ◌^◌, ℕ, List, ◌∷◌, ◌++◌, length, map, IsSomeAnd, IsUtf8, None, Some}
 use Rattle.std.specs.Prelude.{string_bytes, ⊤}
 use Rattle.std.specs.List.{AllZip}
 use Rattle.toml.specs.Parse.{parse_document}
-use Rattle.sii_image.specs.ProcessImage.{process_image}
+use Rattle.sii_image.specs.ProcessImage.{ProcessImageParts, process_image}
 use Rattle.sii_words.specs.Words.{IsDeviceSize, bytes_of}
 use Rattle.station_text.specs.LineText.{Describes}
 use Rattle.station_text.specs.declared.line_file.LineFile.{LineFile}
-use Rattle.station_listing.specs.LayoutListing.{Lists}
-use Rattle.station_listing.specs.declared.layout_listing.LayoutListing.{LayoutListing}
 use Rattle.station_files.specs.Files.{Known, Holds, HasBytes, RefusesFile}
 use Rattle.station_files.specs.declared.faults.Fault.{Fault}
 use Rattle.station_files.specs.declared.faults.Fault.TheVariants.{OddLength, BadSize, ImageOverLimit, BadLine, Memory, File, NotAFile}
@@ -43,11 +41,11 @@ pub record SpellsPlant (files : Known) (name : List ℕ) (plant : List (List ℕ
   pub described : SpellsLine files name line
   pub slaves : SpellsSlaves files line plant
 
--- this is the listing of the process image of the plant that the files spell
-pub record ListsFiles (files : Known) (name : List ℕ) (listing : LayoutListing) : Type 0 where
+-- this is the process image of the plant that the files spell
+pub record ListsFiles (files : Known) (name : List ℕ) (image : ProcessImageParts) : Type 0 where
   pub plant : List (List ℕ)
   pub spelt : SpellsPlant files name plant
-  pub image : IsSomeAnd (process_image plant) (λ image. Lists image listing)
+  pub is : process_image plant ≡ Some image
 
 -- the fault for an image file: it can't be read, memory was refused, it is no file, or its bytes are not the words of a device
 abbrev pub RefusesWords : Known → List ℕ → Fault → Type 0

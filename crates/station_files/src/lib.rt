@@ -1,5 +1,4 @@
-//! Reads the files of a line and of a script into values and writes them back, notes and prints faults, and does the subcommands that need no
-//! journal: `alias`, `show` and `layout`.
+//! Reads the files of a line and of a script into values and writes them back, notes and prints faults, and does the subcommand `alias`.
 #![tactic(auto)]
 
 mod alias;
@@ -18,24 +17,22 @@ mod same_files;
 mod saving;
 mod script;
 mod script_images;
-mod show;
 mod store;
 
 pub use alias::set_alias;
 pub use failures::Failures;
 pub use faults::{ExitStatus, Failure, Fault, Refused, worse};
 pub use image::read_image;
-pub use layout::{list_line, show_layout};
+pub use layout::image_of_line;
 pub use line::{load_line, load_slave, load_slaves};
 pub use location::{FileId, Location, name_beside};
 pub use notes::{Place, Wrong};
-pub use printing::{print_listing, write_whole};
+pub use printing::write_whole;
 pub use reading::{read_about, read_to_end};
 pub use reporting::report_fault;
 pub use same_files::{FileNames, keep_apart, keep_line_apart};
 pub use saving::{prepare_files, save_slaves, write_files};
 pub use script::load_script;
-pub use show::show_image;
 pub use store::{
     Entry, LockFault, MOST_OF_JOURNAL, MOST_OF_TEXT, Store, read_file, read_image_file,
 };

@@ -65,16 +65,14 @@ pub(crate) fn note_text<S: Store>(
 )
     ensures { S.files store.new ≡ S.files store.old }
 {
-    match trouble {
-        Some(
-            TextTrouble {
-                line: Some(line),
-                what,
-            },
-        ) => store.note(code, Place::Line(name, line), &what),
-        Some(TextTrouble { line: None, what }) => store.note(code, Place::File(name), &what),
-        None => {}
-    }
+    let Some(TextTrouble { line, what }) = trouble else {
+        return;
+    };
+    let place = match line {
+        Some(line) => Place::Line(name, line),
+        None => Place::File(name),
+    };
+    store.note(code, place, &what);
 }
 
 /// Notes why an image file of so many bytes is refused with this fault. `size` is what is wrong where that is its size.

@@ -4,25 +4,7 @@ ghost use Rattle.std.specs.Io.KnownBytes.{Appends};
 ghost use Rattle.station_files.specs.Faults.{IsOfStream};
 
 use crate::faults::Fault;
-use std::alloc::Global;
-use std::fmt::Display;
 use std::io::Write;
-
-/// Prints a listing and flushes the output.
-///
-/// # Errors
-///
-/// `Memory` before anything is printed; then `File` or `Memory`, as the output answers, with part of the listing printed.
-pub fn print_listing<L: Display, W: Write>(
-    alloc: Global,
-    listing: &L,
-    output: &mut W,
-) -> Result<(), Fault>
-    ensures failed { IfErr result IsOfStream }
-{
-    let text = format!(in alloc; "{listing}")?;
-    write_whole(text.as_bytes(), output)
-}
 
 /// Writes all of `bytes` and flushes the output.
 ///

@@ -1,6 +1,6 @@
 -- What was kept for a machine stays so as a station is opened or recovered.
 use Rattle.std.proofs.Common.{◌≡◌, Result, Ok, Err, sym, subst}
-use Rattle.std.specs.Prelude.{IfOk, IfErr, IsErrAnd, MatchResult}
+use Rattle.std.specs.Prelude.{IfOk, IfErr, MatchResult}
 use Rattle.site_core.specs.Line.{Line}
 use Rattle.site_core.specs.Passes.{LeavesOnly}
 use Rattle.site_core.specs.State.{Seen}
@@ -43,12 +43,10 @@ pub failure_goes : (line : Line) (before : Seen) (fault : OpenFault) (later : Li
     → GoesKept before now
 failure_goes line before fault later now fails keeps = record { goes_on = fails_on line before fault later now fails; keeps = keeps }
 
--- a failure is handed on
-pub failed_goes : (before : Seen) (result : Went) (e : SiteValue × OpenFault) → IsErrAnd result (λ back. back ≡ e) → GoesKept before e.0.seen → WentSo before result
-failed_goes before (Ok s) e gave goes = absurd gave
-failed_goes before (Err back) e gave goes = subst (λ (b : SiteValue × OpenFault). GoesKept before b.0.seen) (sym gave) goes
+-- the station was opened on a line that earlier calls had left
+pub goes_through : (before left : Seen) (result : Went) → GoesKept before left → WentSo left result → WentSo before result
+goes_through before left (Ok s) one two = goes_then before left s.seen one two
+goes_through before left (Err e) one two = goes_then before left e.0.seen one two
 
--- the station was opened behind a recovery
-pub goes_behind : (before : Seen) (r : Station) (left : Seen) (result : Went) → GoesKept before r.seen → left ≡ r.seen → WentSo left result → WentSo before result
-goes_behind before r left (Ok s) one same two = goes_then before r.seen s.seen one (subst (λ (x : Seen). GoesKept x s.seen) same two)
-goes_behind before r left (Err e) one same two = goes_then before r.seen e.0.seen one (subst (λ (x : Seen). GoesKept x e.0.seen) same two)
+pub left_goes : (before : Seen) (r : Station) (left : Seen) → left ≡ r.seen → GoesKept before r.seen → GoesKept before left
+left_goes before r left is goes = subst (GoesKept before) (sym is) goes

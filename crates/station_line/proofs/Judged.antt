@@ -1,6 +1,6 @@
 -- What was judged of a line's journal and of its files.
-use Rattle.std.proofs.Common.{◌≡◌, ℕ, Bool, List, [], ◌∷◌, ◌++◌, Option, Some, None, length, map, refl, sym, subst, inl, inr}
-use Rattle.std.specs.Prelude.{MatchOption, is_some, option_map}
+use Rattle.std.proofs.Common.{◌≡◌, ℕ, Bool, List, [], ◌∷◌, ◌++◌, Option, Some, None, length, map, false, sym, subst, inl, inr}
+use Rattle.std.specs.Prelude.{MatchOption}
 use Rattle.site_core.specs.State.{Seen}
 use Rattle.site_shadow.specs.Site.{SiteValue}
 use Rattle.jrn_format.specs.declared.fault.JournalFault.{JournalFault}
@@ -53,24 +53,19 @@ pub joined_refused : (leads : Leads) (captures has_capture : Bool) (count counte
 joined_refused leads captures has_capture count counted names all fault kept same listed refused =
     subst (λ n. RefusesNames leads captures n names fault) same (subst (λ l. RefusesNames leads captures counted l fault) listed (subst (λ b. RefusesNames leads b counted all fault) kept refused))
 
--- a name that is there is there as bytes
-pub some_mapped : {A B : Type 0} (f : A → B) (given : Option A) → is_some (option_map f given) ≡ is_some given
-some_mapped f (Some x) = refl
-some_mapped f None = refl
-
 -- the names that were listed are those of the line
-pub run_apart : (leads : Leads) (capture : Option (List ℕ)) (line : LineFile) (name script : List ℕ) (count : ℕ) (names : List (List ℕ)) → count ≡ length (written_of capture line) → names ≡ files_with capture line name
-    → AreApart leads count (names ++ script ∷ []) → IsRunApart leads capture line name script
-run_apart leads capture line name script count names counted listed apart =
-    let Q : ℕ → Type 0 = λ n. AreApart leads n (files_with capture line name ++ script ∷ []) in
+pub run_apart : (leads : Leads) (line : LineFile) (name script : List ℕ) (count : ℕ) (names : List (List ℕ)) → count ≡ length (written_of None line) → names ≡ files_with None line name
+    → AreApart leads count (names ++ script ∷ []) → IsRunApart leads line name script
+run_apart leads line name script count names counted listed apart =
+    let Q : ℕ → Type 0 = λ n. AreApart leads n (files_with None line name ++ script ∷ []) in
     let R : List (List ℕ) → Type 0 = λ l. AreApart leads count (l ++ script ∷ []) in
     subst Q counted (subst R listed apart)
 
-pub script_refused : (old new : Known) (leads : Leads) (capture : Option (List ℕ)) (line : LineFile) (name script : List ℕ) (site : SiteValue) (has_capture : Bool) (count : ℕ) (names : List (List ℕ)) (fault : Fault) → Loads old name line site → new ≡ old → has_capture ≡ is_some capture
-    → count ≡ length (written_of capture line) → names ≡ files_with capture line name → RefusesCommandFiles new leads has_capture count names script fault → RefusesRun old leads capture name script fault
-script_refused old new leads capture line name script site has_capture count names fault given same captures counted listed refused =
-    let P : Known → Type 0 = λ files. RefusesCommandFiles files leads (is_some capture) (length (written_of capture line)) (files_with capture line name) script fault in
-    let Q : ℕ → Type 0 = λ n. RefusesCommandFiles new leads (is_some capture) n (files_with capture line name) script fault in
-    let R : List (List ℕ) → Type 0 = λ l. RefusesCommandFiles new leads (is_some capture) count l script fault in
+pub script_refused : (old new : Known) (leads : Leads) (line : LineFile) (name script : List ℕ) (site : SiteValue) (has_capture : Bool) (count : ℕ) (names : List (List ℕ)) (fault : Fault) → Loads old name line site → new ≡ old → has_capture ≡ false
+    → count ≡ length (written_of None line) → names ≡ files_with None line name → RefusesCommandFiles new leads has_capture count names script fault → RefusesRun old leads name script fault
+script_refused old new leads line name script site has_capture count names fault given same captures counted listed refused =
+    let P : Known → Type 0 = λ files. RefusesCommandFiles files leads false (length (written_of None line)) (files_with None line name) script fault in
+    let Q : ℕ → Type 0 = λ n. RefusesCommandFiles new leads false n (files_with None line name) script fault in
+    let R : List (List ℕ) → Type 0 = λ l. RefusesCommandFiles new leads false count l script fault in
     let S : Bool → Type 0 = λ b. RefusesCommandFiles new leads b count names script fault in
     inr (inl (record { line = line; described = given.given.described; refused = subst P same (subst Q counted (subst R listed (subst S captures refused))) }))

@@ -1,6 +1,6 @@
 -- A line as it was read, and a station that was opened on it.
-use Rattle.std.proofs.Common.{◌≡◌, ℕ, Bool, true, false, List, [], length, sym, ◌∙◌, ap, subst}
-use Rattle.std.specs.Prelude.{IsTrue, string_bytes}
+use Rattle.std.proofs.Common.{◌≡◌, ℕ, Bool, true, false, List, [], length, Result, Ok, Err, sym, ◌∙◌, ap, subst}
+use Rattle.std.specs.Prelude.{IfOk, IsTrue, string_bytes}
 use Rattle.std.proofs.lemmas.List.{length-map}
 use Rattle.site_core.specs.Disk.{Disk, synced}
 use Rattle.site_shadow.specs.Unsynced.{of_bytes}
@@ -9,12 +9,13 @@ use Rattle.site_core.specs.State.{Seen}
 use Rattle.site_shadow.specs.Site.{SiteValue}
 use Rattle.book_model.specs.Book.{Book}
 use Rattle.station_alone.specs.Station.{Station}
-use Rattle.station_alone.specs.Recovery.{HasRecovered, BeginsRecovered}
+use Rattle.station_alone.specs.Opening.{BeginsSession, Opens}
+use Rattle.station_alone.specs.declared.fault.OpenFault.{OpenFault}
 use Rattle.station_text.specs.declared.line_file.LineFile.{LineFile}
 use Rattle.station_files.specs.Files.{Known, HasBytes}
 use Rattle.station_files.specs.LineFiles.{SpellsLine, SpellsSlaves}
 use Rattle.station_line.specs.Site.{IsSiteOf}
-use Rattle.station_line.specs.Opened.{is_old, IsFresh, IsOpened, Loads, StartsFrom}
+use Rattle.station_line.specs.Opened.{is_old, IsFresh, IsMigrated, IsOpened, Loads, StartsFrom}
 
 pub loads : (files first second : Known) (name : List ℕ) (line : LineFile) (plant : List (List ℕ)) (bytes : List ℕ) (site : SiteValue) → SpellsLine files name line → first ≡ files → SpellsSlaves first line plant → second ≡ first
     → HasBytes second (string_bytes line.journal) bytes → IsSiteOf plant bytes site → length plant ≡ length line.images.items → Loads files name line site
@@ -41,13 +42,18 @@ pub as-many : (old new : Line) (count : ℕ) → new ≡ old → length old.size
 as-many old new count same is = ap (λ (l : Line). length l.sizes) same ∙ is
 
 -- the station was opened after a recovery
-pub starts-behind : (was_old : Bool) (site : SiteValue) (its : Line) (left : Seen) (r s : Station) → was_old ≡ true → HasRecovered r → BeginsRecovered site.seen r → its ≡ r.line → left ≡ r.seen → IsOpened its left s → StartsFrom was_old site s
-starts-behind was_old site its left r s old is_recovered begins same is opens = subst (λ (b : Bool). StartsFrom b site s) (sym old) (record {
-  r = r;
-  recovered = is_recovered;
-  begins = begins;
-  opened = subst (λ (seen : Seen). IsOpened r.line seen s) is (subst (λ (l : Line). IsOpened l left s) same opens);
+pub starts-behind : (was_old : Bool) (site : SiteValue) (its : Line) (left : Seen) (s : Station) → was_old ≡ true → IsMigrated site.seen its left → IsOpened its left s → StartsFrom was_old site s
+starts-behind was_old site its left s old migrated opens = subst (λ (b : Bool). StartsFrom b site s) (sym old) (record {
+  r = migrated.r;
+  recovered = migrated.recovered;
+  begins = migrated.begins;
+  opened = subst (λ (seen : Seen). IsOpened migrated.r.line seen s) migrated.its_state (subst (λ (l : Line). IsOpened l left s) migrated.its_line opens);
 })
+
+pub starts-migrated : (was_old : Bool) (site left : SiteValue) (result : Result Station (SiteValue × OpenFault)) → was_old ≡ true → IsMigrated site.seen left.line left.seen
+    → IfOk result (λ s. Opens left.line left.seen s) → IfOk result (λ s. BeginsSession left.seen s) → IfOk result (λ s. StartsFrom was_old site s)
+starts-migrated was_old site left (Ok s) old migrated opens begins = starts-behind was_old site left.line left.seen s old migrated (record { opens = opens; begins = begins })
+starts-migrated was_old site left (Err e) old migrated opens begins = tt
 
 -- of which version the journal is
 pub old-by : (slaves : List (List ℕ)) (bytes : List ℕ) (site : SiteValue) (was_old : Bool) → IsSiteOf slaves bytes site → was_old ≡ is_old bytes → was_old ≡ is_old site.seen.state.disk.bytes

@@ -1,5 +1,5 @@
 -- What is judged of a line and a script before a file is opened for writing.
-use Rattle.std.specs.Prelude.{ℕ, List, [], ◌∷◌, ◌++◌, Option, length, MatchOption}
+use Rattle.std.specs.Prelude.{ℕ, List, [], ◌∷◌, ◌++◌, None, Option, length, MatchOption}
 use Rattle.site_shadow.specs.Site.{SiteValue}
 use Rattle.jrn_format.specs.declared.fault.JournalFault.{JournalFault}
 use Rattle.jrn_format.specs.declared.journal.Journal.{Journal}
@@ -18,8 +18,7 @@ abbrev pub IsJudged : SiteValue → Option JournalFault → Type 0
 IsJudged site refusal =
     MatchOption refusal (HasJournal site.line.sizes site.seen.state.disk.bytes) (IsFaultOf site.seen.state.disk.bytes site.line.sizes)
 
--- The capture, if there is one, the journal and the image files stand apart from each other, and from the line file and the script. An image that the
--- script names may be any file: it is read before one is written.
-abbrev pub IsRunApart : Leads → (capture : Option (List ℕ)) → LineFile → (line_file script : List ℕ) → Type 0
-IsRunApart leads capture line line_file script =
-    AreApart leads (length (written_of capture line)) (files_with capture line line_file ++ script ∷ [])
+-- The journal and the image files stand apart from each other, and from the line file and the script. An image that the script names may be any
+-- file: it is read before one is written.
+abbrev pub IsRunApart : Leads → LineFile → (line_file script : List ℕ) → Type 0
+IsRunApart leads line line_file script = AreApart leads (length (written_of None line)) (files_with None line line_file ++ script ∷ [])

@@ -46,6 +46,14 @@ pub record IsOpened (line : Line) (before : Seen) (s : Station) : Type 0 where
   pub opens : Opens line before s
   pub begins : BeginsSession before s
 
+-- A recovery from the first state has ended, and left this line in the second state.
+pub record IsMigrated (before : Seen) (line : Line) (left : Seen) : Type 0 where
+  pub r : Station
+  pub recovered : HasRecovered r
+  pub begins : BeginsRecovered before r
+  pub its_line : line ≡ r.line
+  pub its_state : left ≡ r.seen
+
 -- The station was opened on this site after a recovery.
 pub record IsOpenedRecovered (before : Seen) (s : Station) : Type 0 where
   pub r : Station

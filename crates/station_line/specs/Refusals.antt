@@ -1,5 +1,5 @@
 -- Why `run` and `recover` are refused before anything is written.
-use Rattle.std.specs.Prelude.{◌≡◌, ◌⊎◌, ℕ, ◌+◌, ◌^◌, Bool, List, [], ◌∷◌, ◌++◌, Option, length, map, is_some, string_bytes, ⊤}
+use Rattle.std.specs.Prelude.{◌≡◌, ◌⊎◌, ℕ, ◌+◌, ◌^◌, Bool, false, List, [], ◌∷◌, ◌++◌, None, length, map, string_bytes, ⊤}
 use Rattle.jrn_format.specs.declared.fault.JournalFault.{JournalFault}
 use Rattle.jrn_format.specs.Fault.{IsFaultOf}
 use Rattle.station_text.specs.declared.line_file.LineFile.{LineFile}
@@ -56,12 +56,12 @@ RefusesCommandFiles files leads has_capture count names script fault =
     RefusesScript files script fault ⊎ RefusesNames leads has_capture count (names ++ script ∷ []) fault
 
 -- The line file was read, and the script's files are refused with this fault.
-pub record RefusesScriptFiles (files : Known) (leads : Leads) (capture : Option (List ℕ)) (name script : List ℕ) (fault : Fault) : Type 0 where
+pub record RefusesScriptFiles (files : Known) (leads : Leads) (name script : List ℕ) (fault : Fault) : Type 0 where
   pub line : LineFile
   pub described : SpellsLine files name line
-  pub refused : RefusesCommandFiles files leads (is_some capture) (length (written_of capture line)) (files_with capture line name) script fault
+  pub refused : RefusesCommandFiles files leads false (length (written_of None line)) (files_with None line name) script fault
 
 -- the fault for which a run is refused: that of the line's files, of the script's, or of the journal's bytes
-abbrev pub RefusesRun : Known → Leads → (capture : Option (List ℕ)) → (name script : List ℕ) → Fault → Type 0
-RefusesRun files leads capture name script fault =
-    RefusesSession files leads name fault ⊎ RefusesScriptFiles files leads capture name script fault ⊎ RefusesJournal files name fault
+abbrev pub RefusesRun : Known → Leads → (name script : List ℕ) → Fault → Type 0
+RefusesRun files leads name script fault =
+    RefusesSession files leads name fault ⊎ RefusesScriptFiles files leads name script fault ⊎ RefusesJournal files name fault

@@ -27,4 +27,4 @@ pub use opening::open_files;
 pub use recovered::write_recovered;
 pub use session::{Session, is_old, load_session};
 pub use site::{save_parts, save_site, site_of};
-pub use starting::open_station;
+pub use starting::{migrated, open_station};

@@ -1,5 +1,5 @@
 //! What is read for a run: the line, and the commands of a script.
-ghost use Rattle.std.specs.Prelude.{◌≡◌, ◌∷◌, ◌++◌, [], option_map, IfErr, IfOk, OnOk};
+ghost use Rattle.std.specs.Prelude.{◌≡◌, ◌∷◌, ◌++◌, [], IfErr, IfOk, OnOk};
 ghost use Rattle.station_files.specs.ScriptFiles.{SpellsCommands};
 ghost use Rattle.station_files.specs.FileNames.{spelt};
 ghost use Rattle.station_files.specs.Locations.{AreApart};
@@ -23,7 +23,7 @@ pub struct Given<L> {
 }
 
 /// Reads the files in this order: line file, images of the slaves, journal, script, images that the script names. None of those that a run
-/// writes, its capture among them, may be another one of them, the line file or the script. Then the journal's content is judged.
+/// writes may be another one of them, the line file or the script. Then the journal's content is judged.
 ///
 /// # Errors
 ///
@@ -33,21 +33,19 @@ pub fn load<S: Store>(
     alloc: Global,
     name: &str,
     script: &str,
-    capture: Option<&str>,
     store: &mut S,
 ) -> Result<Given<S::Lock>, Fault>
     ensures loaded { IfOk result (λ given. Loads (S.files store.old) name.now given.session.line given.session.site) }
     ensures old { IfOk result (λ given. given.session.is_old ≡ is_old given.session.site.seen.state.disk.bytes) }
     ensures journal { IfOk result (λ given. HasJournal given.session.site.line.sizes given.session.site.seen.state.disk.bytes) }
     ensures spelt { IfOk result (λ given. SpellsCommands (S.files store.old) script.now given.commands.items) }
-    ensures apart { IfOk result (λ given. IsRunApart S.leads (option_map (λ given. given.now) capture.entry) given.session.line
-        name.now script.now) }
-    ensures refused { IfErr result (RefusesRun (S.files store.old) S.leads (option_map (λ given. given.now) capture.entry) name.now script.now) }
+    ensures apart { IfOk result (λ given. IsRunApart S.leads given.session.line name.now script.now) }
+    ensures refused { IfErr result (RefusesRun (S.files store.old) S.leads name.now script.now) }
     ensures same { S.files store.new ≡ S.files store.old }
 {
     let session = load_session(alloc, name, store)?;
     let refusal = session.refusal;
-    let Ok(files) = FileNames::of_line(alloc, &session.line, name, capture) else {
+    let Ok(files) = FileNames::of_line(alloc, &session.line, name, None) else {
         drop(session);
         return Err(Fault::Memory);
     };

@@ -1,3 +1,2 @@
 pub mod ImageItems
 pub mod ImageListing
-pub mod LayoutListing

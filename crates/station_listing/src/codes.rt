@@ -1,11 +1,11 @@
 //! The codes of faults and refusals, as one table: the number, the name and the explanation of each.
 ghost use Rattle.std.specs.Prelude.{Contains};
 
-use crate::explanations;
+use crate::{explanations, wire_explanations};
 use std::fmt;
 
-/// The code of a fault or a refusal. It is printed as its number and its name; its entry says what it means.
-#[derive(Clone, Copy)]
+/// The code of a fault or a refusal; from 100 on, of a fault of a wire. It is printed as its number and its name; its entry says what it means.
+#[derive(Clone, Copy, PartialEq, Eq)]
 pub enum Code {
     OddLength = 1,
     BadSize = 2,
@@ -51,6 +51,21 @@ pub enum Code {
     SameFile = 96,
     NotAFile = 97,
     TooLong = 98,
+    Silent = 100,
+    NoSlaves = 101,
+    TooManySlaves = 102,
+    UnknownSize = 103,
+    OtherCount = 104,
+    Differs = 105,
+    WordFailed = 106,
+    /// Reserved: no fault has this number.
+    Unconfirmed = 107,
+    NotForWire = 108,
+    SmallerChip = 109,
+    Running = 110,
+    Held = 111,
+    OtherSize = 112,
+    StationAddress = 113,
 }
 
 /// The entry of a code in the table.
@@ -63,7 +78,7 @@ pub struct CodeEntry {
 }
 
 /// All codes, in the order of their numbers.
-pub const CODES: [Code; 44] = [
+pub const CODES: [Code; 58] = [
     Code::OddLength,
     Code::BadSize,
     Code::RunsOut,
@@ -108,6 +123,20 @@ pub const CODES: [Code; 44] = [
     Code::SameFile,
     Code::NotAFile,
     Code::TooLong,
+    Code::Silent,
+    Code::NoSlaves,
+    Code::TooManySlaves,
+    Code::UnknownSize,
+    Code::OtherCount,
+    Code::Differs,
+    Code::WordFailed,
+    Code::Unconfirmed,
+    Code::NotForWire,
+    Code::SmallerChip,
+    Code::Running,
+    Code::Held,
+    Code::OtherSize,
+    Code::StationAddress,
 ];
 
 /// Law: each code stands in the table `CODES`.
@@ -177,6 +206,27 @@ impl Code {
             Code::SameFile => &explanations::SAME_FILE,
             Code::NotAFile => &explanations::NOT_A_FILE,
             Code::TooLong => &explanations::TOO_LONG,
+            _ => self.entry_of_wire(),
+        }
+    }
+
+    /// The entry of a code of a wire.
+    fn entry_of_wire(self) -> &'static CodeEntry {
+        match self {
+            Code::Silent => &wire_explanations::SILENT,
+            Code::NoSlaves => &wire_explanations::NO_SLAVES,
+            Code::TooManySlaves => &wire_explanations::TOO_MANY_SLAVES,
+            Code::UnknownSize => &wire_explanations::UNKNOWN_SIZE,
+            Code::OtherCount => &wire_explanations::OTHER_COUNT,
+            Code::Differs => &wire_explanations::DIFFERS,
+            Code::WordFailed => &wire_explanations::WORD_FAILED,
+            Code::Unconfirmed => &wire_explanations::UNCONFIRMED,
+            Code::NotForWire => &wire_explanations::NOT_FOR_WIRE,
+            Code::SmallerChip => &wire_explanations::SMALLER_CHIP,
+            Code::Running => &wire_explanations::RUNNING,
+            Code::Held => &wire_explanations::HELD,
+            Code::OtherSize => &wire_explanations::OTHER_SIZE,
+            _ => &wire_explanations::STATION_ADDRESS,
         }
     }
 }

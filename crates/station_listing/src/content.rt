@@ -1,10 +1,9 @@
 //! Counts the items in the content of a category, by the type of the category.
 ghost use Rattle.std.specs.Prelude.{◌≡◌, ◌↔◌, IfOk, IsTrue};
-ghost use Rattle.station_listing.specs.ImageListing.{IsPdoType, SaysContent};
+ghost use Rattle.station_listing.specs.ImageListing.{SaysContent};
 
-use sii_cats::{CatFault, fmmus, pdos, strings, syncms};
+use crate::items::{Items, read_items};
 use std::alloc::{AllocError, Global};
-use std::fmt;
 
 /// The content of a category, as the number of items that it has.
 #[derive(Clone, Copy)]
@@ -31,34 +30,15 @@ pub enum Content {
 pub fn read_content(alloc: Global, kind: u16, words: &[u16]) -> Result<Content, AllocError>
     ensures { IfOk result (SaysContent kind words.now) }
 {
-    match kind {
-        10 => count_strings(alloc, words),
-        40 => Ok(Content::Units(fmmus(alloc, words)?.len())),
-        41 => Ok(Content::Managers(syncms(alloc, words)?.len())),
-        50 | 51 => count_pdos(alloc, kind, words),
-        _ => Ok(Content::Opaque),
-    }
-}
-
-fn count_strings(alloc: Global, words: &[u16]) -> Result<Content, AllocError>
-    ensures { IfOk result (SaysContent 10 words.now) }
-{
-    match strings(alloc, words) {
-        Ok(found) => Ok(Content::Strings(found.len())),
-        Err(CatFault::Memory) => Err(AllocError),
-        Err(_) => Ok(Content::Malformed),
-    }
-}
-
-fn count_pdos(alloc: Global, kind: u16, words: &[u16]) -> Result<Content, AllocError>
-    requires { IsPdoType kind }
-    ensures { IfOk result (SaysContent kind words.now) }
-{
-    match pdos(alloc, kind, words) {
-        Ok(found) => Ok(Content::Pdos(found.len())),
-        Err(CatFault::Memory) => Err(AllocError),
-        Err(_) => Ok(Content::Malformed),
-    }
+    let content = match read_items(alloc, kind, words)? {
+        Items::Strings(strings) => Content::Strings(strings.len()),
+        Items::Units(units) => Content::Units(units.len()),
+        Items::Managers(managers) => Content::Managers(managers.len()),
+        Items::Pdos(pdos) => Content::Pdos(pdos.len()),
+        Items::Words if matches!(kind, 10 | 50 | 51) => Content::Malformed,
+        Items::General(_) | Items::Words => Content::Opaque,
+    };
+    Ok(content)
 }
 
 impl Content {
@@ -67,19 +47,5 @@ impl Content {
         ensures { IsTrue result ↔ (self ≡ Content.Malformed) }
     {
         matches!(self, Content::Malformed)
-    }
-}
-
-impl fmt::Display for Content {
-    fn fmt<W: fmt::Write>(&self, f: &mut fmt::Formatter<W>) -> fmt::Result {
-        let (name, count) = match *self {
-            Content::Strings(count) => ("strings", count),
-            Content::Units(count) => ("units", count),
-            Content::Managers(count) => ("managers", count),
-            Content::Pdos(count) => ("pdos", count),
-            Content::Malformed => return f.write_str(" bad"),
-            Content::Opaque => return Ok(()),
-        };
-        write!(f, " {name} {count}")
     }
 }

@@ -8,7 +8,6 @@ use crate::content::{Content, read_content};
 use sii_cats::{Category, ChainFault, chain};
 use sii_words::{Identity, ImageFile};
 use std::alloc::{AllocError, Global};
-use std::fmt;
 
 /// The listing of an EEPROM image.
 #[derive(Drop)]
@@ -145,55 +144,5 @@ impl ListedChain {
                 .all(|category| !category.content.is_malformed()),
             ListedChain::RunsOut { .. } => false,
         }
-    }
-}
-
-impl fmt::Display for Listing {
-    fn fmt<W: fmt::Write>(&self, f: &mut fmt::Formatter<W>) -> fmt::Result {
-        let Identity {
-            vendor,
-            product,
-            revision,
-            serial,
-        } = self.identity;
-        let (count, alias, check) = (self.count, self.alias, self.check);
-        write!(f, "words {count}\nalias {alias}\ncheck {check}\n")?;
-        writeln!(
-            f,
-            "vendor 0x{vendor:08x} product 0x{product:08x} revision 0x{revision:08x} serial 0x{serial:08x}"
-        )?;
-        self.chain.fmt(f)
-    }
-}
-
-impl fmt::Display for CheckByte {
-    fn fmt<W: fmt::Write>(&self, f: &mut fmt::Formatter<W>) -> fmt::Result {
-        match *self {
-            CheckByte::Right => f.write_str("ok"),
-            CheckByte::Wrong { found, expected } => {
-                write!(f, "bad 0x{found:02x} expected 0x{expected:02x}")
-            }
-        }
-    }
-}
-
-impl fmt::Display for ListedChain {
-    fn fmt<W: fmt::Write>(&self, f: &mut fmt::Formatter<W>) -> fmt::Result {
-        match self {
-            ListedChain::Whole(categories) => {
-                for category in categories {
-                    writeln!(f, "{category}")?;
-                }
-                f.write_str("end\n")
-            }
-            ListedChain::RunsOut { at } => writeln!(f, "runs out at {at}"),
-        }
-    }
-}
-
-impl fmt::Display for ListedCategory {
-    fn fmt<W: fmt::Write>(&self, f: &mut fmt::Formatter<W>) -> fmt::Result {
-        let (kind, count, content) = (self.kind, self.count, self.content);
-        write!(f, "category {kind} words {count}{content}")
     }
 }

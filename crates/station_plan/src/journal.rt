@@ -10,12 +10,11 @@ use crate::journal_rows::put_journal;
 use jrn_format::{JournalFault, scan};
 use line_changes::{ChangedWord, changed_words, put_changes};
 use sii_words::Plant;
-use site_journal::ReadFault;
 use site_mem::{FaultPlan, Pattern};
 use site_shadow::ShadowSite;
-use station_alone::{OpenFault, Recovered, recover};
+use station_alone::{Recovered, recover};
 use station_files::{Fault, Store};
-use station_line::{Session, load_session, of_open};
+use station_line::{Session, load_session, of_journal, of_open};
 use station_rows::{Form, Rows, named, said};
 use std::alloc::{AllocError, Global};
 use std::io::Write;
@@ -51,11 +50,9 @@ pub fn show_journal<S: Store, W: Write>(
     match load_session(alloc, name, store) {
         Ok(session) => {
             let Session {
-                line: _,
                 site,
-                is_old: _,
-                refusal: _,
                 lock: _lock,
+                ..
             } = session;
             list_site(alloc, site, form, output)
         }
@@ -75,8 +72,7 @@ fn list_site<W: Write>(
     ensures { OnOk result (ListsSite site) }
 {
     if let Some(fault) = print_journal(alloc, &site, form, output)? {
-        drop(site);
-        return Err(fault_of(fault));
+        return Err(of_journal(fault));
     }
     let restored = restore(alloc, site)?;
     print_restored(alloc, &restored, form, output)
@@ -94,23 +90,10 @@ fn print_journal<W: Write>(
     let parts = site.snapshot(alloc, Pattern::Old)?;
     let file = parts.disk.unwrap();
     let mut rows = Rows::new(alloc, form);
-    let fault = match scan(alloc, &file, &parts.sizes) {
-        Ok(journal) => {
-            put_journal(&mut rows, &file, Some(&journal))?;
-            None
-        }
-        Err(fault) => {
-            put_journal(&mut rows, &file, None)?;
-            Some(fault)
-        }
-    };
+    let scanned = scan(alloc, &file, &parts.sizes);
+    put_journal(&mut rows, &file, scanned.as_ref().ok())?;
     rows.write(output)?;
-    Ok(fault)
-}
-
-/// The program's fault for a journal that is refused.
-fn fault_of(fault: JournalFault) -> Fault {
-    of_open(OpenFault::Journal(ReadFault::Journal(fault)))
+    Ok(scanned.err())
 }
 
 /// Recovers the line in memory, and compares the words of its slaves.
@@ -156,16 +139,12 @@ fn print_restored<W: Write>(
     form: Form,
     output: &mut W,
 ) -> Result<(), Fault> {
-    let Recovered {
-        batches,
-        commands,
-        words,
-    } = restored.recovered;
+    let recovered = restored.recovered;
     let row = [
         said("", "recovery"),
-        named("batches", batches),
-        named("commands", commands),
-        named("words", words),
+        named("batches", recovered.batches),
+        named("commands", recovered.commands),
+        named("words", recovered.words),
     ];
     let mut rows = Rows::new(alloc, form);
     rows.put("recovery", &row)?;

@@ -83,17 +83,11 @@ fn batch_bytes(form: Form, batch: &Batch) -> usize {
         Form::Two | Form::Moving => 8,
     };
     for entry in batch.entries.as_slice() {
-        bytes = bytes.saturating_add(entry_bytes(entry));
-    }
-    bytes
-}
-
-/// The length of a command in its batch, in bytes.
-fn entry_bytes(entry: &Entry) -> usize {
-    let mut bytes = 10usize;
-    for run in entry.runs.as_slice() {
-        let words = run.words.as_slice().len();
-        bytes = bytes.saturating_add(words.saturating_mul(2).saturating_add(6));
+        bytes = bytes.saturating_add(10);
+        for run in entry.runs.as_slice() {
+            let words = run.words.as_slice().len();
+            bytes = bytes.saturating_add(words.saturating_mul(2).saturating_add(6));
+        }
     }
     bytes
 }

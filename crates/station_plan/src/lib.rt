@@ -10,5 +10,4 @@ mod plan_rows;
 mod tally;
 
 pub use journal::show_journal;
-pub use plan::{Planned, plan_line, plan_script};
-pub use tally::Tally;
+pub use plan::{plan_line, plan_script};

@@ -9,7 +9,6 @@ ghost use Rattle.station_plan.specs.Plan.{IsComparison, IsPlanOf, IsServedStatio
 use crate::contents::contents_of;
 use crate::plan_rows::{AnswerRows, put_plan};
 use crate::tally::Tally;
-use book_core::Core;
 use line_changes::{ChangedWord, Resize, changed_words, resizes};
 use sii_edit::Command;
 use sii_words::Plant;
@@ -20,7 +19,7 @@ use station_alone::Alone;
 use station_files::{ExitStatus, Fault, Store};
 use station_line::{Answers, Given, Session, load, of_open, open_station, serve_commands};
 use station_rows::{Form, Rows};
-use std::alloc::{AllocError, Global};
+use std::alloc::Global;
 use std::io::Write;
 
 /// What a run would do to a line.
@@ -58,7 +57,7 @@ pub fn plan_script<S: Store, W: Write>(
     ensures plans { IfOk result (PlansFiles (S.files store.old) name.now script.now) }
     ensures same { S.files store.new ≡ S.files store.old }
 {
-    match load(alloc, name, script, None, store) {
+    match load(alloc, name, script, store) {
         Ok(given) => {
             let Given { session, commands } = given;
             let Session {
@@ -98,21 +97,16 @@ pub fn plan_line<W: Write>(
     let mut rows = Rows::new(alloc, form);
     let mut answers = AnswerRows { rows: &mut rows };
     match plan_site(alloc, site, was_old, commands, &mut answers, &mut status) {
-        Ok(planned) => match print_plan(rows, &planned, output) {
-            Ok(()) => Ok(status),
-            Err(fault) => Err(fault),
-        },
+        Ok(planned) => {
+            put_plan(&mut rows, &planned)?;
+            rows.write(output)?;
+            Ok(status)
+        }
         Err(fault) => {
             let _ = rows.write(output);
             Err(fault)
         }
     }
-}
-
-/// Prints the rows of the answers, and a plan behind them.
-fn print_plan<W: Write>(mut rows: Rows, planned: &Planned, output: &mut W) -> Result<(), Fault> {
-    put_plan(&mut rows, planned)?;
-    rows.write(output)
 }
 
 /// Opens the station on the line in memory, serves the commands on one thread, and compares the words before and after. Tells the
@@ -136,7 +130,7 @@ fn plan_site<A: Answers>(
 {
     let before = contents_of(alloc, &site)?;
     let site = site.with_device(Tally::new());
-    match open_station(alloc, site, was_old, None) {
+    match open_station(alloc, site, was_old) {
         Ok(alone) => serve_plan(alloc, before, alone, commands, answers, status),
         Err((left, fault)) => {
             drop(left);
@@ -206,19 +200,8 @@ fn serve_resizes<S: Site, A: Answers>(
 {
     let base = alone.core().contents().try_copy();
     serve_commands(alone, slaves, commands, answers, status)?;
-    let resizes = resizes_since(alloc, base, alone.core())?;
+    let resizes = resizes(alloc, &base?, alone.core().accepted())?;
     Ok(resizes)
-}
-
-/// Where one of the commands that the book has accepted makes word 0x3E say another size than the slave has. `base` is the contents before
-/// them.
-fn resizes_since(
-    alloc: Global,
-    base: Result<Plant, AllocError>,
-    core: &Core,
-) -> Result<Vec<Resize>, AllocError> {
-    let base = base?;
-    resizes(alloc, &base, core.accepted())
 }
 
 /// Compares the words that the slaves of this site hold with `before`.

@@ -15,8 +15,6 @@ use std::alloc::{AllocError, Global};
 pub struct ItemListing {
     /// The word of the header at which the chain of categories is cut off; `None` where it can be read.
     pub runs_out: Option<usize>,
-    /// The strings that items refer to: those of the first category STRINGS, where it can be read.
-    strings: Vec<Vec<u8>>,
     /// The categories, in order; none where the chain is cut off.
     pub categories: Vec<CategoryItems>,
 }
@@ -50,7 +48,7 @@ pub struct Line<'a> {
 struct Lines<'a> {
     alloc: Global,
     kind: u16,
-    strings: &'a [Vec<u8>],
+    strings: Option<&'a [Vec<u8>]>,
     lines: Vec<Line<'a>>,
 }
 
@@ -64,7 +62,6 @@ pub fn list_items(alloc: Global, image: &ImageFile) -> Result<ItemListing, Alloc
         Ok(categories) => list_all(alloc, image.as_slice(), &categories),
         Err(ChainFault::RunsOut { at }) => Ok(ItemListing {
             runs_out: Some(at),
-            strings: Vec::new(alloc),
             categories: Vec::new(alloc),
         }),
         Err(ChainFault::Memory) => Err(AllocError),
@@ -78,45 +75,14 @@ fn list_all(
 ) -> Result<ItemListing, AllocError>
     requires { ArePlaced words.now categories.now }
 {
-    let strings = first_strings(alloc, words, categories)?;
     let mut listed = Vec::new(alloc);
     for category in categories {
         listed.push(list_category(alloc, words, *category)?)?;
     }
     Ok(ItemListing {
         runs_out: None,
-        strings,
         categories: listed,
     })
-}
-
-/// The strings of the first category STRINGS, where it can be read; else none.
-fn first_strings(
-    alloc: Global,
-    words: &[u16],
-    categories: &[Category],
-) -> Result<Vec<Vec<u8>>, AllocError>
-    requires { ArePlaced words.now categories.now }
-{
-    for category in categories {
-        if category.kind == kind::STRINGS {
-            return read_strings(alloc, words, *category);
-        }
-    }
-    Ok(Vec::new(alloc))
-}
-
-fn read_strings(
-    alloc: Global,
-    words: &[u16],
-    category: Category,
-) -> Result<Vec<Vec<u8>>, AllocError>
-    requires { end_of category ≤ length words.now }
-{
-    match read_items(alloc, category.kind, category.content(words))? {
-        Items::Strings(strings) => Ok(strings),
-        _ => Ok(Vec::new(alloc)),
-    }
 }
 
 fn list_category(
@@ -132,6 +98,21 @@ fn list_category(
         words: content.to_vec(alloc)?,
         items: read_items(alloc, category.kind, content)?,
     })
+}
+
+impl ItemListing {
+    /// The strings that items refer to: those of the first category STRINGS, where it can be read.
+    fn strings(&self) -> Option<&[Vec<u8>]> {
+        for category in &self.categories {
+            if category.kind == kind::STRINGS {
+                return match &category.items {
+                    Items::Strings(strings) => Some(strings.as_slice()),
+                    _ => None,
+                };
+            }
+        }
+        None
+    }
 }
 
 /// Puts a row for each item of an image.
@@ -161,7 +142,7 @@ pub fn lines_of<'a>(
     let mut lines = Lines {
         alloc,
         kind: category.kind,
-        strings: &listing.strings,
+        strings: listing.strings(),
         lines: Vec::new(alloc),
     };
     match &category.items {
@@ -200,16 +181,15 @@ impl<'a> Lines<'a> {
         Ok(())
     }
 
+    /// The string of this number, from 1, if there is one.
+    fn string(&self, number: u8) -> Option<&'a [u8]> {
+        let place = usize::from(number).checked_sub(1)?;
+        Some(self.strings?.get(place)?.as_slice())
+    }
+
     /// A reference to the string of this number.
     fn name(&self, number: u8) -> Value<'a> {
-        let found = match usize::from(number).checked_sub(1) {
-            Some(place) => self.strings.get(place),
-            None => None,
-        };
-        match found {
-            Some(string) => Value::Name(number, Some(string)),
-            None => Value::Name(number, None),
-        }
+        Value::Name(number, self.string(number))
     }
 
     fn push_strings(&mut self, strings: &'a [Vec<u8>]) -> Result<(), AllocError> {

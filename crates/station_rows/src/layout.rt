@@ -1,12 +1,12 @@
 //! The subcommand `layout`: the process image of a line, as rows.
 ghost use Rattle.std.specs.Prelude.{◌≡◌, IfErr, OnOk};
 ghost use Rattle.station_files.specs.LineFiles.{ListsFiles, RefusesLayout};
-ghost use Rattle.station_listing.specs.declared.layout_listing.LayoutListing.{LayoutListing};
+ghost use Rattle.sii_image.specs.ProcessImage.{ProcessImageParts};
 
 use crate::cell::{bare, data, named};
 use crate::rows::{Form, Rows};
-use station_files::{Fault, Store, list_line};
-use station_listing::{Direction, LayoutListing};
+use sii_image::ProcessImage;
+use station_files::{Fault, Store, image_of_line};
 use std::alloc::{AllocError, Global};
 use std::io::Write;
 
@@ -15,7 +15,7 @@ use std::io::Write;
 ///
 /// # Errors
 ///
-/// As for `list_line`; then `Memory`, with nothing printed; then `File` or `Memory`, as the output answers.
+/// As for `image_of_line`; then `Memory`, with nothing printed; then `File` or `Memory`, as the output answers.
 pub fn show_layout<S: Store, W: Write>(
     alloc: Global,
     line: &str,
@@ -23,34 +23,31 @@ pub fn show_layout<S: Store, W: Write>(
     store: &mut S,
     output: &mut W,
 ) -> Result<(), Fault>
-    ensures listed { OnOk result ((listing : LayoutListing) × ListsFiles (S.files store.old) line.now listing) }
+    ensures listed { OnOk result ((image : ProcessImageParts) × ListsFiles (S.files store.old) line.now image) }
     ensures refused { IfErr result (RefusesLayout (S.files store.old) line.now) }
     ensures same { S.files store.new ≡ S.files store.old }
 {
-    let listing = list_line(alloc, line, store)?;
+    let image = image_of_line(alloc, line, store)?;
     let mut rows = Rows::new(alloc, form);
-    put_layout(&mut rows, None, &listing)?;
+    put_layout(&mut rows, None, &image)?;
     rows.write(output)?;
     Ok(())
 }
 
-/// Puts a row for each segment of a process image, and one for its sizes. `image` says which process image it is, where there are two.
+/// Puts a row for each segment of a process image, and one for its sizes. `name` says which process image it is, where there are two.
 ///
 /// # Errors
 ///
 /// Memory was refused.
 pub fn put_layout(
     rows: &mut Rows,
-    image: Option<&str>,
-    listing: &LayoutListing,
+    name: Option<&str>,
+    image: &ProcessImage,
 ) -> Result<(), AllocError> {
-    for segment in &listing.segments {
-        let direction = match segment.direction {
-            Direction::Out => "out",
-            Direction::In => "in",
-        };
+    for segment in image.segments() {
+        let direction = if segment.output { "out" } else { "in" };
         let row = [
-            data("image", image),
+            data("image", name),
             named("slave", segment.slave),
             named("sm", segment.manager),
             bare("direction", direction),
@@ -61,10 +58,10 @@ pub fn put_layout(
         rows.put("segment", &row)?;
     }
     let row = [
-        data("image", image),
-        named("outputs", listing.outputs),
-        named("inputs", listing.inputs),
-        named("counter", listing.counter),
+        data("image", name),
+        named("outputs", image.outputs()),
+        named("inputs", image.inputs()),
+        named("counter", image.expected_counter()),
     ];
     rows.put("sizes", &row)
 }

@@ -2,7 +2,7 @@
 ghost use Rattle.std.specs.Prelude.{◌≡◌, ◌↔◌, IfOk, IfErr, IfSome, IsSome, IsTrue, option_map};
 ghost use Rattle.station_files.specs.Faults.{IsOfStream};
 ghost use Rattle.station_files.specs.ImageText.{RefusesInput, text_of};
-ghost use Rattle.station_files.specs.Show.{IsStatusOf, ShowsImage, ShowsStatus};
+ghost use Rattle.station_rows.specs.Show.{IsStatusOf, ShowsImage, ShowsStatus};
 
 use crate::image::put_image;
 use crate::items::{ItemListing, list_items, put_items};
@@ -42,7 +42,8 @@ pub fn show_image<R: Read, S: Store, W: Write>(
 ) -> Result<ExitStatus, Fault>
     ensures status { IfOk result (ShowsStatus shown.entry.hex
         (text_of (option_map (λ name. name.now) shown.entry.file) (R.remaining input.old) (S.files store.old))) }
-    ensures refused { IfErr result (λ fault. IfSome (text_of (option_map (λ name. name.now) shown.entry.file) (R.remaining input.old) (S.files store.old))
+    ensures refused { IfErr result (λ fault. IfSome
+        (text_of (option_map (λ name. name.now) shown.entry.file) (R.remaining input.old) (S.files store.old))
         (λ text. RefusesInput shown.entry.hex text fault)) }
     ensures same { S.files store.new ≡ S.files store.old }
 {

@@ -6,7 +6,7 @@ use std::alloc::{AllocError, Global};
 use std::fmt;
 
 /// The value of a cell.
-#[derive(Clone, Copy)]
+#[derive(Clone, Copy, PartialEq)]
 pub enum Value<'a> {
     /// None: the cell isn't there.
     Absent,
@@ -142,7 +142,10 @@ impl fmt::Display for Value<'_> {
             Value::Long(number) => write!(f, "0x{number:08x}"),
             Value::Text(text) => f.write_str(text),
             Value::Words(words) => print_words(f, words),
-            Value::Check(check) => check.fmt(f),
+            Value::Check(CheckByte::Right) => f.write_str("ok"),
+            Value::Check(CheckByte::Wrong { found, expected }) => {
+                write!(f, "bad 0x{found:02x} expected 0x{expected:02x}")
+            }
             Value::Kind {
                 word: Some(word),
                 ..

@@ -1,6 +1,6 @@
 //! Arguments that several subcommands have.
 
-use command_line::{Argument, Given, Kind};
+use command_line::{Argument, Given, INPUT, Kind};
 use station_rows::Form;
 
 /// The help text on line files.
@@ -77,6 +77,14 @@ pub(crate) fn form_of(given: &Given<'_>) -> Form {
         Form::Json
     } else {
         Form::Text
+    }
+}
+
+/// The name of the script; `INPUT` where it is to come from standard input (`-`).
+pub(crate) fn script_of<'a>(given: &Given<'a>) -> &'a str {
+    match given.script() {
+        "-" => INPUT,
+        name => name,
     }
 }
 

@@ -1,30 +1,10 @@
 //! The subcommands that read EEPROM images: `show`, `alias` and `diff`.
 
 use crate::arguments::{JSON, form_of};
+use crate::request::Task;
 use command_line::{Argument, Given, Kind, Subcommand, is_digits};
-use line_changes::{Compared, diff_images};
-use station_files::{ExitStatus, Failure, Store, set_alias};
-use station_rows::{Shown, show_image};
-use std::alloc::Global;
-use std::io::{Read, Write};
-
-/// What a subcommand that reads EEPROM images is asked for.
-#[derive(Clone, Copy)]
-pub enum ImageTask<'a> {
-    /// Sets the configured station alias of an image.
-    Alias {
-        /// The new alias.
-        value: u16,
-        /// Whether input and output are hexadecimal text.
-        hex: bool,
-        /// The name of the image's file; `None` for standard input.
-        file: Option<&'a str>,
-    },
-    /// Prints the listing of an image.
-    Show(Shown<'a>),
-    /// Prints what two images differ in.
-    Diff(Compared<'a>),
-}
+use line_changes::Compared;
+use station_rows::Shown;
 
 /// The help text on what `show` prints, and on its exit status.
 const SHOW_ANSWERS: &str = "Answers:
@@ -140,8 +120,8 @@ const SECOND: Argument = Argument {
 const SHOW: Subcommand = Subcommand {
     name: "show",
     about: "Prints what an EEPROM image says",
-    long_about: "Reads the image of a slave's EEPROM from FILE, or from standard input, and prints its alias, whether its check byte is right, its \
-        identity and its categories. An image has 64 to 4096 words, low byte first.",
+    long_about: "Reads the image of a slave's EEPROM from FILE, or from standard input, and prints its alias, whether its check byte is right, \
+        its identity and its categories. An image has 64 to 4096 words, low byte first.",
     after_help: "Example:\n  sii_station show slave.bin\n  sii_station show < slave.bin",
     after_long_help: SHOW_ANSWERS,
     arguments: &[FILE, ALL, JSON, HEX],
@@ -155,8 +135,8 @@ pub(crate) fn show_row() -> Subcommand {
 const ALIAS: Subcommand = Subcommand {
     name: "alias",
     about: "Sets the configured station alias of an EEPROM image, and the check byte that goes with it",
-    long_about: "Reads the image of a slave's EEPROM from FILE, or from standard input, sets the configured station alias and the check byte that \
-        goes with it, and writes the image to standard output. FILE stays as it is. An image has 64 to 4096 words, low byte first.",
+    long_about: "Reads the image of a slave's EEPROM from FILE, or from standard input, sets the configured station alias and the check byte \
+        that goes with it, and writes the image to standard output. FILE stays as it is. An image has 64 to 4096 words, low byte first.",
     after_help: "Example:\n  sii_station alias 1001 slave.bin > renamed.bin\n  sii_station alias 1001 < slave.bin > renamed.bin",
     after_long_help: "",
     arguments: &[VALUE, FILE, HEX_BOTH_WAYS],
@@ -170,8 +150,8 @@ pub(crate) fn alias_row() -> Subcommand {
 const DIFF: Subcommand = Subcommand {
     name: "diff",
     about: "Prints what two EEPROM images differ in",
-    long_about: "Reads two images of slaves' EEPROMs and prints what they differ in, a line for each: their lengths, alias, check byte, identity, \
-        what their categories say, and the words. One of the two may be standard input. An image has 64 to 4096 words, low byte first.",
+    long_about: "Reads two images of slaves' EEPROMs and prints what they differ in, a line for each: their lengths, alias, check byte, \
+        identity, what their categories say, and the words. One of the two may be standard input. An image has 64 to 4096 words, low byte first.",
     after_help: "Example:\n  sii_station diff drive.bin backup/drive.bin",
     after_long_help: DIFF_ANSWERS,
     arguments: &[FIRST, SECOND, JSON, HEX],
@@ -182,8 +162,8 @@ pub(crate) fn diff_row() -> Subcommand {
 }
 
 /// The task of `show`.
-pub(crate) fn show_task<'a>(given: &Given<'a>) -> ImageTask<'a> {
-    ImageTask::Show(Shown {
+pub(crate) fn show_task<'a>(given: &Given<'a>) -> Task<'a> {
+    Task::Show(Shown {
         hex: given.has("hex"),
         all: given.has("all"),
         form: form_of(given),
@@ -192,10 +172,10 @@ pub(crate) fn show_task<'a>(given: &Given<'a>) -> ImageTask<'a> {
 }
 
 /// The task of `alias`. The value may have digits only.
-pub(crate) fn alias_task<'a>(given: &Given<'a>) -> Result<ImageTask<'a>, &'static str> {
+pub(crate) fn alias_task<'a>(given: &Given<'a>) -> Result<Task<'a>, &'static str> {
     let text = given.word("VALUE");
     match text.parse::<u16>() {
-        Ok(value) if is_digits(text) => Ok(ImageTask::Alias {
+        Ok(value) if is_digits(text) => Ok(Task::Alias {
             value,
             hex: given.has("hex"),
             file: file_of(given, "FILE"),
@@ -205,13 +185,13 @@ pub(crate) fn alias_task<'a>(given: &Given<'a>) -> Result<ImageTask<'a>, &'stati
 }
 
 /// The task of `diff`. Only one of the images can be read from standard input.
-pub(crate) fn diff_task<'a>(given: &Given<'a>) -> Result<ImageTask<'a>, &'static str> {
+pub(crate) fn diff_task<'a>(given: &Given<'a>) -> Result<Task<'a>, &'static str> {
     let old = file_of(given, "A");
     let new = file_of(given, "B");
     if old.is_none() && new.is_none() {
         return Err("only one of A and B can be standard input");
     }
-    Ok(ImageTask::Diff(Compared {
+    Ok(Task::Diff(Compared {
         hex: given.has("hex"),
         form: form_of(given),
         old,
@@ -224,36 +204,5 @@ fn file_of<'a>(given: &Given<'a>, argument: &str) -> Option<&'a str> {
     match given.text(argument) {
         Some("-") | None => None,
         found => found,
-    }
-}
-
-/// Carries out a task that reads images.
-///
-/// # Errors
-///
-/// As for `set_alias`, `show_image` and `diff_images`.
-pub(crate) fn serve_image<R: Read, S: Store, W: Write>(
-    alloc: Global,
-    task: ImageTask<'_>,
-    input: &mut R,
-    store: &mut S,
-    output: &mut W,
-) -> Result<ExitStatus, Failure> {
-    let ended = match task {
-        ImageTask::Alias { value, hex, file } => {
-            set_alias(alloc, value, hex, file, input, store, output)?;
-            ExitStatus::Done
-        }
-        ImageTask::Show(shown) => show_image(alloc, shown, input, store, output)?,
-        ImageTask::Diff(compared) => diff_images(alloc, compared, input, store, output)?,
-    };
-    Ok(ended)
-}
-
-/// Whether a task reads standard input.
-pub(crate) fn reads_input(task: ImageTask<'_>) -> bool {
-    match task {
-        ImageTask::Alias { file, .. } | ImageTask::Show(Shown { file, .. }) => file.is_none(),
-        ImageTask::Diff(Compared { old, new, .. }) => old.is_none() || new.is_none(),
     }
 }

@@ -1,6 +1,6 @@
 //! The subcommands that work on a line: `init`, `run` and `recover`.
 
-use crate::arguments::{LINE, QUIET, REPORT, SCRIPT};
+use crate::arguments::{LINE, QUIET, REPORT, SCRIPT, script_of};
 use command_line::{Argument, Given, Kind, Subcommand, TYPED_COMMANDS};
 use line_changes::{Before, look_before, report_behind};
 use station_files::{ExitStatus, Failures, Fault, Store, worse};
@@ -132,16 +132,13 @@ pub(crate) fn recover_row() -> Subcommand {
 /// The task of `run`.
 pub(crate) fn run_task<'a>(given: &Given<'a>) -> Result<RunTask<'a>, &'static str> {
     let fuse = match given.cut("fuse")? {
-        Some(cut) => Some(Fuse {
-            writes: cut.count,
-            left: cut.left,
-        }),
+        Some((writes, left)) => Some(Fuse { writes, left }),
         None => None,
     };
     Ok(RunTask {
         names: RunNames {
             line: given.word("LINE"),
-            script: given.script(),
+            script: script_of(given),
         },
         fuse,
         reports: given.has("report"),

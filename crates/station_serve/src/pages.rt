@@ -1,8 +1,9 @@
 //! The subcommands that print of the program itself: `explain`, `completions` and `man`.
 
-use command_line::{Argument, EXPLAIN, Given, Kind, Shell, Subcommand};
-use station_files::Fault;
-use std::alloc::AllocError;
+use command_line::{Argument, Given, Kind, Shell, Subcommand};
+use station_files::{Fault, write_whole};
+use station_listing::{CODES, Code, find_code};
+use std::alloc::{AllocError, Global};
 use std::io::Write;
 
 /// What the manual page begins with.
@@ -18,6 +19,23 @@ const WHICH_SHELL: Argument = Argument {
     kind: Kind::WordOf(SHELLS),
     help: "The shell: bash, zsh or fish",
     long_help: "",
+};
+
+const EXPLAINED: Argument = Argument {
+    id: "CODE",
+    kind: Kind::OptionalWord,
+    help: "The number or the name of a fault or a refusal",
+    long_help: "",
+};
+
+const EXPLAIN: Subcommand = Subcommand {
+    name: "explain",
+    about: "Says what the code of a fault or a refusal means",
+    long_about: "Prints what the code of a fault or a refusal means, why it comes and what to do about it. Without CODE it prints \
+        that of all codes.",
+    after_help: "Example:\n  sii_station explain 15\n  sii_station explain BadCheck",
+    after_long_help: "",
+    arguments: &[EXPLAINED],
 };
 
 pub(crate) fn explain_row() -> Subcommand {
@@ -59,6 +77,45 @@ pub(crate) fn shell_of(given: &Given<'_>) -> Shell {
     }
 }
 
+/// The code that `explain` is asked for by its number or its name, if one is.
+///
+/// # Errors
+///
+/// Why it is refused: no code has this number or name.
+pub(crate) fn code_asked(given: &Given<'_>) -> Result<Option<Code>, &'static str> {
+    let Some(text) = given.text("CODE") else {
+        return Ok(None);
+    };
+    match find_code(text) {
+        None => Err("CODE is the number or the name of a fault or a refusal"),
+        found => Ok(found),
+    }
+}
+
+/// What this code means, why it comes and what to do about it; or this of all codes, with empty lines between.
+///
+/// # Errors
+///
+/// Memory was refused.
+pub(crate) fn explanation(alloc: Global, asked: Option<Code>) -> Result<String, AllocError> {
+    let mut text = String::new(alloc);
+    for code in &CODES {
+        let is_asked = match asked {
+            Some(one) => one == *code,
+            None => true,
+        };
+        if is_asked {
+            let gap = if text.is_empty() { "" } else { "\n" };
+            let explained = code.entry().explanation;
+            let name = code.entry().name;
+            let number = code.number();
+            let paragraph = format!(in alloc; "{gap}{number} {name}: {explained}\n")?;
+            text.push_str(paragraph.as_str())?;
+        }
+    }
+    Ok(text)
+}
+
 /// Prints a text that was made in memory.
 ///
 /// # Errors
@@ -69,7 +126,5 @@ pub(crate) fn print_page<W: Write>(
     output: &mut W,
 ) -> Result<(), Fault> {
     let text = page?;
-    output.write_all(text.as_bytes())?;
-    output.flush()?;
-    Ok(())
+    write_whole(text.as_bytes(), output)
 }

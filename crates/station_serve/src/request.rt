@@ -1,24 +1,35 @@
 //! What a command line asks for.
 
-use crate::arguments::{VERBOSE, form_of};
-use crate::images::{ImageTask, alias_row, alias_task, diff_row, diff_task, show_row, show_task};
+use crate::arguments::{VERBOSE, form_of, script_of};
+use crate::images::{alias_row, alias_task, diff_row, diff_task, show_row, show_task};
 use crate::line_listings::{journal_row, layout_row, plan_row};
 use crate::line_work::{RunTask, init_row, recover_row, run_row, run_task};
-use crate::pages::{MANUAL_HEAD, completions_row, explain_row, man_row, shell_of};
+use crate::pages::{MANUAL_HEAD, code_asked, completions_row, explain_row, man_row, shell_of};
 use command_line::{
     Argument, Given, Program, Shell, Subcommand, Unread, completion_script, manual_page,
     read_typed, read_words, refuse,
 };
-use station_rows::Form;
-use station_session::RunNames;
+use line_changes::Compared;
+use station_listing::Code;
+use station_rows::{Form, Shown};
 use std::alloc::{AllocError, Global};
-use wire_faults::code_asked;
 
 /// What a command line asks for: a subcommand with its arguments.
 #[derive(Clone, Copy)]
 pub enum Task<'a> {
-    /// Reads images.
-    Image(ImageTask<'a>),
+    /// Sets the configured station alias of an image.
+    Alias {
+        /// The new alias.
+        value: u16,
+        /// Whether input and output are hexadecimal text.
+        hex: bool,
+        /// The name of the image's file; `None` for standard input.
+        file: Option<&'a str>,
+    },
+    /// Prints the listing of an image.
+    Show(Shown<'a>),
+    /// Prints what two images differ in.
+    Diff(Compared<'a>),
     /// Makes an empty journal for a line.
     Init {
         /// The name of the line file.
@@ -65,31 +76,17 @@ pub enum Task<'a> {
     Man,
     /// Explains one code, or all of them.
     Explain {
-        /// The number or the name of the code; `None` for all codes.
-        code: Option<&'a str>,
+        /// The code; `None` for all codes.
+        code: Option<Code>,
     },
 }
 
 impl<'a> Task<'a> {
-    /// The task with the script of this name, where its script is to come from standard input (`-`).
-    pub(crate) fn with_script(self, name: &'a str) -> Option<Task<'a>> {
+    /// The name of the script, if the subcommand reads one.
+    pub(crate) fn script(self) -> Option<&'a str> {
         match self {
-            Task::Run(run) if run.names.script == "-" => Some(Task::Run(RunTask {
-                names: RunNames {
-                    script: name,
-                    ..run.names
-                },
-                ..run
-            })),
-            Task::Plan {
-                line,
-                script: "-",
-                form,
-            } => Some(Task::Plan {
-                line,
-                script: name,
-                form,
-            }),
+            Task::Run(run) => Some(run.names.script),
+            Task::Plan { script, .. } => Some(script),
             _ => None,
         }
     }
@@ -177,44 +174,33 @@ pub(crate) fn read_arguments<'a>(
 
 /// The task of the subcommand that was given, or why its words are refused.
 fn task_of<'a>(given: &Given<'a>) -> Result<Task<'a>, &'static str> {
-    match given.subcommand {
-        "show" => Ok(Task::Image(show_task(given))),
-        "alias" => Ok(Task::Image(alias_task(given)?)),
-        "diff" => Ok(Task::Image(diff_task(given)?)),
-        "run" => Ok(Task::Run(run_task(given)?)),
-        "explain" => Ok(Task::Explain {
-            code: code_asked(given.text("CODE"))?,
-        }),
-        _ => plain_task(given),
-    }
-}
-
-/// The task of a subcommand whose words are never refused.
-fn plain_task<'a>(given: &Given<'a>) -> Result<Task<'a>, &'static str> {
     let line = given.word("LINE");
-    match given.subcommand {
-        "init" => Ok(Task::Init { line }),
-        "recover" => Ok(Task::Recover {
+    let form = form_of(given);
+    let task = match given.subcommand {
+        "show" => show_task(given),
+        "alias" => alias_task(given)?,
+        "diff" => diff_task(given)?,
+        "run" => Task::Run(run_task(given)?),
+        "init" => Task::Init { line },
+        "recover" => Task::Recover {
             line,
             reports: given.has("report"),
-        }),
-        "plan" => Ok(Task::Plan {
+        },
+        "plan" => Task::Plan {
             line,
-            script: given.script(),
-            form: form_of(given),
-        }),
-        "journal" => Ok(Task::Journal {
-            line,
-            form: form_of(given),
-        }),
-        "layout" => Ok(Task::Layout {
-            line,
-            form: form_of(given),
-        }),
-        "completions" => Ok(Task::Completions {
+            script: script_of(given),
+            form,
+        },
+        "journal" => Task::Journal { line, form },
+        "layout" => Task::Layout { line, form },
+        "explain" => Task::Explain {
+            code: code_asked(given)?,
+        },
+        "completions" => Task::Completions {
             shell: shell_of(given),
-        }),
-        "man" => Ok(Task::Man),
-        _ => Err("a subcommand is needed"),
-    }
+        },
+        "man" => Task::Man,
+        _ => return Err("a subcommand is needed"),
+    };
+    Ok(task)
 }

@@ -1,23 +1,22 @@
 //! The program as a function of its arguments and streams.
 
-use crate::images::{reads_input, serve_image};
 use crate::line_work::{serve_recovery, serve_run};
-use crate::pages::print_page;
+use crate::pages::{explanation, print_page};
 use crate::request::{Request, Task, completions_for, manual_of, read_arguments};
 use crate::streams::Streams;
 use command_line::{INPUT, InputScript, Script, Unread};
+use line_changes::{Compared, diff_images};
 use line_watch::Progress;
-use station_files::{ExitStatus, Failure, Failures, Fault, Store, report_fault};
+use station_files::{ExitStatus, Failure, Failures, Fault, Store, report_fault, set_alias};
 use station_line::init_line;
 use station_plan::{plan_script, show_journal};
-use station_rows::show_layout;
+use station_rows::{Shown, show_image, show_layout};
 use station_session::{Answers, Watch};
 use station_troubles::{INPUT_OR_OUTPUT, Noting, OUTPUT, tell_more};
 use std::io::{Read, Write};
 use std::rt::Clock;
 use std::sync::Wait;
 use std::thread::Threads;
-use wire_faults::explain;
 
 /// Carries out a command line and returns the exit status: 0 done, 1 a command was refused or two images differ, 2 wrong
 /// usage, 3 a file or its form, 4 a device or a power cut, 5 out of memory. The first argument is the program's name.
@@ -75,10 +74,10 @@ fn serve_request<
     let terminal = if is_quiet { None } else { terminal };
     let begun = Progress::begin(rt, terminal);
     let watch = watch_of(rt, begun.as_ref());
-    let (task, script) = match (typed, task.with_script(INPUT)) {
-        (Some(text), _) => (task, Some(Script::typed(text))),
-        (None, Some(task)) => (task, Some(Script::read(rt.alloc(), input))),
-        (None, None) => (task, None),
+    let script = match (typed, task.script()) {
+        (Some(text), _) => Some(Script::typed(text)),
+        (None, Some(name)) if name == INPUT => Some(Script::read(rt.alloc(), input)),
+        _ => None,
     };
     let mut joined = InputScript::new(store, script);
     serve_and_tell(watch, task, is_told, input, &mut joined, streams)
@@ -128,7 +127,9 @@ fn serve_and_tell<
 /// What is told of the streams of a task, where one of them fails.
 fn streams_of(task: Task<'_>) -> &'static str {
     match task {
-        Task::Image(image) if reads_input(image) => INPUT_OR_OUTPUT,
+        Task::Alias { file: None, .. }
+        | Task::Show(Shown { file: None, .. })
+        | Task::Diff(Compared { old: None, .. } | Compared { new: None, .. }) => INPUT_OR_OUTPUT,
         _ => OUTPUT,
     }
 }
@@ -154,9 +155,17 @@ fn serve_task<
         Task::Recover { line, reports } => {
             return serve_recovery(watch, line, reports, store, Answers { output, failures });
         }
-        Task::Image(image) => serve_image(alloc, image, input, store, output),
+        Task::Alias { value, hex, file } => {
+            done(set_alias(alloc, value, hex, file, input, store, output))
+        }
+        Task::Show(shown) => {
+            show_image(alloc, shown, input, store, output).map_err(Failure::from)
+        }
+        Task::Diff(compared) => {
+            diff_images(alloc, compared, input, store, output).map_err(Failure::from)
+        }
         Task::Layout { line, form } => done(show_layout(alloc, line, form, store, output)),
-        Task::Explain { code } => done(explain(alloc, code, output)),
+        Task::Explain { code } => done(print_page(explanation(alloc, code), output)),
         Task::Completions { shell } => done(print_page(completions_for(alloc, shell), output)),
         Task::Man => done(print_page(manual_of(alloc), output)),
         Task::Init { line } => done(init_line(alloc, line, store, output)),
@@ -172,7 +181,10 @@ fn serve_task<
 }
 
 /// `Done`, where no fault came.
-fn done(ended: Result<(), Fault>) -> Result<ExitStatus, Failure> {
+fn done<F>(ended: Result<(), F>) -> Result<ExitStatus, Failure>
+where
+    Failure: From<F>,
+{
     ended?;
     Ok(ExitStatus::Done)
 }

@@ -165,7 +165,7 @@ told-too is_cut old new line site commands status final ends (inr bad) = record 
 
 -- ---- the whole
 
-pub runs : (leads : Leads) (is_cut : Bool) (old loaded new : Known) (name script : List ℕ) (line : LineFile) (site : SiteValue) (commands : List Command) (status : ExitStatus) → Loads old name line site → IsRunApart leads None line name script
+pub runs : (leads : Leads) (is_cut : Bool) (old loaded new : Known) (name script : List ℕ) (line : LineFile) (site : SiteValue) (commands : List Command) (status : ExitStatus) → Loads old name line site → IsRunApart leads line name script
     → HasJournal site.line.sizes site.seen.state.disk.bytes → SpellsCommands old script commands → loaded ≡ old → EndsRun is_cut loaded new line site commands status → RunsFiles leads is_cut old new name script status
 runs leads is_cut old loaded new name script line site commands status given apart journal spelt same ends =
     let P : Known → Type 0 = λ files. EndsRun is_cut files new line site commands status in

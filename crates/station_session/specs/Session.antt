@@ -1,5 +1,5 @@
 -- `run` and `recover`: what is read from the files of a line, how the station starts, and what the files hold in the end.
-use Rattle.std.specs.Prelude.{◌≡◌, Bool, List, [], Option, None, is_some, unwrap_or, ℕ, ⊤, Result, IfSome, OnOk, IsTrue}
+use Rattle.std.specs.Prelude.{◌≡◌, Bool, List, [], Option, is_some, unwrap_or, ℕ, ⊤, Result, IfSome, OnOk, IsTrue}
 use Rattle.sii_edit.specs.declared.command.Command.{Command}
 use Rattle.site_core.specs.State.{Seen}
 use Rattle.site_shadow.specs.Site.{SiteValue}
@@ -81,7 +81,7 @@ pub record RunsFiles (leads : Leads) (is_cut : Bool) (old new : Known) (name scr
   pub line : LineFile
   pub site : SiteValue
   pub loaded : Loads old name line site
-  pub apart : IsRunApart leads None line name script
+  pub apart : IsRunApart leads line name script
   pub journal : HasJournal site.line.sizes site.seen.state.disk.bytes
   pub commands : List Command
   pub spelt : SpellsCommands old script commands

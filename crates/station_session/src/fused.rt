@@ -1,8 +1,9 @@
 //! A run with a planned power cut, on a line in memory.
-ghost use Rattle.std.specs.Prelude.{◌≡◌, ◌↔◌, length, true, IsTrue};
+ghost use Rattle.std.specs.Prelude.{◌≡◌, ◌↔◌, length, true, IfOk, IsTrue, MatchResult};
+ghost use Rattle.esc_rom.specs.Owned.{OwnsAll};
 ghost use Rattle.station_files.specs.Faults.{IsFaultless};
 ghost use Rattle.station_files.specs.Files.{ChangesAmong};
-ghost use Rattle.station_line.specs.Opened.{is_old, IsFresh};
+ghost use Rattle.station_line.specs.Opened.{is_old, IsFresh, StartsFrom};
 ghost use Rattle.station_line.specs.Site.{files_of};
 ghost use Rattle.station_session.specs.Session.{EndsRun, EndsStation, IsRefusal};
 
@@ -13,7 +14,7 @@ use site_mem::{FaultPlan, Pattern};
 use site_shadow::{Device, ShadowSite};
 use station_alone::{Alone, OpenFault};
 use station_files::{ExitStatus, Failures, Store, worse};
-use station_line::{Given, Session, of_open, open_station, save_site, serve_commands};
+use station_line::{Given, Session, migrated, of_open, save_site, serve_commands};
 use station_text::LineFile;
 use std::alloc::Global;
 use std::io::Write;
@@ -49,12 +50,37 @@ pub(crate) fn run_fused<S: Store, W: Write>(
     } = session;
     // The sync at the opening of the station counts as a write too.
     let plan = FaultPlan::fused(u64::from(fuse.writes) + 1, Pattern::Fill(fuse.left));
-    match open_station(alloc, site, is_old, Some(plan)) {
+    match open_over(alloc, site, is_old, plan) {
         Ok(alone) => run_station(alloc, &line, alone, commands, store, answers),
         Err((left, fault)) => {
             drop(commands);
             give_up(alloc, &line, left, fault, store, answers.failures)
         }
+    }
+}
+
+/// Opens the station. A journal that isn't of version 2, as `is_old` says, is recovered and migrated first. Then `device` stands behind the site.
+///
+/// # Errors
+///
+/// As for `migrated` and `Alone::open`, with the site as they hand it back.
+fn open_over<D: Device + Drop, E: Device>(
+    alloc: Global,
+    site: ShadowSite<D>,
+    is_old: bool,
+    device: E,
+) -> Result<Alone<ShadowSite<E>>, (ShadowSite<E>, OpenFault)>
+    requires disk { IsTrue site.line.has_disk }
+    requires owned { OwnsAll site.line }
+    ensures line { MatchResult result (λ alone. alone.line ≡ site.line) (λ back. back.0.line ≡ site.line) }
+    ensures starts { IfOk result (λ alone. StartsFrom is_old site alone) }
+{
+    if !is_old {
+        return Alone::open(alloc, site.with_device(device));
+    }
+    match migrated(alloc, site) {
+        Ok(left) => Alone::open(alloc, left.with_device(device)),
+        Err((back, fault)) => Err((back.with_device(device), fault)),
     }
 }
 

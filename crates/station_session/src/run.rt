@@ -102,11 +102,11 @@ pub fn run_script<
         → KeepsRunFiles S.File (S.files store.old) names.entry.line.now names.entry.script.now ran.status ran.told) }
     ensures told { is_some fuse ≡ false → IfOk result (λ ran. IsFaultless ran.status → IsAllTold ran.told) }
     ensures unbegun { IfOk result (λ ran. ran.is_begun ≡ false → IsNoneTold ran.told) }
-    ensures refused { IfErr result (RefusesRun (S.files store.old) S.leads None names.entry.line.now names.entry.script.now) }
+    ensures refused { IfErr result (RefusesRun (S.files store.old) S.leads names.entry.line.now names.entry.script.now) }
     ensures same { OnErr result (S.files store.new ≡ S.files store.old) }
 {
     let RunNames { line, script } = names;
-    match load(watch.rt.alloc(), line, script, None, store) {
+    match load(watch.rt.alloc(), line, script, store) {
         Ok(given) => Ok(run_given(watch, given, fuse, store, answers)),
         Err(fault) => Err(fault),
     }
@@ -221,7 +221,7 @@ fn run_site<D: Lends + Send, S: Store, W: Write, R: Wait + Threads + AllocGlobal
         is_old,
         commands,
     } = ready;
-    match open_station(rt.alloc(), site.with_device(device), is_old, None) {
+    match open_station(rt.alloc(), site.with_device(device), is_old) {
         Ok(alone) => {
             let answers = Answers { output, failures };
             run_threads(rt, line, alone, commands, store, answers)

@@ -11,6 +11,8 @@ pub enum ValueFault {
     Memory,
     /// The text or the value has another form.
     Malformed,
+    /// The command of a script at this place, from 0, has another form.
+    BadCommand(usize),
 }
 
 impl From<AllocError> for ValueFault {

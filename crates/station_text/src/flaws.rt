@@ -22,7 +22,7 @@ pub struct TextTrouble {
 pub(crate) enum Flaw<'a> {
     /// A key that isn't known there; the known ones follow.
     #[error("unknown key {0:?}, known here: {1}")]
-    Unknown(&'a str, &'static str),
+    Unknown(&'a str, Form),
     /// A key that must be there.
     #[error("the key {0} is missing")]
     Missing(&'static str),
@@ -37,7 +37,7 @@ pub(crate) enum Flaw<'a> {
     Slaves(usize),
     /// None of these keys is there, and one must be.
     #[error("one of the keys {0} is missing")]
-    NoneOf(&'static str),
+    NoneOf(Form),
     /// Two keys that exclude each other.
     #[error("{0} and {1} can't stand side by side")]
     Two(&'static str, &'static str),
@@ -115,12 +115,20 @@ pub(crate) fn judge_table<'a>(
     table: &'a Table,
     form: Form,
 ) -> Result<(), Spot<'a>> {
-    if let Some(key) = unknown_key(table, form) {
-        return Err(Flaw::Unknown(key, form.names).within(part));
+    for key in table.keys() {
+        if !form.has(key.as_str()) {
+            return Err(Flaw::Unknown(key.as_str(), form).within(part));
+        }
     }
-    for field in form.fields {
-        if let Some(flaw) = flaw_at(table, *field) {
-            return Err(flaw.within(part));
+    for field in form.0 {
+        match (table.get(field.key()), *field) {
+            (Some(value), Field::Needed(key, shape) | Field::Free(key, shape)) => {
+                if !shape.fits(value) {
+                    return Err(Flaw::Wrong(key, Found::of(value, shape), shape).within(part));
+                }
+            }
+            (None, Field::Needed(key, _)) => return Err(Flaw::Missing(key).within(part)),
+            (None, Field::Free(..)) => {}
         }
     }
     Ok(())
@@ -129,36 +137,6 @@ pub(crate) fn judge_table<'a>(
 /// The values of the array at a key, if there is one.
 pub(crate) fn array_at<'a>(table: &'a Table, key: &str) -> Option<&'a [Value]> {
     Some(table.get(key)?.as_array()?.as_slice())
-}
-
-/// The flaw of a table at a field of its form, if it has one there.
-fn flaw_at<'a>(table: &Table, field: Field) -> Option<Flaw<'a>> {
-    let (key, shape) = (field.key(), field.shape());
-    match table.get(key) {
-        Some(value) if shape.fits(value) => None,
-        Some(value) => Some(Flaw::Wrong(key, Found::of(value, shape), shape)),
-        None if field.is_needed() => Some(Flaw::Missing(key)),
-        None => None,
-    }
-}
-
-/// The first key of a table that its form doesn't have.
-fn unknown_key<'a>(table: &'a Table, form: Form) -> Option<&'a str> {
-    for key in table.keys() {
-        if !has_key(form, key.as_str()) {
-            return Some(key.as_str());
-        }
-    }
-    None
-}
-
-fn has_key(form: Form, key: &str) -> bool {
-    for field in form.fields {
-        if field.key() == key {
-            return true;
-        }
-    }
-    false
 }
 
 /// What a text is read as.

@@ -41,7 +41,12 @@ fn judge_command<'a>(part: Part<'_>, command: &'a Value) -> Result<(), Spot<'a>>
     let table = judge_entry(part, command, COMMAND)?;
     judge_kinds(part, table, COMMAND)?;
     match array_at(table, "group") {
-        Some(edits) => judge_group(part, edits),
+        Some(edits) => {
+            for index in 0..edits.len() {
+                judge_group_edit(part.entry("group", index), &edits[index])?;
+            }
+            Ok(())
+        }
         None => judge_edit(part, table),
     }
 }
@@ -49,7 +54,7 @@ fn judge_command<'a>(part: Part<'_>, command: &'a Value) -> Result<(), Spot<'a>>
 /// Refuses a table that has none of the keys of this form, or two of them.
 fn judge_kinds<'a>(part: Part<'_>, table: &Table, form: Form) -> Result<(), Spot<'a>> {
     let mut found = None;
-    for field in form.fields {
+    for field in form.0 {
         let key = field.key();
         match found {
             _ if !table.contains_key(key) => {}
@@ -59,16 +64,8 @@ fn judge_kinds<'a>(part: Part<'_>, table: &Table, form: Form) -> Result<(), Spot
     }
     match found {
         Some(_) => Ok(()),
-        None => Err(Flaw::NoneOf(form.names).within(part)),
+        None => Err(Flaw::NoneOf(form).within(part)),
     }
-}
-
-/// Judges the entries of a group, which stands in this part of a text.
-fn judge_group<'a>(part: Part<'_>, edits: &'a [Value]) -> Result<(), Spot<'a>> {
-    for index in 0..edits.len() {
-        judge_group_edit(part.entry("group", index), &edits[index])?;
-    }
-    Ok(())
 }
 
 /// Judges an edit of a group: first what it expects.

@@ -58,7 +58,7 @@ pub fn read_line(alloc: Global, text: &str) -> Result<LineFile, LineFault>
     match line_in(alloc, text) {
         Ok(line) => Ok(line),
         Err(ValueFault::Memory) => Err(LineFault::Memory),
-        Err(ValueFault::Malformed) => {
+        Err(ValueFault::Malformed | ValueFault::BadCommand(_)) => {
             let trouble = trouble_of(alloc, text, TextKind::Line);
             Err(LineFault::BadLine(trouble.ok()))
         }

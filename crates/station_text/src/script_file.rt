@@ -9,7 +9,7 @@ use crate::document::{find_values, has_only, read_document};
 use crate::fault::ValueFault;
 use crate::flaws::{TextKind, TextTrouble, trouble_of};
 use crate::script_command::{ScriptCommand, read_command};
-use std::alloc::{AllocError, AllocFailed, Global};
+use std::alloc::Global;
 use thiserror::Error;
 use toml::{Table, Value};
 
@@ -41,36 +41,40 @@ pub fn read_script(alloc: Global, text: &str) -> Result<Vec<ScriptCommand>, Scri
 {
     match script_in(alloc, text) {
         Ok(commands) => Ok(commands),
-        Err(ScriptFault::Memory) => Err(ScriptFault::Memory),
-        Err(ScriptFault::BadScript { command, .. }) => {
-            let trouble = trouble_of(alloc, text, TextKind::Script(command)).ok();
-            Err(ScriptFault::BadScript { command, trouble })
-        }
+        Err(ValueFault::Memory) => Err(ScriptFault::Memory),
+        Err(ValueFault::Malformed) => Err(bad_script(alloc, text, 0)),
+        Err(ValueFault::BadCommand(place)) => Err(bad_script(alloc, text, place)),
     }
 }
 
+/// The fault for a text that is no script, whose first bad command has this place, from 0.
+fn bad_script(alloc: Global, text: &str, command: usize) -> ScriptFault {
+    let trouble = trouble_of(alloc, text, TextKind::Script(command)).ok();
+    ScriptFault::BadScript { command, trouble }
+}
+
 /// The commands of a script. What is wrong in it isn't told.
-fn script_in(alloc: Global, text: &str) -> Result<Vec<ScriptCommand>, ScriptFault>
-    ensures { Reads ScriptFault.Memory (λ commands. commands.items) (SpellsScriptFile text.now) result }
+fn script_in(alloc: Global, text: &str) -> Result<Vec<ScriptCommand>, ValueFault>
+    ensures { Reads ValueFault.Memory (λ commands. commands.items) (SpellsScriptFile text.now) result }
 {
     let table = read_document(alloc, text)?;
     commands_of(alloc, &table)
 }
 
-fn commands_of(alloc: Global, table: &Table) -> Result<Vec<ScriptCommand>, ScriptFault>
-    ensures { Reads ScriptFault.Memory (λ commands. commands.items) (SpellsScript (table_view table.now)) result }
+fn commands_of(alloc: Global, table: &Table) -> Result<Vec<ScriptCommand>, ValueFault>
+    ensures { Reads ValueFault.Memory (λ commands. commands.items) (SpellsScript (table_view table.now)) result }
 {
     if !has_only(table, &["command"]) {
-        return Err(bad_command(0));
+        return Err(ValueFault::Malformed);
     }
     match find_values(table, "command") {
         Some(values) => read_commands(alloc, values),
-        None => Err(bad_command(0)),
+        None => Err(ValueFault::Malformed),
     }
 }
 
-fn read_commands(alloc: Global, values: &[Value]) -> Result<Vec<ScriptCommand>, ScriptFault>
-    ensures { Reads ScriptFault.Memory (λ commands. commands.items) (AllZip SpellsCommand (map view values.now)) result }
+fn read_commands(alloc: Global, values: &[Value]) -> Result<Vec<ScriptCommand>, ValueFault>
+    ensures { Reads ValueFault.Memory (λ commands. commands.items) (AllZip SpellsCommand (map view values.now)) result }
 {
     let mut commands = Vec::with_capacity(alloc, values.len())?;
     for value in values {
@@ -81,54 +85,11 @@ fn read_commands(alloc: Global, values: &[Value]) -> Result<Vec<ScriptCommand>, 
 }
 
 /// Reads the command at position `place` of the script, from 0.
-fn command_at(alloc: Global, place: usize, value: &Value) -> Result<ScriptCommand, ScriptFault>
-    ensures { Reads ScriptFault.Memory (λ command. command) (SpellsCommand (view value.now)) result }
+fn command_at(alloc: Global, place: usize, value: &Value) -> Result<ScriptCommand, ValueFault>
+    ensures { Reads ValueFault.Memory (λ command. command) (SpellsCommand (view value.now)) result }
 {
     match read_command(alloc, value) {
-        Ok(command) => Ok(command),
-        Err(ValueFault::Memory) => Err(ScriptFault::Memory),
-        Err(ValueFault::Malformed) => Err(bad_command(place)),
-    }
-}
-
-/// The fault for a script whose first bad command has this place, from 0.
-fn bad_command(command: usize) -> ScriptFault {
-    ScriptFault::BadScript {
-        command,
-        trouble: None,
-    }
-}
-
-impl From<AllocError> for ScriptFault {
-    ghost use Rattle.station_text.specs.declared.script_file.ScriptFault.TheVariants.{Memory};
-
-    ghost from_gives = { λ _ fault. fault ≡ Memory };
-
-    fn from(_: AllocError) -> Self {
-        ScriptFault::Memory
-    }
-}
-
-impl<T: Drop> From<AllocFailed<T>> for ScriptFault {
-    ghost use Rattle.station_text.specs.declared.script_file.ScriptFault.TheVariants.{Memory};
-
-    ghost from_gives = { λ _ fault. fault ≡ Memory };
-
-    fn from(_: AllocFailed<T>) -> Self {
-        ScriptFault::Memory
-    }
-}
-
-impl From<ValueFault> for ScriptFault {
-    ghost use Rattle.station_text.specs.declared.fault.ValueFault.TheVariants as values;
-    ghost use Rattle.station_text.specs.declared.script_file.ScriptFault.TheVariants.{Memory};
-
-    ghost from_gives = { λ fault given. fault ≡ values.Memory → given ≡ Memory };
-
-    fn from(fault: ValueFault) -> Self {
-        match fault {
-            ValueFault::Memory => ScriptFault::Memory,
-            ValueFault::Malformed => bad_command(0),
-        }
+        Err(ValueFault::Malformed) => Err(ValueFault::BadCommand(place)),
+        read => read,
     }
 }

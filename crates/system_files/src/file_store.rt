@@ -13,8 +13,8 @@ use std::{fs, io};
 pub struct FileStore<'r, R> {
     files: &'r R,
     alloc: Global,
-    /// The files whose next write takes no memory.
-    prepared: Vec<Prepared>,
+    /// The names of the files whose next write takes no memory, and where each is replaced.
+    prepared: Vec<(String, Place)>,
     /// The files that replaced others, kept open: each is locked, so the lock of a journal survives its replacement.
     replaced: Vec<File>,
     /// The folders whose names were synced.
@@ -23,33 +23,10 @@ pub struct FileStore<'r, R> {
     opened: Vec<String>,
 }
 
-/// Where the file of a name is replaced.
-#[derive(Drop)]
-struct Prepared {
-    name: String,
-    place: Place,
-}
-
-/// The place that was prepared for the file of this name.
-fn prepared_for<'a>(prepared: &'a [Prepared], name: &str) -> Option<&'a Place> {
-    for found in prepared {
-        if found.name.as_str() == name {
-            return Some(&found.place);
-        }
-    }
-    None
-}
-
 /// A file of the operating system, open for reading and writing at byte offsets.
 #[derive(Drop)]
 pub struct SystemFile {
     file: File,
-}
-
-/// A lock (`flock`) on a file of the operating system, held until it is dropped.
-#[derive(Drop)]
-pub struct SystemLock {
-    _file: File,
 }
 
 impl<'r, R> FileStore<'r, R> {
@@ -91,7 +68,8 @@ impl<R: Files<File = File>> FileStore<'_, R> {
 impl<R: Files<File = File>> Store for FileStore<'_, R> {
     type File = SystemFile;
 
-    type Lock = SystemLock;
+    /// A lock (`flock`) on the file, held until it is dropped.
+    type Lock = File;
 
     fn read(&mut self, alloc: Global, name: &str) -> io::Result<Option<Vec<u8>>> {
         match File::open(self.files, name) {
@@ -117,7 +95,7 @@ impl<R: Files<File = File>> Store for FileStore<'_, R> {
         let place = place_of(self.files, self.alloc, name)?;
         look_at(self.files, &place)?;
         let name = String::from_str(self.alloc, name)?;
-        self.prepared.push(Prepared { name, place })?;
+        self.prepared.push((name, place))?;
         self.replaced.reserve(self.prepared.len())?;
         Ok(())
     }
@@ -134,8 +112,12 @@ impl<R: Files<File = File>> Store for FileStore<'_, R> {
             }
         }
         self.replaced.reserve(1)?;
-        let file = match prepared_for(&self.prepared, name) {
-            Some(place) => replace(self.files, place, bytes)?,
+        let prepared = self
+            .prepared
+            .iter()
+            .find(|(known, _)| known.as_str() == name);
+        let file = match prepared {
+            Some((_, place)) => replace(self.files, place, bytes)?,
             None => replace(self.files, &place_of(self.files, self.alloc, name)?, bytes)?,
         };
         self.replaced.push(file)?;
@@ -163,7 +145,7 @@ impl<R: Files<File = File>> Store for FileStore<'_, R> {
         Ok(SystemFile { file })
     }
 
-    fn lock(&mut self, name: &str) -> Result<Option<SystemLock>, LockFault> {
+    fn lock(&mut self, name: &str) -> Result<Option<File>, LockFault> {
         // To open a pipe would wait for who writes it.
         if !matches!(self.look(name), Ok(Entry::File { .. })) {
             return Ok(None);
@@ -176,7 +158,7 @@ impl<R: Files<File = File>> Store for FileStore<'_, R> {
             return Err(LockFault::Busy);
         }
         self.sync_names(name)?;
-        Ok(Some(SystemLock { _file: file }))
+        Ok(Some(file))
     }
 }
 

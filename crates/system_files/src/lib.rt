@@ -7,6 +7,6 @@ mod replacing;
 mod streams;
 mod text;
 
-pub use file_store::{FileStore, SystemFile, SystemLock};
-pub use streams::{HeldStreams, hold_streams};
+pub use file_store::{FileStore, SystemFile};
+pub use streams::hold_streams;
 pub use text::Text;

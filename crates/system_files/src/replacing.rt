@@ -2,7 +2,7 @@
 ghost use Rattle.std.specs.Prelude.{◌≡◌, string_bytes, IfOk};
 
 use station_files::{FileId, Location, name_beside};
-use std::alloc::{AllocError, Global};
+use std::alloc::Global;
 use std::fs::{File, Files, Metadata, OpenOptions, Permissions};
 use std::io::Read;
 use std::os::fd::AsFd;
@@ -101,17 +101,11 @@ fn behind_link<R: Files<File = File>>(
         _ => return Ok(None),
     }
     let target = files.read_link(alloc, name)?.into_string();
-    if target.as_str().starts_with('/') {
-        return Ok(Some(target));
-    }
-    Ok(Some(beside_file(alloc, name, target.as_str())?))
-}
-
-/// A name in the folder of the file `name`.
-fn beside_file(alloc: Global, name: &str, other: &str) -> Result<String, AllocError> {
     match name.rsplit_once('/') {
-        Some((folder, _)) => format!(in alloc; "{folder}/{other}"),
-        None => String::from_str(alloc, other),
+        Some((folder, _)) if !target.as_str().starts_with('/') => {
+            Ok(Some(format!(in alloc; "{folder}/{target}")?))
+        }
+        _ => Ok(Some(target)),
     }
 }
 
@@ -126,15 +120,14 @@ fn in_whole_folder<R: Files<File = File>>(
         None => name,
     };
     match files.canonicalize(alloc, folder_of(name)) {
-        Ok(found) => Ok(format!(in alloc; "{}/{last}", whole_folder(found.as_str()))?),
+        Ok(found) => {
+            let folder = found.as_str();
+            let folder = folder.strip_suffix('/').unwrap_or(folder);
+            Ok(format!(in alloc; "{folder}/{last}")?)
+        }
         Err(error) if error.kind() == io::ErrorKind::OutOfMemory => Err(error),
         Err(_) => Ok(String::from_str(alloc, name)?),
     }
-}
-
-/// A folder's name as it stands before a slash.
-fn whole_folder(folder: &str) -> &str {
-    folder.strip_suffix('/').unwrap_or(folder)
 }
 
 /// The folder that holds the file `name`.

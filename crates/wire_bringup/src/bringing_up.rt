@@ -7,7 +7,7 @@ ghost use Rattle.wire_bringup.specs.Lines.{WordsCame, FoundCame, AllCame};
 use crate::found::{FoundLine, FoundSlave, Sizes, SlaveState};
 use crate::handing_back::hand_back;
 use crate::looking::{LineStates, look_along, read_access};
-use esc_rom::ACCESS;
+use rom_steps::ACCESS;
 use sii_words::Words;
 use std::alloc::Global;
 use std::rt::Clock;

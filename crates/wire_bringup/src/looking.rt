@@ -6,7 +6,7 @@ use crate::addresses::{count_slaves, settle_addresses};
 use crate::found::SlaveState;
 use ecat_frame::{Command, fp};
 use esc_model::station_address;
-use esc_rom::ACCESS;
+use rom_steps::ACCESS;
 use wire_frames::{AL_STATUS, LineFault, NumberedWire, Wire, ask};
 use wire_words::{Hitch, tell};
 

@@ -3,9 +3,9 @@ ghost use Rattle.std.specs.Prelude.{◌≡◌};
 ghost use Rattle.wire_faults.specs.Faults.{IsOfStream};
 ghost use Rattle.wire_faults.specs.declared.faults.WireFault.TheVariants as wire;
 
-use crate::codes::WireCode;
 use site_wire::StopReason;
 use station_files::{ExitStatus, Fault};
+use station_listing::Code;
 use std::alloc::{AllocError, AllocFailed};
 use std::{fmt, io};
 use wire_frames::{LineFault, Sighting, SlaveFault};
@@ -53,23 +53,23 @@ enum Printed {
     /// As this fault of the station.
     Station(Fault),
     /// As one that the station doesn't have: its code, and the number behind it.
-    Wire(WireCode, Option<usize>),
+    Wire(Code, Option<usize>),
 }
 
 /// How it is printed that a line can't be brought up.
 fn printed_line(fault: LineFault) -> Printed {
     let (code, slave) = match fault {
         LineFault::Memory => return Printed::Station(Fault::Memory),
-        LineFault::Silent => return Printed::Wire(WireCode::Silent, None),
-        LineFault::NoSlaves => return Printed::Wire(WireCode::NoSlaves, None),
-        LineFault::TooManySlaves { slaves } => (WireCode::TooManySlaves, slaves),
+        LineFault::Silent => return Printed::Wire(Code::Silent, None),
+        LineFault::NoSlaves => return Printed::Wire(Code::NoSlaves, None),
+        LineFault::TooManySlaves { slaves } => (Code::TooManySlaves, slaves),
         LineFault::Unaddressed { slave } | LineFault::SharedAddress { slave, .. } => {
-            (WireCode::StationAddress, slave)
+            (Code::StationAddress, slave)
         }
         LineFault::Slave { slave, why } => match why {
             SlaveFault::Dead(_) => return Printed::Station(Fault::SlaveDead { slave }),
-            SlaveFault::Held => (WireCode::Held, slave),
-            SlaveFault::Smaller { .. } => (WireCode::SmallerChip, slave),
+            SlaveFault::Held => (Code::Held, slave),
+            SlaveFault::Smaller { .. } => (Code::SmallerChip, slave),
         },
     };
     Printed::Wire(code, Some(usize::from(slave)))
@@ -79,10 +79,10 @@ fn printed_line(fault: LineFault) -> Printed {
 fn printed_stop(reason: StopReason) -> Printed {
     match reason {
         StopReason::Journal => Printed::Station(Fault::Disk),
-        StopReason::Silent => Printed::Wire(WireCode::Silent, None),
-        StopReason::Differs { slave, .. } => Printed::Wire(WireCode::Differs, Some(slave)),
-        StopReason::WordFailed { slave } => Printed::Wire(WireCode::WordFailed, Some(slave)),
-        StopReason::NotOneDatagram { slave } => Printed::Wire(WireCode::NotForWire, Some(slave)),
+        StopReason::Silent => Printed::Wire(Code::Silent, None),
+        StopReason::Differs { slave, .. } => Printed::Wire(Code::Differs, Some(slave)),
+        StopReason::WordFailed { slave } => Printed::Wire(Code::WordFailed, Some(slave)),
+        StopReason::NotOneDatagram { slave } => Printed::Wire(Code::NotForWire, Some(slave)),
     }
 }
 
@@ -105,23 +105,20 @@ impl WireFault {
             WireFault::Station(fault) => return Printed::Station(fault),
             WireFault::Line(fault) => return printed_line(fault),
             WireFault::Stopped { reason, .. } => return printed_stop(reason),
-            WireFault::OtherCount { slaves } => (WireCode::OtherCount, slaves),
-            WireFault::UnknownSize { slave, .. } => (WireCode::UnknownSize, slave),
-            WireFault::Running { slave } => (WireCode::Running, slave),
-            WireFault::Held { slave } => (WireCode::Held, slave),
-            WireFault::OtherSize { command, .. } => (WireCode::OtherSize, command),
+            WireFault::OtherCount { slaves } => (Code::OtherCount, slaves),
+            WireFault::UnknownSize { slave, .. } => (Code::UnknownSize, slave),
+            WireFault::Running { slave } => (Code::Running, slave),
+            WireFault::Held { slave } => (Code::Held, slave),
+            WireFault::OtherSize { command, .. } => (Code::OtherSize, command),
         };
         Printed::Wire(code, Some(number))
     }
 
-    /// The number and the name of the code that the fault is printed with.
-    pub fn code(self) -> (u8, &'static str) {
+    /// The code that the fault is printed with.
+    pub fn code(self) -> Code {
         match self.printed() {
-            Printed::Station(fault) => {
-                let code = fault.code();
-                (code.number(), code.entry().name)
-            }
-            Printed::Wire(code, _) => (code.number(), code.entry().name),
+            Printed::Station(fault) => fault.code(),
+            Printed::Wire(code, _) => code,
         }
     }
 
@@ -130,8 +127,9 @@ impl WireFault {
     pub fn status(self) -> ExitStatus {
         match self.printed() {
             Printed::Station(fault) => fault.status(),
-            Printed::Wire(WireCode::OtherCount | WireCode::OtherSize | WireCode::SmallerChip, _) =>
-                { ExitStatus::File }
+            Printed::Wire(Code::OtherCount | Code::OtherSize | Code::SmallerChip, _) => {
+                ExitStatus::File
+            }
             Printed::Wire(..) => ExitStatus::Device,
         }
     }

@@ -1,20 +1,17 @@
 -- What a backup does to files, as they are judged and written.
-use Rattle.std.proofs.Common.{◌≡◌, ◌≢◌, ◌⊎◌, ℕ, ◌+◌, ◌<◌, List, Option, Some, None, Result, Ok, Err, IfNone, IfSome, IsSome, IsSomeAnd, length, map, take}
+use Rattle.std.proofs.Common.{◌≡◌, ◌≢◌, ◌⊎◌, ℕ, ◌+◌, ◌<◌, List, Option, Some, None, Err, IfNone, IfSome, IsSome, IsSomeAnd, length, map, take}
 use Rattle.std.proofs.Common.{get_or, String, Global, string_bytes, refl, sym, ap, subst, ◌∙◌, inl, inr}
 use Rattle.std.specs.List.{AllZip}
 use Rattle.std.proofs.lemmas.List.{map_more, take_more}
 use Rattle.sii_words.proofs.Quantifiers.{zip_snoc}
-use Rattle.station_files.specs.Faults as station
 use Rattle.station_files.specs.FileNames.{IsLineApart, spelt}
 use Rattle.station_files.specs.Files.{Known, HasBytes, IsAbsent, ChangesAmong, ChangesOnly}
 use Rattle.station_files.specs.LineFiles.{DescribesLine, SpellsLine, SpellsWords, names_of}
 use Rattle.station_files.specs.Locations.{Leads}
-use Rattle.station_files.specs.declared.faults.Fault.{Fault}
 use Rattle.station_files.proofs.Loaded.{of_held}
 use Rattle.station_text.specs.declared.line_file.LineFile.{LineFile}
 use Rattle.wire_faults.specs.declared.faults.WireFault.{WireFault}
-use Rattle.wire_faults.specs.declared.faults.WireFault.TheVariants.{Station}
-use Rattle.wire_scan.specs.Backup.{Backs, ComesBeforeWrites, HasNoPast, IsBackedUp, IsPlanned, IsWithoutPast, KeepsAll, MayStay}
+use Rattle.wire_scan.specs.Backup.{Backs, HasNoPast, IsBackedUp, IsPlanned, IsWithoutPast, KeepsAll, MayStay}
 use Rattle.wire_scan.proofs.Writing.{journal_is_other, line_file_is_other, not_named, stays, words_stay}
 
 -- ---- files that are there keep their bytes
@@ -54,34 +51,7 @@ unchanged fault old new name same =
     let P : Known → Type 0 = λ files. Backs (Err fault) old files name in
     subst P (sym same) (record { kept = λ n bytes is. is; unwritten = λ early. refl; done = tt })
 
--- nothing was written before
-pub backs_behind : (result : Result (Unit {0}) WireFault) (old mid new : Known) (name : List ℕ) → mid ≡ old → Backs result mid new name → Backs result old new name
-backs_behind result old mid new name same backs = let P : Known → Type 0 = λ files. Backs result files new name in subst P same backs
-
--- a fault of a file, or want of memory, may come once something is written
-pub failed_late : (fault : Fault) (old new : Known) (name : List ℕ) → station.IsOfStream fault → KeepsAll old new → Backs (Err (Station fault)) old new name
-failed_late fault old new name (inl file) kept =
-    let P : Fault → Type 0 = λ f. ComesBeforeWrites (Station f) in
-    record { kept = kept; unwritten = λ early. absurd (subst P file early); done = tt }
-failed_late fault old new name (inr memory) kept =
-    let P : Fault → Type 0 = λ f. ComesBeforeWrites (Station f) in
-    record { kept = kept; unwritten = λ early. absurd (subst P memory early); done = tt }
-
--- nothing failed
-pub went_well : (old new : Known) (name : List ℕ) → KeepsAll old new → IsBackedUp new name → Backs (Ok tt) old new name
-went_well old new name kept done = record { kept = kept; unwritten = tt; done = done }
-
 -- ---- what is judged
-
--- nothing is written as it is judged
-pub still_planned : (old mid : Known) (name : List ℕ) (line : LineFile) (text : Option (String Global)) → mid ≡ old → IsPlanned old name line text → IsPlanned mid name line text
-still_planned old mid name line text same planned = let P : Known → Type 0 = λ files. IsPlanned files name line text in subst P (sym same) planned
-
-pub still_stay : (old mid : Known) (line : LineFile) (plant : List (List ℕ)) → mid ≡ old → AllZip (MayStay old) (names_of line) plant → AllZip (MayStay mid) (names_of line) plant
-still_stay old mid line plant same judged = let P : Known → Type 0 = λ files. AllZip (MayStay files) (names_of line) plant in subst P (sym same) judged
-
-pub still_past : (old mid : Known) (name sizes : List ℕ) → mid ≡ old → HasNoPast old name sizes → HasNoPast mid name sizes
-still_past old mid name sizes same judged = let P : Known → Type 0 = λ files. HasNoPast files name sizes in subst P (sym same) judged
 
 -- one more image file may stay
 pub one_more_stays : (old now : Known) (names : List (String Global)) (plant : List (List ℕ)) (i : ℕ) (image : String Global) (name words : List ℕ) → i < length names → i < length plant → now ≡ old

@@ -9,10 +9,8 @@ pub struct Asked {
     pub is_forced: bool,
     /// Commands may make word 0x3E tell another size than the EEPROM has.
     pub resizes: bool,
-    /// What has changed on the line is printed at the end.
-    pub reports: bool,
-    /// It is printed as it happens how many commands are durable and settled, and at the end whether the process image is another one.
-    pub tells_events: bool,
+    /// What is to be told.
+    pub tells: Tells,
 }
 
 /// What is told of the work on a line, beside its answers.
@@ -22,14 +20,4 @@ pub struct Tells {
     pub report: bool,
     /// How many commands are durable and settled, as it happens, and at the end whether the process image is another one.
     pub events: bool,
-}
-
-impl Asked {
-    /// What is to be told.
-    pub(crate) fn tells(self) -> Tells {
-        Tells {
-            report: self.reports,
-            events: self.tells_events,
-        }
-    }
 }

@@ -65,8 +65,8 @@ fn measured_slaves<R: Clock + AllocGlobal, W: Wire, O: Write>(
     Ok(found.into_words(rt.alloc())?)
 }
 
-/// Writes the files of a backup.
-#[tactic(auto, using(crate::proofs::Kept::unchanged, crate::proofs::Kept::backs_behind, crate::proofs::Kept::still_planned))]
+/// Writes the files of a backup, if what is there of them may stay.
+#[tactic(auto, using(crate::proofs::Kept::unchanged))]
 fn save_backup<S: Store>(
     alloc: Global,
     name: &str,
@@ -75,48 +75,15 @@ fn save_backup<S: Store>(
 ) -> Result<(), WireFault>
     ensures { Backs result (S.files store.old) (S.files store.new) name.now }
 {
-    match plan_backup(alloc, name, slaves.len(), store) {
-        Ok(plan) => save_plan(alloc, name, &plan, slaves, store),
-        Err(fault) => Err(fault),
-    }
-}
-
-/// Writes the files of a plan, if what is there of them may stay.
-#[tactic(auto, using(crate::proofs::Kept::unchanged, crate::proofs::Kept::backs_behind, crate::proofs::Kept::still_planned, crate::proofs::Kept::still_stay, crate::proofs::Kept::still_past))]
-fn save_plan<S: Store>(
-    alloc: Global,
-    name: &str,
-    plan: &Plan,
-    slaves: &[Words],
-    store: &mut S,
-) -> Result<(), WireFault>
-    requires count { vec_len plan.now.line.images ≡ length slaves.now }
-    requires planned { IsPlanned (S.files store.old) name.now plan.now.line plan.now.text }
-    requires apart { IsLineApart S.leads plan.now.line name.now }
-    ensures { Backs result (S.files store.old) (S.files store.new) name.now }
-{
+    let plan = match plan_backup(alloc, name, slaves.len(), store) {
+        Ok(plan) => plan,
+        Err(fault) => return Err(fault),
+    };
     match judge_files(alloc, &plan.line, slaves, store) {
-        Ok(()) => save_judged(name, plan, slaves, store),
-        Err(fault) => Err(WireFault::Station(fault)),
+        Ok(()) => {}
+        Err(fault) => return Err(WireFault::Station(fault)),
     }
-}
-
-/// Writes the files of a plan. What is there of them may stay.
-#[tactic(auto, using(crate::proofs::Kept::failed_late, crate::proofs::Kept::went_well))]
-fn save_judged<S: Store>(
-    name: &str,
-    plan: &Plan,
-    slaves: &[Words],
-    store: &mut S,
-) -> Result<(), WireFault>
-    requires count { vec_len plan.now.line.images ≡ length slaves.now }
-    requires planned { IsPlanned (S.files store.old) name.now plan.now.line plan.now.text }
-    requires apart { IsLineApart S.leads plan.now.line name.now }
-    requires images { AllZip (MayStay (S.files store.old)) (names_of plan.now.line) slaves.now }
-    requires journal { HasNoPast (S.files store.old) (string_bytes plan.now.line.journal) (map length slaves.now) }
-    ensures { Backs result (S.files store.old) (S.files store.new) name.now }
-{
-    match write_plan(name, plan, slaves, store) {
+    match write_plan(name, &plan, slaves, store) {
         Ok(()) => Ok(()),
         Err(fault) => Err(WireFault::Station(fault)),
     }

@@ -33,20 +33,13 @@ pub fn judge_slaves(alloc: Global, found: FoundLine, wanted: usize) -> Result<Ve
 /// For the first slave of so many: `Running` where it is in Safe-Operational or Operational, and `Held` where its PDI has the EEPROM or is
 /// offered it.
 pub(crate) fn judge_states(states: &[SlaveState], slaves: usize) -> Result<(), WireFault> {
-    for (slave, state) in states.iter().enumerate() {
-        if slave < slaves {
-            judge_state(slave, *state)?;
+    for (slave, state) in states.iter().take(slaves).enumerate() {
+        if state.is_above_preop() {
+            return Err(WireFault::Running { slave });
         }
-    }
-    Ok(())
-}
-
-fn judge_state(slave: usize, state: SlaveState) -> Result<(), WireFault> {
-    if state.is_above_preop() {
-        return Err(WireFault::Running { slave });
-    }
-    if state.is_with_pdi() {
-        return Err(WireFault::Held { slave });
+        if state.is_with_pdi() {
+            return Err(WireFault::Held { slave });
+        }
     }
     Ok(())
 }

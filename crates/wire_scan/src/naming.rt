@@ -3,10 +3,10 @@ ghost use Rattle.std.specs.Prelude.{◌≡◌, [], ◌∷◌, ◌++◌, length, 
 ghost use Rattle.station_files.specs.FileNames.{files_with, written_of};
 ghost use Rattle.station_files.specs.Locations.{AreApart};
 
-use crate::plan::{is_there, new_line};
+use crate::plan::{is_there, new_plan};
 use station_files::{Fault, FileNames, Store, keep_apart, load_line};
 use station_text::LineFile;
-use std::alloc::{AllocError, Global};
+use std::alloc::Global;
 
 /// The most slaves of a line.
 const MOST_SLAVES: usize = 64;
@@ -65,43 +65,19 @@ pub fn keep_capture_apart<S: Store>(
 ) -> Result<(), Fault>
     ensures { S.files store.new ≡ S.files store.old }
 {
-    match line_named(alloc, names.line, store)? {
-        Some(line) => {
-            let files = files_around(alloc, names, &line)?;
-            keep_apart(alloc, &files, store)
-        }
-        None => Ok(()),
-    }
-}
-
-/// The files of a call that is captured.
-fn files_around(
-    alloc: Global,
-    names: CaptureNames<'_>,
-    line: &LineFile,
-) -> Result<FileNames, AllocError> {
-    let files = FileNames::of_line(alloc, line, names.line, Some(names.capture))?;
+    let planned = if is_there(names.line, store)? {
+        load_line(alloc, names.line, store)
+    } else {
+        new_plan(alloc, names.line, MOST_SLAVES).map(|plan| plan.line)
+    };
+    let line = match planned {
+        Ok(line) => line,
+        Err(Fault::Memory) => return Err(Fault::Memory),
+        Err(_) => return Ok(()),
+    };
+    let files = FileNames::of_line(alloc, &line, names.line, Some(names.capture))?;
     match names.script {
-        Some(script) => files.with_script(alloc, script),
-        None => Ok(files),
-    }
-}
-
-/// The line that the line file describes, or, where there is none, that of the largest backup. `None` where it describes no line.
-fn line_named<S: Store>(alloc: Global, name: &str, store: &mut S) -> Result<Option<LineFile>, Fault>
-    ensures { S.files store.new ≡ S.files store.old }
-{
-    if !is_there(name, store)? {
-        return described(new_line(alloc, name, MOST_SLAVES));
-    }
-    described(load_line(alloc, name, store))
-}
-
-/// The line, unless it is none.
-fn described(line: Result<LineFile, Fault>) -> Result<Option<LineFile>, Fault> {
-    match line {
-        Ok(line) => Ok(Some(line)),
-        Err(Fault::Memory) => Err(Fault::Memory),
-        Err(_) => Ok(None),
+        Some(script) => keep_apart(alloc, &files.with_script(alloc, script)?, store),
+        None => keep_apart(alloc, &files, store),
     }
 }

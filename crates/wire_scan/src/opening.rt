@@ -63,56 +63,18 @@ pub fn find_line<R: Clock + AllocGlobal, W: Wire, S: Store>(
     ensures most { IfOk result (λ found. length found.slaves.items ≤ 64) }
     ensures same { S.files store.new ≡ S.files store.old }
 {
-    // On a wire that is lent slaves may be in any state, and who has their EEPROMs is judged as they are opened.
-    let asked = Asked {
-        is_forced: asked.is_forced || wire.is_lent(),
-        ..asked
-    };
     let line = load_line(rt.alloc(), name, store)?;
     let lock = lock_journal(rt.alloc(), name, &line, store)?;
-    match read_line(rt, wire, &line, asked, store) {
-        Ok(read) => Ok(Found {
-            line,
-            slaves: read.slaves,
-            states: read.states,
-            journal: read.journal,
-            lock,
-            tells: asked.tells(),
-        }),
-        Err(fault) => Err(fault),
-    }
-}
-
-/// What is read of a line.
-#[derive(Drop)]
-struct LineRead {
-    slaves: Vec<Words>,
-    states: [SlaveState; 64],
-    journal: Vec<u8>,
-}
-
-/// Brings up a line, and reads its journal. After a fault the EEPROMs are handed back.
-fn read_line<R: Clock + AllocGlobal, W: Wire, S: Store>(
-    rt: &R,
-    wire: &mut NumberedWire<W>,
-    line: &LineFile,
-    asked: Asked,
-    store: &mut S,
-) -> Result<LineRead, WireFault>
-    ensures count { IfOk result (λ read. length read.slaves.items ≡ length line.now.images.items) }
-    ensures journal { IfOk result (λ read. HasBytes (S.files store.old) (string_bytes line.now.journal) read.journal.items) }
-    ensures judged { IfOk result (λ read. HasJournal (map length read.slaves.items) read.journal.items) }
-    ensures some { IfOk result (λ read. 1 ≤ length read.slaves.items) }
-    ensures most { IfOk result (λ read. length read.slaves.items ≤ 64) }
-    ensures same { S.files store.new ≡ S.files store.old }
-{
-    let found = bring_up_judged(rt, wire, line, asked, store)?;
+    let found = bring_up_judged(rt, wire, &line, asked, store)?;
     let states = found.states();
-    match read_found(rt.alloc(), line, found, store) {
-        Ok((slaves, journal)) => Ok(LineRead {
+    match read_found(rt.alloc(), &line, found, store) {
+        Ok((slaves, journal)) => Ok(Found {
+            line,
             slaves,
             states,
             journal,
+            lock,
+            tells: asked.tells,
         }),
         Err(fault) => {
             hand_back(wire, &states);
@@ -134,14 +96,13 @@ fn bring_up_judged<R: Clock + AllocGlobal, W: Wire, S: Store>(
     ensures same { S.files store.new ≡ S.files store.old }
 {
     let sizes = sizes_of_images(rt.alloc(), &line.images, asked.trusts_images, store)?;
-    if !asked.is_forced {
+    // On a wire that is lent slaves may be in any state, and who has their EEPROMs is judged as they are opened.
+    if !asked.is_forced && !wire.is_lent() {
         let seen = look_along(wire)?;
         judge_states(&seen.states, usize::from(seen.slaves))?;
     }
-    match bring_up(rt.alloc(), wire, rt, &sizes) {
-        Ok(found) => Ok(found),
-        Err(fault) => Err(WireFault::Line(fault)),
-    }
+    let found = bring_up(rt.alloc(), wire, rt, &sizes)?;
+    Ok(found)
 }
 
 /// The words of the slaves of a line that was brought up, and the bytes of its journal, which is one of these slaves.
@@ -173,16 +134,14 @@ fn lock_journal<S: Store>(
     ensures apart { OnOk result (IsLineApart S.leads line.now name.now) }
     ensures same { S.files store.new ≡ S.files store.old }
 {
-    let Some(lock) = store.lock(line.journal.as_str())? else {
-        return match store.look(line.journal.as_str())? {
-            Entry::Other => {
-                let fault = Fault::NotAFile;
-                let place = Place::File(line.journal.as_str());
-                store.note(fault.code(), place, &Wrong::NotAFile);
-                Err(fault)
-            }
-            _ => Err(Fault::File),
-        };
+    let journal = line.journal.as_str();
+    let Some(lock) = store.lock(journal)? else {
+        if !matches!(store.look(journal)?, Entry::Other) {
+            return Err(Fault::File);
+        }
+        let fault = Fault::NotAFile;
+        store.note(fault.code(), Place::File(journal), &Wrong::NotAFile);
+        return Err(fault);
     };
     match keep_line_apart(alloc, line, name, store) {
         Ok(()) => Ok(lock),

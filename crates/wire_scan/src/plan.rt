@@ -1,13 +1,12 @@
 //! Which files a backup writes.
 ghost use Rattle.std.specs.Prelude.{◌≡◌, vec_len, IfOk, IfSome, IsSome, false, true};
 ghost use Rattle.station_files.specs.FileNames.{IsLineApart};
-ghost use Rattle.station_files.specs.Files.{IsAbsent};
-ghost use Rattle.station_files.specs.LineFiles.{DescribesLine};
+ghost use Rattle.station_files.specs.Files.{IsAbsent, Known};
 ghost use Rattle.wire_scan.specs.Backup.{IsPlanned};
 
 use station_files::{Entry, Fault, Store, keep_line_apart, load_line};
 use station_text::{LineFile, read_line};
-use std::alloc::{AllocError, Global};
+use std::alloc::Global;
 use std::io;
 use wire_faults::WireFault;
 
@@ -59,12 +58,7 @@ fn plan_line<S: Store>(
         let line = load_line(alloc, name, store)?;
         Ok(Plan { line, text: None })
     } else {
-        let text = line_text(alloc, name, slaves)?;
-        let line = line_of_text(alloc, text.as_str(), slaves)?;
-        Ok(Plan {
-            line,
-            text: Some(text),
-        })
+        new_plan(alloc, name, slaves)
     }
 }
 
@@ -84,54 +78,27 @@ pub(crate) fn is_there<S: Store>(name: &str, store: &mut S) -> io::Result<bool>
     }
 }
 
-/// The line that a backup of so many slaves makes, where the line file `name` isn't there.
+/// The line that a backup of so many slaves makes where the line file `name` isn't there, and the text of that, which names the journal and the
+/// image file of each slave beside it.
 ///
 /// # Errors
 ///
 /// `BadLine` where a line file can't spell names beside `name`; `Memory`.
-pub(crate) fn new_line(alloc: Global, name: &str, slaves: usize) -> Result<LineFile, Fault> {
-    let text = line_text(alloc, name, slaves)?;
-    line_of_text(alloc, text.as_str(), slaves)
-}
-
-/// The line that the text describes, which has so many slaves.
-fn line_of_text(alloc: Global, text: &str, slaves: usize) -> Result<LineFile, Fault>
-    ensures { IfOk result (DescribesLine text.now) }
+pub(crate) fn new_plan(alloc: Global, name: &str, slaves: usize) -> Result<Plan, Fault>
+    ensures { IfOk result (λ plan. (files : Known) → IsAbsent files name.now → IsPlanned files name.now plan.line plan.text) }
 {
-    let line = read_line(alloc, text)?;
-    if line.images.len() == slaves {
-        Ok(line)
-    } else {
-        Err(Fault::BadLine)
-    }
-}
-
-/// The name of a line file without its ending `.toml`.
-fn stem_of(name: &str) -> &str {
-    match name.strip_suffix(".toml") {
-        Some(stem) => stem,
-        None => name,
-    }
-}
-
-/// The text of a line file, which names the journal and the image file of each slave beside it.
-fn line_text(alloc: Global, name: &str, slaves: usize) -> Result<String, AllocError> {
-    let stem = stem_of(name);
+    let stem = name.strip_suffix(".toml").unwrap_or(name);
     let mut text = format!(in alloc; "journal = '{stem}-journal.bin'\n")?;
     for slave in 0..slaves {
-        push_slave(alloc, stem, slave, &mut text)?;
+        let table = format!(in alloc; "[[slave]]\nimage = '{stem}-s{slave}.bin'\n")?;
+        text.push_str(table.as_str())?;
     }
-    Ok(text)
-}
-
-/// Adds the table of a slave.
-fn push_slave(
-    alloc: Global,
-    stem: &str,
-    slave: usize,
-    text: &mut String,
-) -> Result<(), AllocError> {
-    let table = format!(in alloc; "[[slave]]\nimage = '{stem}-s{slave}.bin'\n")?;
-    text.push_str(table.as_str())?;
-    Ok(())
+    let line = read_line(alloc, text.as_str())?;
+    if line.images.len() != slaves {
+        return Err(Fault::BadLine);
+    }
+    Ok(Plan {
+        line,
+        text: Some(text),
+    })
 }

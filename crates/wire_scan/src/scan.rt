@@ -28,31 +28,15 @@ pub fn scan_line<R: Clock + AllocGlobal, W: Wire, O: Write>(
     let found = bring_up(rt.alloc(), wire, rt, sizes)?;
     hand_back(wire, &found.states());
     rows_of(rt.alloc(), form, &found)?.write(output)?;
-    match first_fault(&found) {
-        Some(fault) => Err(WireFault::Line(fault)),
-        None => Ok(()),
-    }
-}
-
-/// Why the first slave can't be worked on that can't.
-fn first_fault(found: &FoundLine) -> Option<LineFault> {
-    let mut slave = 0u16;
-    for each in &found.slaves {
-        if let Err(why) = each.words {
-            return Some(LineFault::Slave { slave, why });
-        }
-        slave = slave.saturating_add(1);
-    }
-    None
+    let _words = found.into_words(rt.alloc())?;
+    Ok(())
 }
 
 /// The rows of the slaves that were found.
 fn rows_of(alloc: Global, form: Form, found: &FoundLine) -> Result<Rows, AllocError> {
     let mut rows = Rows::new(alloc, form);
-    let mut slave = 0u16;
-    for each in &found.slaves {
+    for (slave, each) in (0u16..).zip(&found.slaves) {
         put_slave(&mut rows, slave, each)?;
-        slave = slave.saturating_add(1);
     }
     Ok(rows)
 }
@@ -85,12 +69,12 @@ fn put_slave(rows: &mut Rows, slave: u16, found: &FoundSlave) -> Result<(), Allo
 
 /// Why a slave can't be worked on, which text prints so.
 fn fault_cells<'a>(text: &'a str, fault: WireFault) -> [Cell<'a>; 5] {
-    let (code, name) = fault.code();
+    let code = fault.code();
     [
         said("", text),
         data("fault", Value::Begin),
-        data("code", code),
-        data("name", name),
+        data("code", code.number()),
+        data("name", code.entry().name),
         END,
     ]
 }

@@ -25,21 +25,13 @@ pub fn sizes_of_images<S: Store>(
         ..Sizes::unknown()
     };
     for slave in 0..names.len() {
-        let given = size_of_image(alloc, names[slave].as_str(), store)?;
-        if let Some(slot) = sizes.given.get_mut(slave) {
-            *slot = given;
+        let name = names[slave].as_str();
+        if is_there(name, store)? {
+            let words = load_slave(alloc, name, store)?;
+            if let Some(slot) = sizes.given.get_mut(slave) {
+                *slot = u16::try_from(words.len()).ok();
+            }
         }
     }
     Ok(sizes)
-}
-
-/// The number of words of an image file. None where it isn't there.
-fn size_of_image<S: Store>(alloc: Global, name: &str, store: &mut S) -> Result<Option<u16>, Fault>
-    ensures { S.files store.new ≡ S.files store.old }
-{
-    if !is_there(name, store)? {
-        return Ok(None);
-    }
-    let words = load_slave(alloc, name, store)?;
-    Ok(u16::try_from(words.len()).ok())
 }

@@ -156,7 +156,7 @@ found_behind old mid name line plant bytes same found = subst (λ (files : Known
 
 pub runs : (worked : Worked ExitStatus WireTold) (leads : Leads) (old found new : Known) (name script : List ℕ) (line : LineFile)
     (plant : List (List ℕ)) (bytes : List ℕ) (commands : List Command) → IsFound old name line plant bytes
-    → HasJournal (map length plant) bytes → SpellsCommands old script commands → IsRunApart leads None line name script → found ≡ old
+    → HasJournal (map length plant) bytes → SpellsCommands old script commands → IsRunApart leads line name script → found ≡ old
     → EndsFound worked found new line plant bytes commands → RunsScript worked leads old new name script
 runs worked leads old found new name script line plant bytes commands given judged spelt apart same ends =
     let P : Known → Type 0 = λ files. EndsFound worked files new line plant bytes commands in

@@ -1,5 +1,5 @@
 -- `plan` on a wire: what a run of the commands would do to the slaves as they were found.
-use Rattle.std.specs.Prelude.{ℕ, List, None}
+use Rattle.std.specs.Prelude.{ℕ, List}
 use Rattle.sii_edit.specs.declared.command.Command.{Command}
 use Rattle.site_shadow.specs.Site.{SiteValue}
 use Rattle.station_text.specs.declared.line_file.LineFile.{LineFile}
@@ -26,5 +26,5 @@ pub record PlansOnWire (leads : Leads) (files : Known) (name script : List ℕ) 
   pub found : IsFound files name line plant bytes
   pub commands : List Command
   pub spelt : SpellsCommands files script commands
-  pub apart : IsRunApart leads None line name script
+  pub apart : IsRunApart leads line name script
   pub plans : PlansFound plant bytes commands status

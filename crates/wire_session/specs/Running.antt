@@ -57,7 +57,7 @@ pub record RunsFound (worked : Worked ExitStatus WireTold) (leads : Leads) (old 
   pub judged : HasJournal (map length plant) bytes
   pub commands : List Command
   pub spelt : SpellsCommands old script commands
-  pub apart : IsRunApart leads None line name script
+  pub apart : IsRunApart leads line name script
   pub ends : EndsFound worked old new line plant bytes commands
 
 -- what `run` does: it stops before it writes and before the line has a device, as where the journal is refused; or it runs the commands

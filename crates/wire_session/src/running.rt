@@ -110,7 +110,7 @@ pub(crate) fn find_all<R: Clock + AllocGlobal, W: Wire, S: Store>(
     ensures most { IfOk result (λ given. length given.found.slaves.items ≤ 64) }
     ensures spelt { IfOk result (λ given. SpellsCommands (S.files store.old) order.entry.named.script.now given.commands.items) }
     ensures apart { IfOk result (λ given.
-        IsRunApart S.leads None given.found.line order.entry.named.line.now order.entry.named.script.now) }
+        IsRunApart S.leads given.found.line order.entry.named.line.now order.entry.named.script.now) }
     ensures same { S.files store.new ≡ S.files store.old }
 {
     let RunOrder { named, asked } = order;
@@ -270,7 +270,7 @@ fn run_site<R: Wait + Threads + AllocGlobal + Sync, D: TellsPart + Send, S: Stor
         start.site work.commands.items) result.ended (S.files store.old) (S.files store.new) line.now }
 {
     let Start { site, was_old } = start;
-    match open_station(rt.alloc(), site, was_old, None) {
+    match open_station(rt.alloc(), site, was_old) {
         Ok(alone) => run_threads(rt, line, alone, work, store, output),
         Err((left, fault)) => {
             drop(left);

@@ -26,3 +26,5 @@ mod side_by_side;
 mod sizes;
 #[cfg(test)]
 mod time_outs;
+#[cfg(test)]
+mod uncounted;

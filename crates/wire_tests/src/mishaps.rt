@@ -86,7 +86,8 @@ const CASES: &[Case] = &[
     (WRITE, 3, 0, 1, Fate::Turned(4, 1), DATAGRAM, NEW),
     (WRITE, 3, 0, 1, Fate::Turned(6, 1), DATAGRAM, NEW),
     (WRITE, 3, 0, 1, Fate::Turned(18, 1), DATAGRAM, NEW),
-    (WRITE, 3, 0, 1, Fate::Turned(20, 1), COUNTER, NEW),
+    // The working counter: what no slave counted is sent again.
+    (WRITE, 3, 0, 1, Fate::Turned(20, 1), GOES_ON, NEW),
     // The IRQ word, and what is free in the datagram with the number.
     (WRITE, 3, 0, 1, Fate::Turned(10, 1), GOES_ON, NEW),
     (WRITE, 3, 0, 1, Fate::Turned(23, 1), GOES_ON, NEW),
@@ -96,7 +97,8 @@ const CASES: &[Case] = &[
     (WRITE, 3, 1, 1, Fate::Turned(13, 0x1f), GOES_ON, NEW),
     (WRITE, 3, 1, 1, Fate::Turned(13, 0x20), ERRORS, NEW),
     (WRITE, 3, 1, 1, Fate::Turned(13, 0x40), ERRORS, NEW),
-    (WRITE, 3, 1, 1, Fate::Turned(14, 1), COUNTER, NEW),
+    (WRITE, 3, 1, 1, Fate::Turned(14, 1), GOES_ON, NEW),
+    (WRITE, 3, 1, 3, Fate::Turned(14, 1), COUNTER, NEW),
     // Busy, and bits 13 and 14 of a poll that finds it idle.
     (WRITE, 0, 1, 1, Fate::Turned(13, 0x80), GOES_ON, NEW),
     (WRITE, 0, 1, 1, Fate::Turned(13, 0x20), GOES_ON, NEW),

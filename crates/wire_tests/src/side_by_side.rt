@@ -136,7 +136,7 @@ const SIZE: Finding = Finding::Size(128, 128, Extent::Repeats(128), false);
 
 const SIX_SIZES: &[Finding] = &[SIZE, SIZE, SIZE, SIZE, SIZE, SIZE];
 
-const PLAINS: &[Slave] = &[PLAIN, PLAIN, PLAIN];
+pub(crate) const PLAINS: &[Slave] = &[PLAIN, PLAIN, PLAIN];
 
 const MIXED: &[Slave] = &[PLAIN, WIDE, PLAIN];
 
@@ -152,7 +152,7 @@ const STUCK: Finding = Finding::Dead(Cause::StuckBusy);
 
 const SHARED: Finding = Finding::Dead(Cause::Shared);
 
-const ALL_READ: &[Finding] = &[READ, READ, READ];
+pub(crate) const ALL_READ: &[Finding] = &[READ, READ, READ];
 
 // A slave that emulates its EEPROM of words that are all 0, and stays busy for two datagrams.
 const DELAYS: Slave = Slave {
@@ -201,7 +201,7 @@ const OVERCOUNTED: Mishap = Mishap {
 
 // How many frames are sent before those that tell each of three slaves to read: a broadcast, another one, and three addresses; AL status and
 // access of three; for each of three access by force, and access given back; a poll and a clearing of all three.
-const BEFORE: u32 = 2 + 3 + 2 * 3 + 2 * 3 + 2;
+pub(crate) const BEFORE: u32 = 2 + 3 + 2 * 3 + 2 * 3 + 2;
 
 // The first of these frames has three commands of ten bytes, at bytes 2, 24 and 46, and the number at 68. The second one has three polls, which have
 // ten bytes too. Of a datagram, byte 0 is the command, 2 and 3 are the station address, 4 and 5 the register, 6 the length, 10 and further the

@@ -81,7 +81,12 @@ pub(crate) fn keep_read<W: Wire>(ahead: &mut Ahead, slave: u16, station: u16, wo
 }
 
 /// A word of the slave with this station address, and the next one, if they were kept.
-pub fn kept_of<W: Wire>(ahead: &Ahead, slave: u16, station: u16, word: u16) -> Option<[u8; 4]>
+pub(crate) fn kept_of<W: Wire>(
+    ahead: &Ahead,
+    slave: u16,
+    station: u16,
+    word: u16,
+) -> Option<[u8; 4]>
     ensures { AllKept W.gives ahead.now → IfSome result (PairCame W.gives station word) }
 {
     let place = place_of(slave, word);

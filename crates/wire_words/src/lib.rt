@@ -8,7 +8,7 @@ mod reading;
 mod sizing;
 mod telling;
 
-pub use ahead::{Ahead, Kept, kept_of, nothing_ahead, words_at};
+pub use ahead::{Ahead, Kept, nothing_ahead, words_at};
 pub use in_step::{Readers, read_in_step};
 pub use reader::Reader;
 pub use reading::Read;

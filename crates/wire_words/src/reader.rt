@@ -13,7 +13,7 @@ use crate::reading::{EMPTY, Read, ReadSize, are_other, data_fetched, data_polled
 use crate::sizing::{block_behind, words_ahead};
 use crate::telling::Hitch;
 use ecat_frame::{Command, Datagram, Frame, fp};
-use esc_rom::{CONTENT, CONTROL};
+use rom_steps::{CONTENT, CONTROL};
 use wire_frames::{Last, Reply, UNCOUNTED, Wire, reply_at};
 
 /// How often a reader tries the same words that reads beside others.

@@ -8,7 +8,7 @@ ghost use Rattle.world_run.specs.Sides.{StandsAt, HandsTo};
 
 use ecat_frame::{Command, fp};
 use esc_model::{Rest, RomHalf, station_address};
-use esc_rom::{CONTROL, write_content};
+use rom_steps::{CONTROL, write_content};
 
 /// From this value on, the high byte of the control and status register shows an error (bit 13 or 14) or a busy slave (bit 15).
 const NOT_WELL: u8 = 0x20;

@@ -1,16 +1,17 @@
 //! What a command line asks for.
 
 use crate::arguments::form_of;
+use crate::pages::code_asked;
 use crate::wire::rows::{rows, wire_program};
 use crate::wire::sizes::sizes_of;
 use command_line::{Given, Unread, read_typed, read_words, refuse};
+use station_listing::Code;
 use station_rows::Form;
 use std::alloc::Global;
 use std::time::Duration;
 use wire_bringup::Sizes;
-use wire_faults::code_asked;
 use wire_frames::{FRAME_BYTES, Room};
-use wire_scan::{Asked, Named};
+use wire_scan::{Asked, CaptureNames, Named, Tells};
 use wire_session::RunOrder;
 
 /// A command line: what it asks for, and where its text and its frames go.
@@ -22,6 +23,8 @@ pub struct Arguments<'a> {
     pub time_out: Option<Duration>,
     /// The name of the file that each frame is written to, if there is one.
     pub capture: Option<&'a str>,
+    /// The capture and the files that it may be none of, if there are any.
+    pub apart: Option<CaptureNames<'a>>,
     /// Whose the wire is.
     pub tenure: Tenure,
     /// Whether faults have a second line where standard error is no terminal, too.
@@ -83,35 +86,9 @@ pub enum Task<'a> {
     },
     /// Explains one code, or all of them.
     Explain {
-        /// The number or the name of the code; `None` for all codes.
-        code: Option<&'a str>,
+        /// The code; `None` for all codes.
+        code: Option<Code>,
     },
-}
-
-impl<'a> Task<'a> {
-    /// The name of the line file, if the subcommand has one.
-    pub fn line(self) -> Option<&'a str> {
-        match self {
-            Task::Backup { line, .. } | Task::Init { line, .. } | Task::Recover { line, .. } => {
-                Some(line)
-            }
-            Task::Run(order) | Task::Plan { order, .. } => Some(order.named.line),
-            Task::Scan { .. } | Task::BackupTo { .. } | Task::Explain { .. } => None,
-        }
-    }
-
-    /// The name of the script, if the subcommand reads one.
-    pub fn script(self) -> Option<&'a str> {
-        match self {
-            Task::Run(order) | Task::Plan { order, .. } => Some(order.named.script),
-            _ => None,
-        }
-    }
-
-    /// Whether it is work on the slaves of a line, whose progress is told.
-    fn works_on_slaves(self) -> bool {
-        !matches!(self, Task::Explain { .. })
-    }
 }
 
 /// Whose the wire is.
@@ -141,14 +118,24 @@ pub fn read_arguments<'a>(alloc: Global, words: &'a [String]) -> Result<Argument
             text: given.text("text"),
             time_out: given.milliseconds("timeout"),
             capture: given.text("capture"),
+            apart: apart_in(&given),
             tenure,
             is_verbose: given.has("verbose"),
-            is_quiet: given.has("quiet") || !task.works_on_slaves(),
+            is_quiet: given.has("quiet") || matches!(task, Task::Explain { .. }),
             task,
             typed: read_typed(alloc, program, words, &given)?,
         }),
         Err(text) => Err(refuse(alloc, program, words, text)),
     }
+}
+
+/// The capture, and the names of the line file and the script, if there is a capture and a line file.
+fn apart_in<'a>(given: &Given<'a>) -> Option<CaptureNames<'a>> {
+    Some(CaptureNames {
+        capture: given.text("capture")?,
+        line: given.text("LINE")?,
+        script: given.text("SCRIPT"),
+    })
 }
 
 /// Whose the wire is, as the options of the subcommand say, or why they are refused.
@@ -190,33 +177,33 @@ fn room_of(text: &str) -> Option<Room> {
 
 /// The task of the subcommand that was given, or why its words are refused.
 fn task_of<'a>(given: &Given<'a>) -> Result<Task<'a>, &'static str> {
-    match given.subcommand {
-        "scan" => Ok(Task::Scan {
-            sizes: sizes_in(given)?,
-            form: form_of(given),
-        }),
-        "backup" => Ok(backup_task(given, sizes_in(given)?)),
-        "explain" => Ok(Task::Explain {
-            code: code_asked(given.text("CODE"))?,
-        }),
-        _ => plain_task(given),
-    }
-}
-
-/// The task of a subcommand whose words are never refused.
-fn plain_task<'a>(given: &Given<'a>) -> Result<Task<'a>, &'static str> {
     let line = given.word("LINE");
-    let asked = asked_apart(given);
-    match given.subcommand {
-        "init" => Ok(Task::Init { line, asked }),
-        "run" => Ok(Task::Run(order_of(given))),
-        "plan" => Ok(Task::Plan {
+    let form = form_of(given);
+    let task = match given.subcommand {
+        "scan" => Task::Scan {
+            sizes: sizes_in(given)?,
+            form,
+        },
+        "backup" => backup_task(given, sizes_in(given)?),
+        "init" => Task::Init {
+            line,
+            asked: asked_apart(given),
+        },
+        "run" => Task::Run(order_of(given)),
+        "plan" => Task::Plan {
             order: order_of(given),
-            form: form_of(given),
-        }),
-        "recover" => Ok(Task::Recover { line, asked }),
-        _ => Err("a subcommand is needed"),
-    }
+            form,
+        },
+        "recover" => Task::Recover {
+            line,
+            asked: asked_apart(given),
+        },
+        "explain" => Task::Explain {
+            code: code_asked(given)?,
+        },
+        _ => return Err("a subcommand is needed"),
+    };
+    Ok(task)
 }
 
 /// The task of `backup`: a line file is named, or a folder.
@@ -254,8 +241,10 @@ fn asked_in(given: &Given<'_>) -> Asked {
         trusts_images: given.has("trust-images"),
         is_forced: given.has("force"),
         resizes: given.has("resize"),
-        reports: given.has("report"),
-        tells_events: given.has("events"),
+        tells: Tells {
+            report: given.has("report"),
+            events: given.has("events"),
+        },
     }
 }
 

@@ -5,7 +5,6 @@ use command_line::Escaped;
 use jiff::Timestamp;
 use jiff::tz::Offset;
 use station_files::{ExitStatus, Fault, Store};
-use std::alloc::Global;
 use std::io::Write;
 use std::rt::Clock;
 use wire_bringup::Sizes;
@@ -61,21 +60,12 @@ pub(crate) fn back_up<H: Clock + AllocGlobal, W: Wire, S: Store, O: Write>(
 ///
 /// `File` where the system's clock can't be read; `Memory`.
 fn dated_name<R: Clock + AllocGlobal>(rt: &R, folder: &str) -> Result<String, Fault> {
-    match Timestamp::now(rt) {
-        Ok(now) => name_at(rt.alloc(), folder, now),
-        Err(_) => Err(Fault::File),
-    }
-}
-
-/// The name of a line file in this folder that says this instant, in UTC.
-///
-/// # Errors
-///
-/// `Memory`.
-fn name_at(alloc: Global, folder: &str, now: Timestamp) -> Result<String, Fault> {
+    let Ok(now) = Timestamp::now(rt) else {
+        return Err(Fault::File);
+    };
     let there = Offset::UTC.to_datetime(now);
-    match there.strftime(alloc, "%Y%m%d-%H%M%S") {
-        Ok(stamp) => Ok(format!(in alloc; "{folder}/{stamp}.toml")?),
+    match there.strftime(rt.alloc(), "%Y%m%d-%H%M%S") {
+        Ok(stamp) => Ok(format!(in rt.alloc(); "{folder}/{stamp}.toml")?),
         Err(_) => Err(Fault::Memory),
     }
 }

@@ -1,5 +1,6 @@
 //! The program as a function of its arguments and streams.
 
+use crate::pages::{explanation, print_page};
 use crate::wire::arguments::{Arguments, Task, Tenure};
 use crate::wire::backups::{back_up, back_up_to};
 use crate::wire::capture::{begin_capture, end_capture};
@@ -14,7 +15,7 @@ use std::rt::Clock;
 use std::sync::Wait;
 use std::thread::Threads;
 use std::time::Duration;
-use wire_faults::{WireFault, explain};
+use wire_faults::WireFault;
 use wire_frames::{EthernetWire, NumberedWire, TimedWire, Wire};
 use wire_scan::{CaptureNames, keep_capture_apart, scan_line};
 use wire_session::{init_on_wire, plan_on_wire, recover_line, run_script};
@@ -109,6 +110,7 @@ fn serve_job<
     let Arguments {
         task,
         capture,
+        apart,
         time_out,
         tenure,
         is_quiet,
@@ -120,7 +122,7 @@ fn serve_job<
         terminal,
     } = screen;
     let Connection { wire, number } = connection;
-    match begin_apart(rt.alloc(), capture, task, store) {
+    match begin_apart(rt.alloc(), capture, apart, store) {
         Ok(begun) => {
             let job = Job {
                 task,
@@ -194,7 +196,7 @@ fn do_observed<
     ended
 }
 
-/// Begins the capture, if one is named and it is none of the files that the task works on.
+/// Begins the capture, if one is named and it is none of the files that the call works on.
 ///
 /// # Errors
 ///
@@ -202,16 +204,10 @@ fn do_observed<
 fn begin_apart<S: Store>(
     alloc: Global,
     capture: Option<&str>,
-    task: Task<'_>,
+    apart: Option<CaptureNames<'_>>,
     store: &mut S,
 ) -> Result<Option<Capture<S::File>>, Fault> {
-    if let (Some(capture), Some(line)) = (capture, task.line()) {
-        let script = task.script();
-        let names = CaptureNames {
-            capture,
-            line,
-            script,
-        };
+    if let Some(names) = apart {
         keep_capture_apart(alloc, names, store)?;
     }
     begin_capture(capture, store)
@@ -252,7 +248,7 @@ fn do_task<
         Task::Recover { line, asked } => {
             all_done(recover_line(rt, wire, line, asked, store, output).into_ended())
         }
-        Task::Explain { code } => all_done(explain(rt.alloc(), code, output)),
+        Task::Explain { code } => all_done(print_page(explanation(rt.alloc(), code), output)),
     }
 }
 
@@ -277,20 +273,13 @@ fn status_of<S: Store, E: Write>(
         Err(fault) => {
             let _ = writeln!(faults, "{fault}");
             if is_told {
-                tell_more(fault, store, faults);
+                let _ = fault.tell(faults);
+                if let WireFault::Station(fault) = fault {
+                    tell_file(fault, OUTPUT, store, faults);
+                }
             }
             fault.status()
         }
-    }
-}
-
-/// Prints what there is to tell of a fault beside its code, if there is more than `explain` says.
-fn tell_more<S: Store, E: Write>(fault: WireFault, store: &Noting<'_, S>, faults: &mut E) {
-    if let Some(told) = fault.told() {
-        let _ = writeln!(faults, "{told}");
-    }
-    if let WireFault::Station(fault) = fault {
-        tell_file(fault, OUTPUT, store, faults);
     }
 }
 

@@ -6,4 +6,4 @@ use Rattle.sii_bytes.proofs.judging.judge_image.Goals as goal
 pub returns-in-Ok-list_image : goal.returns-in-Ok-list_image
 returns-in-Ok-list_image c =
     judged c.in-Ok-list_image.listing c.in-Ok.ensures.0
-    (subst (λ (words : List ℕ). SaysImage words c.in-Ok-list_image.listing) c.in-Ok.ensures.1 c.in-Ok-list_image.ensures) c.judge_listing-finding.ensures
+    (subst (λ (words : List ℕ). SaysImage words c.in-Ok-list_image.listing) c.in-Ok.ensures.1 c.in-Ok-list_image.ensures) c.judge_listing-code.ensures

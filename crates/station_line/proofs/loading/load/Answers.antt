@@ -1,11 +1,10 @@
-use Rattle.std.proofs.Common.{Bor, List, ℕ, ◌∙◌, inl, inr, subst, sym}
-use Rattle.std.specs.Prelude.{option_map}
+use Rattle.std.proofs.Common.{inl, inr, subst}
 use Rattle.station_files.specs.Files.{Known}
 use Rattle.station_files.specs.FileNames.{spelt}
 use Rattle.station_files.specs.ScriptFiles.{SpellsCommands}
 use Rattle.station_files.proofs.Loaded.{handed_on}
 use Rattle.station_line.specs.Refusals.{RefusesRun}
-use Rattle.station_line.proofs.Judged.{has_journal, journal_refused, run_apart, script_refused, some_mapped}
+use Rattle.station_line.proofs.Judged.{has_journal, journal_refused, run_apart, script_refused}
 use Rattle.station_line.proofs.loading.load.Goals as goal
 
 pub returns-in-None-clause-spelt : goal.returns-in-None-clause-spelt
@@ -19,7 +18,7 @@ returns-in-None-clause-journal g c =
 pub returns-in-None-clause-apart : goal.returns-in-None-clause-apart
 returns-in-None-clause-apart g c =
     let files = c.in-Ok.files in
-    run_apart g.S.Store.leads (option_map (λ (name : Bor (List ℕ)). name.now) c.args.capture) c.in_ok-session.session.line c.args.name.now c.args.script.now files.written (spelt files.names.items)
+    run_apart g.S.Store.leads c.in_ok-session.session.line c.args.name.now c.args.script.now files.written (spelt files.names.items)
     c.in-Ok.ensures.written c.in-Ok.ensures.names c.in-Ok-load_commands.ensures.apart
 
 pub returns-in-Some-clause-refused : goal.returns-in-Some-clause-refused
@@ -31,11 +30,10 @@ pub returns-in-Err-clause-refused : goal.returns-in-Err-clause-refused
 returns-in-Err-clause-refused g c =
     let session = c.in_ok-session.session in
     let files = c.in-Ok.files in
-    let f = λ (name : Bor (List ℕ)). name.now in
-    script_refused (g.S.Store.files c.args.store.now) (g.S.Store.files c.load_session.new.store) g.S.Store.leads (option_map f c.args.capture) session.line c.args.name.now c.args.script.now session.site files.has_capture files.written (spelt files.names.items) c.in-Err.fault
-    c.in_ok-session.ensures.loaded c.load_session.ensures.same (c.in-Ok.ensures.capture ∙ sym (some_mapped f c.args.capture)) c.in-Ok.ensures.written c.in-Ok.ensures.names c.in-Err.ensures.refused
+    script_refused (g.S.Store.files c.args.store.now) (g.S.Store.files c.load_session.new.store) g.S.Store.leads session.line c.args.name.now c.args.script.now session.site files.has_capture files.written (spelt files.names.items) c.in-Err.fault
+    c.in_ok-session.ensures.loaded c.load_session.ensures.same c.in-Ok.ensures.capture c.in-Ok.ensures.written c.in-Ok.ensures.names c.in-Err.ensures.refused
 
 pub returns-in_err-session-clause-refused : goal.returns-in_err-session-clause-refused
 returns-in_err-session-clause-refused g c =
-    handed_on (RefusesRun (g.S.Store.files c.args.store.now) g.S.Store.leads (option_map (λ (name : Bor (List ℕ)). name.now) c.args.capture) c.args.name.now c.args.script.now) c.from_residual.result c.in_err-session.field-0.0 c.from_residual.ensures.1
+    handed_on (RefusesRun (g.S.Store.files c.args.store.now) g.S.Store.leads c.args.name.now c.args.script.now) c.from_residual.result c.in_err-session.field-0.0 c.from_residual.ensures.1
     (inl c.in_err-session.ensures.refused)

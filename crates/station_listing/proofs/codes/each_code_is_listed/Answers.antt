@@ -6,7 +6,7 @@ use Rattle.station_listing.specs.declared.codes.TheConstants.{CODES}
 use Rattle.station_listing.proofs.codes.each_code_is_listed.Goals as goal
 
 -- the place of each code in the table
-listed : (code : Code) → (place : ℕ) × place < 44 × slice_index_or CODES place code ≡ code
+listed : (code : Code) → (place : ℕ) × place < 58 × slice_index_or CODES place code ≡ code
 listed codes.OddLength = (0, omega arith, refl)
 listed codes.BadSize = (1, omega arith, refl)
 listed codes.RunsOut = (2, omega arith, refl)
@@ -51,6 +51,20 @@ listed codes.Busy = (40, omega arith, refl)
 listed codes.SameFile = (41, omega arith, refl)
 listed codes.NotAFile = (42, omega arith, refl)
 listed codes.TooLong = (43, omega arith, refl)
+listed codes.Silent = (44, omega arith, refl)
+listed codes.NoSlaves = (45, omega arith, refl)
+listed codes.TooManySlaves = (46, omega arith, refl)
+listed codes.UnknownSize = (47, omega arith, refl)
+listed codes.OtherCount = (48, omega arith, refl)
+listed codes.Differs = (49, omega arith, refl)
+listed codes.WordFailed = (50, omega arith, refl)
+listed codes.Unconfirmed = (51, omega arith, refl)
+listed codes.NotForWire = (52, omega arith, refl)
+listed codes.SmallerChip = (53, omega arith, refl)
+listed codes.Running = (54, omega arith, refl)
+listed codes.Held = (55, omega arith, refl)
+listed codes.OtherSize = (56, omega arith, refl)
+listed codes.StationAddress = (57, omega arith, refl)
 
 pub returns : goal.returns
 returns c = listed c.args.code

@@ -2,7 +2,7 @@ use Rattle.std.proofs.Common.{ℕ, Bool, List, Option, Some, None, IfSome, optio
 use Rattle.std.proofs.lemmas.Result.{IfErr-weaker, IfOk-weaker}
 use Rattle.station_files.specs.Faults.{IsOfStream}
 use Rattle.station_files.specs.ImageText.{RefusesInput, text_of}
-use Rattle.station_files.specs.Show.{ShowsImage}
+use Rattle.station_rows.specs.Show.{ShowsImage}
 use Rattle.station_files.specs.declared.faults.Fault.{Fault}
 use Rattle.station_rows.proofs.show.show_image.Goals as goal
 

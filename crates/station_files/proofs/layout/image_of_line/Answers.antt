@@ -1,6 +1,6 @@
 use Rattle.station_files.specs.LineFiles.{RefusesLayout}
 use Rattle.station_files.proofs.Loaded.{handed_on, plant_refused}
-use Rattle.station_files.proofs.layout.list_line.Goals as goal
+use Rattle.station_files.proofs.layout.image_of_line.Goals as goal
 
 pub returns-in_err-plant-clause-refused : goal.returns-in_err-plant-clause-refused
 returns-in_err-plant-clause-refused g c =

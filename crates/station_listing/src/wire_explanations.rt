@@ -1,5 +1,5 @@
 //! What each code of a wire means, why it occurs and what to do about it.
-use station_listing::CodeEntry;
+use crate::codes::CodeEntry;
 
 pub(crate) const SILENT: CodeEntry = CodeEntry {
     name: "Silent",
