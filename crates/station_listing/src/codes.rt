@@ -66,6 +66,7 @@ pub enum Code {
     Held = 111,
     OtherSize = 112,
     StationAddress = 113,
+    OtherDevice = 114,
 }
 
 /// The entry of a code in the table.
@@ -78,7 +79,7 @@ pub struct CodeEntry {
 }
 
 /// All codes, in the order of their numbers.
-pub const CODES: [Code; 58] = [
+pub const CODES: [Code; 59] = [
     Code::OddLength,
     Code::BadSize,
     Code::RunsOut,
@@ -137,6 +138,7 @@ pub const CODES: [Code; 58] = [
     Code::Held,
     Code::OtherSize,
     Code::StationAddress,
+    Code::OtherDevice,
 ];
 
 /// Law: each code stands in the table `CODES`.
@@ -226,6 +228,7 @@ impl Code {
             Code::Running => &wire_explanations::RUNNING,
             Code::Held => &wire_explanations::HELD,
             Code::OtherSize => &wire_explanations::OTHER_SIZE,
+            Code::OtherDevice => &wire_explanations::OTHER_DEVICE,
             _ => &wire_explanations::STATION_ADDRESS,
         }
     }

@@ -94,3 +94,10 @@ pub(crate) const STATION_ADDRESS: CodeEntry = CodeEntry {
         slave with this number has 0, or that of an earlier one. Have the master give each slave an address before it starts the \
         station. Without a master leave --beside out. Nothing was written.",
 };
+
+pub(crate) const OTHER_DEVICE: CodeEntry = CodeEntry {
+    name: "OtherDevice",
+    explanation: "An image is that of another device than the slave. Its vendor or product differs from those of the slave with this \
+        number, or it has fewer words than its EEPROM. Look at both with show, and name the right slave or the right image. If the \
+        slave is to become this device, say --any-device. Nothing was written.",
+};

@@ -178,6 +178,18 @@ impl WireFault {
                 faults,
                 "command {command} makes word 0x3e of slave {slave} say {words} words, and its EEPROM has others: correct it, or say --resize"
             ),
+            WireFault::NotOne { found: 0, slaves } => writeln!(
+                faults,
+                "none of the {slaves} slaves of the line is like this: scan lists them"
+            ),
+            WireFault::NotOne { found, slaves } => writeln!(
+                faults,
+                "{found} of the {slaves} slaves of the line are like this: name one by its place, which scan lists"
+            ),
+            WireFault::OtherDevice { slave, why } => writeln!(
+                faults,
+                "slave {slave} has {why}: name the right slave or image, or say --any-device"
+            ),
             WireFault::Station(Fault::SlaveDead { slave }) => writeln!(
                 faults,
                 "slave {slave}: it stays busy, or its EEPROM doesn't acknowledge: switch it off and on, and recover the line"

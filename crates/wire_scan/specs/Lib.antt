@@ -1,2 +1,3 @@
 pub mod Backup
+pub mod Judging
 pub mod Opening

@@ -9,6 +9,8 @@ pub struct Asked {
     pub is_forced: bool,
     /// Commands may make word 0x3E tell another size than the EEPROM has.
     pub resizes: bool,
+    /// An image may be that of another device than its slave, or have fewer words.
+    pub any_device: bool,
     /// What is to be told.
     pub tells: Tells,
 }

@@ -65,9 +65,13 @@ fn measured_slaves<R: Clock + AllocGlobal, W: Wire, O: Write>(
     Ok(found.into_words(rt.alloc())?)
 }
 
-/// Writes the files of a backup, if what is there of them may stay.
+/// Writes the files of a backup of slaves with these words, as `backup_line` does, if what is there of them may stay.
+///
+/// # Errors
+///
+/// As for `backup_line`, behind those of the line.
 #[tactic(auto, using(crate::proofs::Kept::unchanged))]
-fn save_backup<S: Store>(
+pub fn save_backup<S: Store>(
     alloc: Global,
     name: &str,
     slaves: &[Words],

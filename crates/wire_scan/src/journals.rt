@@ -51,7 +51,7 @@ pub fn require_empty(alloc: Global, journal: &[u8], slaves: &[Words]) -> Result<
 }
 
 /// The number of words of each slave.
-fn sizes_of(alloc: Global, slaves: &[Words]) -> Result<Vec<u16>, AllocError>
+pub(crate) fn sizes_of(alloc: Global, slaves: &[Words]) -> Result<Vec<u16>, AllocError>
     ensures { IfOk result (λ sizes. sizes.items ≡ map length slaves.now) }
 {
     let mut sizes = Vec::new(alloc);

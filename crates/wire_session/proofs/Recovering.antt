@@ -105,6 +105,8 @@ refuses_early (wire.UnknownSize slave says) old new leads name same = same
 refuses_early (wire.Running slave) old new leads name same = same
 refuses_early (wire.Held slave) old new leads name same = same
 refuses_early (wire.OtherSize command slave words) old new leads name same = same
+refuses_early (wire.NotOne found slaves) old new leads name same = same
+refuses_early (wire.OtherDevice slave why) old new leads name same = same
 
 -- the line, the words and the journal were read one after the other
 pub begun_by : (old first second : Known) (name : List ℕ) (line : LineFile) (plant : List (List ℕ)) (bytes : List ℕ) → SpellsLine old name line → first ≡ old → SpellsSlaves first line plant → second ≡ first

@@ -33,7 +33,9 @@ use std::thread::Threads;
 use wire_bringup::hand_back;
 use wire_faults::WireFault;
 use wire_frames::{NumberedWire, Wire};
-use wire_scan::{Asked, Found, Named, find_line, judge_commands, keep_script_apart, open_journal};
+use wire_scan::{
+    Asked, Found, Named, find_line, judge_commands, judge_images, keep_script_apart, open_journal,
+};
 
 /// What a run is given, or the plan of one.
 #[derive(Clone, Copy)]
@@ -66,8 +68,8 @@ struct Start<S> {
 ///
 /// # Errors
 ///
-/// As for `load_script`; then as for `find_line` and `keep_script_apart`; then, unless that is allowed, as for `judge_commands`. Nothing
-/// is written up to there. Then as for `open_journal`, `open_station` and `serve_task`, or why the line on the wire has stopped. No image
+/// As for `load_script`; then as for `find_line` and `keep_script_apart`; then, unless that is allowed, as for `judge_commands`, and as for
+/// `judge_images`. Nothing is written up to there. Then as for `open_journal`, `open_station` and `serve_task`, or why the line on the wire has stopped. No image
 /// file is written up to there, and a recovery completes what was begun. Then `File` or `Memory`, as the store answers.
 pub fn run_script<
     R: Wait + Threads + Clock + AllocGlobal + Sync,
@@ -148,10 +150,13 @@ fn judge_script<S: Store>(
     ensures same { S.files store.new ≡ S.files store.old }
 {
     keep_script_apart(alloc, &found.line, named, store)?;
-    if asked.resizes {
+    if !asked.resizes {
+        judge_commands(alloc, &found.slaves, commands)?;
+    }
+    if asked.any_device {
         return Ok(());
     }
-    judge_commands(alloc, &found.slaves, commands)
+    judge_images(&found.slaves, commands)
 }
 
 /// Runs the commands on a line that was found, hands the EEPROMs back, and prints what has changed if that is asked for.

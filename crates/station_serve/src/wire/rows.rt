@@ -3,9 +3,12 @@
 use crate::arguments::{JSON, LINE, REPORT, VERBOSE};
 use crate::pages::explain_row;
 use crate::wire::shared_arguments::{
-    BESIDE, CAPTURE, CARRY, EVENTS, FORCE, QUIET, RESIZE, SCRIPT, TAKE, TRUST, WORDS,
+    ANY_DEVICE, BESIDE, CAPTURE, CARRY, EVENTS, FORCE, QUIET, RESIZE, SCRIPT, TAKE, TRUST, WORDS,
 };
-use command_line::{Argument, Kind, Program, Subcommand, TEXT, TIMEOUT, TYPED_COMMANDS, WIRE};
+use crate::wire::slave_rows::{alias_row, diff_row, read_row, show_row, verify_row, write_row};
+use command_line::{
+    Argument, INTERFACE, Kind, Program, STATE, Subcommand, TEXT, TIMEOUT, TYPED_COMMANDS, WIRE,
+};
 
 /// The help text on what `scan` prints.
 const SCAN_ANSWERS: &str = "Answers, a line for each slave:
@@ -143,7 +146,8 @@ Recover the line then: each durable command is done as a whole.
 
 Before a word is written it is refused: an image file larger than its slave's EEPROM
 (fault 109), a slave above Pre-Operational (110), an EEPROM that its PDI has (111),
-and a command that makes word 0x3e tell another size than the EEPROM has (112).";
+a command that makes word 0x3e tell another size than the EEPROM has (112), and an
+image of another vendor or product, or with fewer words than the EEPROM (114).";
 
 const RUN: Subcommand = Subcommand {
     name: "run",
@@ -160,6 +164,7 @@ const RUN: Subcommand = Subcommand {
         FORCE,
         TRUST,
         RESIZE,
+        ANY_DEVICE,
         REPORT,
         EVENTS,
         CAPTURE,
@@ -209,6 +214,7 @@ const PLAN: Subcommand = Subcommand {
         FORCE,
         TRUST,
         RESIZE,
+        ANY_DEVICE,
         CAPTURE,
         QUIET,
     ],
@@ -227,15 +233,36 @@ Each of these commands is then done as a whole, nothing of a command that didn't
 come to be durable is, and each image file has the words of its slave, also where
 it had others. A line can be recovered again at any time; of a line that is in
 order it says 0, 0, 0. After a fault of the line or the journal the image files
-are as they were. Recover the line again then.";
+are as they were. Recover the line again then.
+
+Without LINE it recovers the line on which alias or write was cut, and prints
+  line NAME        the name of its line file
+first. Where other words than those of its journal differ from what was read before
+that call, it is another line: fault 53 WrongLine, and nothing is written.";
+
+/// The line file of `recover`, where it isn't the line of the last call on one slave.
+const RECOVERED_LINE: Argument = Argument {
+    kind: Kind::OptionalWord,
+    help: "The line file; where it is left out, that of the last alias or write on this interface",
+    ..LINE
+};
 
 const RECOVER: Subcommand = Subcommand {
     name: "recover",
     about: "Recovers the line after a power cut",
     long_about: "Brings up the line, does what is live in its journal, and writes the words of each slave to its image file.",
-    after_help: "Example:\n  sii_wire -i eth0 recover line.toml",
+    after_help: "Examples:\n  sii_wire -i eth0 recover line.toml\n  sii_wire -i eth0 recover",
     after_long_help: RECOVER_ANSWERS,
-    arguments: &[LINE, BESIDE, CARRY, TAKE, TRUST, REPORT, CAPTURE, QUIET],
+    arguments: &[
+        RECOVERED_LINE,
+        BESIDE,
+        CARRY,
+        TAKE,
+        TRUST,
+        REPORT,
+        CAPTURE,
+        QUIET,
+    ],
 };
 
 fn recover_row() -> Subcommand {
@@ -244,9 +271,15 @@ fn recover_row() -> Subcommand {
 
 /// The subcommands, in the order of the help. A table that a function names becomes part of what is proved of it, so each row stands in a
 /// function of its own.
-pub(crate) fn rows() -> [Subcommand; 7] {
+pub(crate) fn rows() -> [Subcommand; 13] {
     [
         scan_row(),
+        read_row(),
+        show_row(),
+        alias_row(),
+        write_row(),
+        verify_row(),
+        diff_row(),
         backup_row(),
         init_row(),
         run_row(),
@@ -258,14 +291,15 @@ pub(crate) fn rows() -> [Subcommand; 7] {
 
 /// The help text on how the program is started, and on its exit status.
 const STARTING: &str =
-    "The network interface comes first: sii_wire -i eth0 scan. Without a name -i lists all;
---timeout MS (100) says after how long a frame is lost. Text goes to standard output,
-faults to standard error as: fault CODE NAME. explain says what a code means.
+    "The network interface comes first: sii_wire -i eth0 scan. Without a name -i lists all.
+A frame that isn't back after 100 milliseconds, or --timeout, is lost. Text goes to
+standard output, faults to standard error as: fault CODE NAME, and then what was seen
+and what to do, but for --quiet. explain says what a code means.
 Exit status: 0 done, 1 a command was refused, 2 wrong usage, 3 a file or its form,
 4 the line, 5 no memory.";
 
 /// What stands before the subcommand.
-const OPTIONS: &[Argument] = &[WIRE, TEXT, TIMEOUT, VERBOSE];
+const OPTIONS: &[Argument] = &[WIRE, TEXT, INTERFACE, TIMEOUT, STATE, VERBOSE];
 
 /// The program with these subcommands.
 pub(crate) fn wire_program(subcommands: &[Subcommand]) -> Program<'_> {

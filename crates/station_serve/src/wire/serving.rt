@@ -4,6 +4,8 @@ use crate::pages::{explanation, print_page};
 use crate::wire::arguments::{Arguments, Task, Tenure};
 use crate::wire::backups::{back_up, back_up_to};
 use crate::wire::capture::{begin_capture, end_capture};
+use crate::wire::changing::{change_slave, recover_last, require_ended};
+use crate::wire::one_slave::look_at_slave;
 use command_line::{InputScript, Script};
 use line_watch::{Capture, Cleared, ObservedWire, Progress};
 use station_files::{ExitStatus, Failures, Fault, Store, report_fault};
@@ -243,11 +245,21 @@ fn do_task<
         Task::Init { line, asked } => {
             all_done(init_on_wire(rt, &mut wire, line, asked, store, output))
         }
-        Task::Run(order) => run_script(rt, wire, order, store, output).into_ended(),
+        Task::Run { order, folder } => {
+            if let Some(folder) = folder {
+                require_ended(rt.alloc(), folder, store)?;
+            }
+            run_script(rt, wire, order, store, output).into_ended()
+        }
         Task::Plan { order, form } => plan_on_wire(rt, &mut wire, order, form, store, output),
         Task::Recover { line, asked } => {
             all_done(recover_line(rt, wire, line, asked, store, output).into_ended())
         }
+        Task::RecoverLast { folder, asked } => {
+            recover_last(rt, wire, folder, asked, store, output)
+        }
+        Task::Look(look) => look_at_slave(rt, &mut wire, look, store, output),
+        Task::Change(change) => change_slave(rt, wire, change, store, output),
         Task::Explain { code } => all_done(print_page(explanation(rt.alloc(), code), output)),
     }
 }

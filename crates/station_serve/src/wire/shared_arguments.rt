@@ -47,6 +47,13 @@ pub(crate) const RESIZE: Argument = Argument {
     long_help: "",
 };
 
+pub(crate) const ANY_DEVICE: Argument = Argument {
+    id: "any-device",
+    kind: Kind::Flag,
+    help: "Takes an image of another vendor or product, or with fewer words than the EEPROM",
+    long_help: "",
+};
+
 /// The help text on work beside a master.
 const BESIDE_HELP: &str =
     "A master keeps the line running, and lends the wire. Slaves keep the station addresses
@@ -87,12 +94,13 @@ pub(crate) const TAKE: Argument = Argument {
 pub(crate) const QUIET: Argument = Argument {
     id: "quiet",
     kind: Kind::ShortFlag('q'),
-    help: "Draws no line with the progress",
-    long_help: "Draws no line with the progress. Without this option, where standard error is a
-terminal and the work takes longer than a second, a line there says how many words
-were read and how many were written, each as often as that was done, and how many
-slaves are busy with one. It is drawn over itself ten times a second at most, and
-erased before anything else is printed and at the end.",
+    help: "Draws no line with the progress, and prints no second line of a fault",
+    long_help: "Draws no line with the progress, and prints no second line of a fault, which says what
+was seen and what to do. Without this option, where standard error is a terminal
+and the work takes longer than a second, a line there says how many words were read
+and how many were written, each as often as that was done, and how many slaves are
+busy with one. It is drawn over itself ten times a second at most, and erased before
+anything else is printed and at the end.",
 };
 
 /// What happens, as it happens.
