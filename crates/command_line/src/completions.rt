@@ -26,6 +26,7 @@ const BASH: &str = "_@p() {
     case $sub in
     '') names='@s' options='~ --@l~' ;;
     help) names='@s' ;;
+    completions) names='bash zsh fish' ;;
 %    @n) options='~ --@l~' ;;
 %    esac
     if [[ $word == -* ]]; then
@@ -33,7 +34,7 @@ const BASH: &str = "_@p() {
     elif [[ $names ]]; then
         COMPREPLY=($(compgen -W \"$names\" -- \"$word\"))
     else
-        COMPREPLY=($(compgen -f -- \"$word\"))
+        mapfile -t COMPREPLY < <(compgen -f -- \"$word\")
     fi
 }
 complete -o filenames -F _@p @p
@@ -150,7 +151,7 @@ fn push_options(
     text: &mut String,
 ) -> Result<(), AllocError> {
     for option in subject.command.get_arguments() {
-        if option.get_long().is_some() {
+        if option.get_long().is_some() && !option.is_hide_set() {
             let option = Some(option);
             push_words(words, Subject { option, ..subject }, text)?;
         }

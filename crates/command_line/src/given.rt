@@ -145,3 +145,27 @@ pub fn is_digits(text: &str) -> bool {
     }
     true
 }
+
+/// The number that a text spells, in decimal digits, or in hexadecimal ones behind `0x`, as in a script. A sign is not taken.
+pub fn number_in(text: &str) -> Option<u32> {
+    match text.strip_prefix("0x") {
+        Some(digits) if is_hexadecimal(digits) => u32::from_str_radix(digits, 16).ok(),
+        None if is_digits(text) => text.parse::<u32>().ok(),
+        _ => None,
+    }
+}
+
+/// The number of 0 to 65535 that a text spells so.
+pub fn small_in(text: &str) -> Option<u16> {
+    u16::try_from(number_in(text)?).ok()
+}
+
+/// Whether a text has hexadecimal digits only.
+fn is_hexadecimal(text: &str) -> bool {
+    for byte in text.bytes() {
+        if !byte.is_ascii_hexdigit() {
+            return false;
+        }
+    }
+    true
+}

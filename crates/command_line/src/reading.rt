@@ -2,6 +2,7 @@
 
 use crate::given::Given;
 use crate::program::{Program, described};
+use crate::subcommand::described_arguments;
 use crate::unread::{Unread, why_unread};
 use clap::error::ErrorKind;
 use clap::{ArgMatches, Command, Error};
@@ -66,32 +67,36 @@ fn given_by<'a>(
     Ok(given)
 }
 
-/// Refuses words that were read: this text, and the usage.
-pub fn refuse(alloc: Global, program: Program<'_>, words: &[String], text: &str) -> Unread {
-    match refusal(alloc, program, words, text) {
-        Ok(error) | Err(error) => why_unread(alloc, &error),
+/// Refuses words that were read: this text, and the usage of the subcommand of this name, or of the program where it has none.
+pub fn refuse(alloc: Global, program: Program<'_>, subcommand: &str, text: &str) -> Unread {
+    match refusal(alloc, program, subcommand, text) {
+        Ok(error) => why_unread(alloc, &error),
+        Err(AllocError) => Unread::Memory,
     }
 }
 
 fn refusal(
     alloc: Global,
     program: Program<'_>,
-    words: &[String],
+    subcommand: &str,
     text: &str,
-) -> Result<Error, Error> {
-    let mut command = described(alloc, program)?;
-    let refused = refuse_with(&mut command, words, text);
+) -> Result<Error, AllocError> {
+    let called = program.name;
+    let name = format!(in alloc; "{called} {subcommand}")?;
+    let found = program
+        .subcommands
+        .iter()
+        .find(|row| row.name == subcommand);
+    let mut command = match found {
+        Some(row) => {
+            let arguments = described_arguments(alloc, row.arguments)?;
+            Command::new(alloc, name.as_str()).args(arguments)?
+        }
+        None => described(alloc, program)?,
+    };
+    let refused = command.error(ErrorKind::ValueValidation, text);
     drop(command);
     refused
-}
-
-fn refuse_with<'a>(
-    command: &mut Command<'a>,
-    words: &'a [String],
-    text: &str,
-) -> Result<Error, Error> {
-    drop(command.try_get_matches_from_mut(words)?);
-    Ok(command.error(ErrorKind::ValueValidation, text)?)
 }
 
 /// The text of the script whose commands are typed in these words, if any are.
@@ -102,11 +107,10 @@ fn refuse_with<'a>(
 pub fn read_typed(
     alloc: Global,
     program: Program<'_>,
-    words: &[String],
     given: &Given<'_>,
 ) -> Result<Option<Vec<u8>>, Unread> {
     match given.typed(alloc) {
-        Err(Unread::Wrong(text)) => Err(refuse(alloc, program, words, text.as_str())),
+        Err(Unread::Wrong(text)) => Err(refuse(alloc, program, given.subcommand, text.as_str())),
         typed => typed,
     }
 }

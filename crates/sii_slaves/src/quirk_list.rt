@@ -5,7 +5,7 @@ use wire_practice::{Cable, NO_QUIRKS, PowerLoss, Quirks};
 
 /// The quirks of a line of slaves: items that are separated by commas.
 #[derive(Clone, Copy)]
-pub struct QuirkList<'a> {
+pub(crate) struct QuirkList<'a> {
     text: &'a str,
 }
 
@@ -58,6 +58,7 @@ fn with_plain(quirks: Quirks, name: &str) -> Option<Quirks> {
         "wide" => with.is_wide = true,
         "aliasing" => with.has_alias_addressing = true,
         "held" => with.is_held = true,
+        "protected" => with.is_protected = true,
         _ => return None,
     }
     Some(with)
@@ -76,6 +77,7 @@ fn with_number(quirks: Quirks, name: &str, number: u32) -> Option<Quirks> {
         "each" => with.each_missed = number,
         "restarts" => with.loss = PowerLoss::Behind(number),
         "cut" => with.loss = PowerLoss::InWord(number),
+        "page" if number >= 1 && number <= 4096 => with.page = (number % 65_536) as u16,
         "chip" if number >= 1 && number <= 65_536 => with.chip = Some(number),
         "state" if number < 32 => with.state = (number % 32) as u8,
         "station" => with.station = Some(u16::try_from(number).ok()?),

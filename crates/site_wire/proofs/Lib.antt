@@ -12,7 +12,9 @@ mod AmendedLaws
 mod Boards
 mod Due
 mod Only
-mod ForEeprom
+mod Ordered
+mod Asking
+mod Passing
 pub mod Living
 mod Sends
 mod ReadingBack

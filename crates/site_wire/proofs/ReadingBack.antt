@@ -31,7 +31,8 @@ use Rattle.site_wire.specs.declared.sending.Exchange.{Exchange}
 use Rattle.site_wire.specs.Sent.{Exchanged, exchanged, Sends}
 use Rattle.site_wire.proofs.Living.{servings_keep, lives_station, lives_keep, lives_parts, lives_once}
 use Rattle.site_wire.proofs.Showing.{same_flags, ShowsStatus, shows_status, status_in, reads_only, read_replied, status_shown}
-use Rattle.site_wire.proofs.Sends.{IsPoll, station_is, words_content, words_order, sends_then, one_own, both_own, words_own, read_own, polls_own}
+use Rattle.site_wire.specs.Orders.{words_content, words_order}
+use Rattle.site_wire.proofs.Sends.{IsPoll, station_is, sends_then, one_own, both_own, words_own, read_own, polls_own}
 use Rattle.site_wire.proofs.Taking.{true_or_false, served_other}
 
 -- TWO WORDS THAT WERE LOADED

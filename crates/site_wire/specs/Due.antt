@@ -43,10 +43,8 @@ pub data IsOwn (half : SlaveHalf) (d : Pdu) : Type 0 where
   writes : (word value : ℕ) → half.activity ≡ Writing word value → word < 2 ^ 16 → value < 2 ^ 16 → register_of d.address ≡ 0x0502
       → d.content ≡ to_le_bytes w16 0x0201 ++ to_le_bytes w32 word ++ to_le_bytes w16 value → IsOwn half d
 
--- The frame has one datagram. It may go to the slave of this half: its command is fit, and while the half is busy it writes to control and
--- status only what the device sends of its own.
-pub record IsDue (half : SlaveHalf) (frame : List Pdu) : Type 0 where
-  pub d : Pdu
-  pub one : frame ≡ d ∷ []
+-- The datagram may go to the slave of this half: its command is fit, and while the half is busy it writes to control and status only what the
+-- device sends of its own.
+pub record IsDue (half : SlaveHalf) (d : Pdu) : Type 0 where
   pub fits : IsFit half d
   pub quiet : IsTrue (is_busy half.activity) → WritesControl d → IsOwn half d

@@ -119,9 +119,11 @@ pub record SendsFor (slave : ℕ) (half : SlaveHalf) (d : Pdu) (old new : List E
   pub to : All (λ call. station_of call.sent.address ≡ station slave) calls
   pub carries : is_over ≡ false → Carries slave half d calls resting
 
--- The frame has this one datagram, for registers of the EEPROM of the slave at this place, whose command is one for this half.
+-- The frame has this one datagram, which no slave has counted, for registers of the EEPROM of the slave at this place, whose command is one for
+-- this half.
 pub record IsDueTo (slave : ℕ) (half : SlaveHalf) (frame : List Pdu) (d : Pdu) : Type 0 where
   pub one : frame ≡ d ∷ []
+  pub fresh : d.counter ≡ 0
   pub fits : IsFit half d
   pub eeprom : IsForEeprom d
   pub to : station_of d.address ≡ station slave

@@ -14,6 +14,7 @@ ghost use Rattle.wire_frames.specs.Sending.{IsForEeprom};
 ghost use Rattle.site_wire.specs.Known.{IsKnown};
 ghost use Rattle.std.specs.List.{All};
 ghost use Rattle.std.specs.Option.{option_map};
+ghost use Rattle.site_wire.specs.Orders.{datagram_of};
 ghost use Rattle.site_wire.specs.Sent.{exchanged, Sends};
 ghost use Rattle.site_wire.specs.Following.{SendsNothing, ReadsBack, rests_with, FollowsUp, SendsFor, IsDueTo, CarriesFrame};
 ghost use Rattle.site_wire.specs.Parts.{SendsAsPart, WorksOn};
@@ -24,6 +25,7 @@ use crate::amending::{issue_again, read_back};
 use crate::answers::{Answer, Comparison, Shown, compared_with, state_shown};
 use crate::faults::{Difference, StopReason};
 use crate::fitting::{is_fit, is_for_eeprom, is_ignored, is_known, only_datagram};
+use crate::order::Order;
 use crate::reach::{LiveLine, Reach, SharedLine};
 use crate::sending::{Exchange, Sender};
 use ecat_frame::{Datagram, Frame};
@@ -284,16 +286,15 @@ impl<'f, L: Reach, F: RandomAccessFile, C: Clock> WireDevice<'f, L, F, C> {
         match fit_datagram(number, half, frame) {
             Some(sent) if is_known(half, sent) => self.resting = Resting::Well,
             Some(sent) if is_ignored(half, sent) => {}
-            Some(sent) => self.send(number, half, sent, frame),
+            Some(sent) => self.send(number, half, sent),
             None => self.stop(StopReason::NotOneDatagram { slave }, None),
         }
     }
 
-    /// Sends a frame of one datagram that the half takes. Where the half is busy, a pause comes first, and then a word in flight ends as the answer
-    /// shows.
-    fn send(&mut self, slave: u16, half: &RomHalf, sent: Datagram<'_>, frame: &Frame)
+    /// Sends a datagram that the half takes. Where the half is busy, a pause comes first, and then a word in flight ends as the answer shows.
+    fn send(&mut self, slave: u16, half: &RomHalf, sent: Datagram<'_>)
         requires slave { slave < 64 }
-        requires frame { frame.now ≡ pdu sent ∷ [] }
+        requires fresh { sent.counter ≡ 0 }
         requires fits { IsFit half.now (pdu sent) }
         requires eeprom { IsForEeprom (pdu sent) }
         requires quiet { IsTrue (is_busy half.now.activity) → ¬ WritesControl (pdu sent) }
@@ -304,7 +305,7 @@ impl<'f, L: Reach, F: RandomAccessFile, C: Clock> WireDevice<'f, L, F, C> {
         ensures journal { self.new.journal ≡ self.old.journal }
     {
         self.prepare(usize::from(slave), half);
-        self.pass(half, sent, frame);
+        self.pass(half, &Order::of(sent));
         let Some(write) = half.in_flight() else {
             return;
         };
@@ -329,21 +330,18 @@ impl<'f, L: Reach, F: RandomAccessFile, C: Clock> WireDevice<'f, L, F, C> {
         }
     }
 
-    /// Sends a frame of one datagram that the half takes.
-    #[tactic(auto, using(crate::proofs::Due::sent_due, crate::proofs::ForEeprom::all_of_one))]
-    fn pass(&mut self, half: &RomHalf, sent: Datagram<'_>, frame: &Frame)
-        requires frame { frame.now ≡ pdu sent ∷ [] }
-        requires fits { IsFit half.now (pdu sent) }
-        requires eeprom { IsForEeprom (pdu sent) }
-        requires quiet { IsTrue (is_busy half.now.activity) → ¬ WritesControl (pdu sent) }
-        requires news { ¬ IsKnown half.now (pdu sent) }
+    /// Sends a datagram that the half takes.
+    #[tactic(auto, using(crate::proofs::Due::sent_due))]
+    fn pass(&mut self, half: &RomHalf, order: &Order)
+        requires fits { IsFit half.now (datagram_of order.now) }
+        requires quiet { IsTrue (is_busy half.now.activity) → ¬ WritesControl (datagram_of order.now) }
         ensures rests { self.new.resting ≡ self.old.resting }
         ensures sends { Sends self.old.sender.log.all self.new.sender.log.all
-            (exchanged (pdu sent.entry) (option_map found_of self.new.returned) ∷ []) }
+            (exchanged (datagram_of order.now) (option_map found_of self.new.returned) ∷ []) }
         ensures over { self.new.is_over ≡ false → IsSome self.new.returned }
         ensures journal { self.new.journal ≡ self.old.journal }
     {
-        self.returned = self.sender.pass(half, frame);
+        self.returned = self.sender.pass(half, order);
         self.is_over = self.returned.is_none();
     }
 
@@ -496,8 +494,8 @@ fn are_bytes(bytes: &[u8])
     ensures { All (λ (byte : ℕ). byte < 256) bytes.now }
 {}
 
-/// The datagram of a frame that has just one, if that is for registers of the EEPROM of the slave at this place, and its command is one for this
-/// half.
+/// The datagram of a frame that has just one, if no slave has counted it, it is for registers of the EEPROM of the slave at this place, and its
+/// command is one for this half.
 #[tactic(auto, using(crate::proofs::DueTo::due_to))]
 fn fit_datagram<'a>(slave: u16, half: &RomHalf, frame: &'a Frame) -> Option<Datagram<'a>>
     requires { slave < 64 }
@@ -506,7 +504,7 @@ fn fit_datagram<'a>(slave: u16, half: &RomHalf, frame: &'a Frame) -> Option<Data
     let datagram = only_datagram(frame)?;
     are_bytes(datagram.content);
     let is_to = datagram.address % 65536 == u32::from(station_address(slave));
-    if is_to && is_for_eeprom(datagram) && is_fit(half, datagram) {
+    if is_to && datagram.counter == 0 && is_for_eeprom(datagram) && is_fit(half, datagram) {
         Some(datagram)
     } else {
         None
@@ -569,21 +567,20 @@ impl<'f, L: Reach, F: RandomAccessFile, C: Clock> Device for WireDevice<'f, L, F
         self.end_call(passing)
     }
 
-    /// Lets the frame pass, which `rest` sends. One that isn't a datagram for the EEPROM of this slave, and fit for its half, stops the site.
-    fn exchange(&mut self, slave: usize, half: &RomHalf, frame: &Frame) -> Passing
+    /// Lets a frame of one datagram for a slave of this part pass. `rest` sends it, or stops the site where it isn't fit for the half. Any other stops
+    /// the site.
+    fn exchange(&mut self, slave: usize, _half: &RomHalf, frame: &Frame) -> Passing
         ensures journal { self.new.journal ≡ self.old.journal }
         ensures follows { ExchangeKeeps WireFollows self.old result self.new }
     {
         if self.is_over {
             return Passing::Stops(LEFT);
         }
-        match number_of(self.journal.part(), slave) {
-            Some(number) if fit_datagram(number, half, frame).is_some() => Passing::Passes,
-            _ => {
-                self.stop(StopReason::NotOneDatagram { slave }, None);
-                Passing::Stops(LEFT)
-            }
+        if frame.count() == 1 && number_of(self.journal.part(), slave).is_some() {
+            return Passing::Passes;
         }
+        self.stop(StopReason::NotOneDatagram { slave }, None);
+        Passing::Stops(LEFT)
     }
 
     /// Sends the frame, unless its datagram tells nothing new, and the half rests and answers by itself; or the half is busy and takes nothing

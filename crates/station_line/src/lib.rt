@@ -23,7 +23,7 @@ pub use device_faults::of_device;
 pub use faults::{of_journal, of_open};
 pub use init::init_line;
 pub use loading::{Given, load};
-pub use opening::open_files;
+pub use opening::{open_files, open_images};
 pub use recovered::write_recovered;
 pub use session::{Session, is_old, load_session};
 pub use site::{save_parts, save_site, site_of};

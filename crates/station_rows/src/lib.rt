@@ -2,6 +2,7 @@
 #![tactic(auto)]
 
 mod cell;
+mod head;
 mod image;
 mod items;
 mod layout;

@@ -4,6 +4,7 @@ ghost use Rattle.station_files.specs.Faults.{IsOfStream};
 ghost use Rattle.station_files.specs.ImageText.{RefusesInput, text_of};
 ghost use Rattle.station_rows.specs.Show.{IsStatusOf, ShowsImage, ShowsStatus};
 
+use crate::head::put_head;
 use crate::image::put_image;
 use crate::items::{ItemListing, list_items, put_items};
 use crate::rows::{Form, Rows};
@@ -64,7 +65,7 @@ fn print_image<W: Write>(
 {
     let listing = list_image(alloc, image)?;
     let items = items_of(alloc, all, image)?;
-    let rows = rows_of(alloc, form, &listing, items.as_ref())?;
+    let rows = rows_of(alloc, form, &listing, items.as_ref(), image)?;
     rows.write(output)?;
     Ok(status_of(&listing))
 }
@@ -79,17 +80,19 @@ fn items_of(alloc: Global, all: bool, image: &ImageFile) -> Result<Option<ItemLi
     Ok(None)
 }
 
-/// The rows of what is listed.
+/// The rows of what is listed, and behind the items those of the first words of the image.
 fn rows_of(
     alloc: Global,
     form: Form,
     listing: &Listing,
     items: Option<&ItemListing>,
+    image: &ImageFile,
 ) -> Result<Rows, AllocError> {
     let mut rows = Rows::new(alloc, form);
     put_image(&mut rows, listing)?;
     if let Some(items) = items {
         put_items(&mut rows, items)?;
+        put_head(&mut rows, image.as_slice())?;
     }
     Ok(rows)
 }

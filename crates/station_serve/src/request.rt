@@ -26,6 +26,15 @@ pub enum Task<'a> {
         /// The name of the image's file; `None` for standard input.
         file: Option<&'a str>,
     },
+    /// Sets the configured station alias of an image in its file.
+    AliasInPlace {
+        /// The new alias.
+        value: u16,
+        /// Whether the file is hexadecimal text.
+        hex: bool,
+        /// The name of the file.
+        name: &'a str,
+    },
     /// Prints the listing of an image.
     Show(Shown<'a>),
     /// Prints what two images differ in.
@@ -94,7 +103,7 @@ impl<'a> Task<'a> {
 
 /// A command line that was read.
 #[derive(Drop)]
-pub struct Request<'a> {
+pub(crate) struct Request<'a> {
     /// The subcommand with its arguments.
     pub task: Task<'a>,
     /// The text of the script `TYPED`, where commands are typed in place of a script file.
@@ -164,11 +173,11 @@ pub(crate) fn read_arguments<'a>(
     match task_of(&given) {
         Ok(task) => Ok(Request {
             task,
-            typed: read_typed(alloc, program, words, &given)?,
+            typed: read_typed(alloc, program, &given)?,
             is_verbose: given.has("verbose"),
             is_quiet: given.has("quiet"),
         }),
-        Err(text) => Err(refuse(alloc, program, words, text)),
+        Err(text) => Err(refuse(alloc, program, given.subcommand, text)),
     }
 }
 

@@ -1,5 +1,6 @@
 //! The program as a function of its arguments and streams.
 
+use crate::images::alias_in_place;
 use crate::line_work::{serve_recovery, serve_run};
 use crate::pages::{explanation, print_page};
 use crate::request::{Request, Task, completions_for, manual_of, read_arguments};
@@ -157,6 +158,9 @@ fn serve_task<
         }
         Task::Alias { value, hex, file } => {
             done(set_alias(alloc, value, hex, file, input, store, output))
+        }
+        Task::AliasInPlace { value, hex, name } => {
+            done(alias_in_place(alloc, value, hex, name, input, store))
         }
         Task::Show(shown) => {
             show_image(alloc, shown, input, store, output).map_err(Failure::from)

@@ -1,6 +1,8 @@
 //! The station addresses of the slaves of a line.
 ghost use Rattle.std.specs.Prelude.{◌≡◌, ◌≢◌, ◌⊎◌, ℕ, ◌<◌, ◌≤◌, ◌+◌, ◌/◌, ◌%◌, ◌^◌, slice_index, slice_set, replicate, IfErr, IfSome, OnOk, None};
 ghost use Rattle.ecat_frame.specs.Command.{code_of};
+ghost use Rattle.ecat_frame.specs.Frame.{pdu};
+ghost use Rattle.wire_frames.specs.Came.{MeansNone};
 ghost use Rattle.wire_frames.specs.Sending.{AreApart, NamesClash};
 
 use crate::faults::LineFault;
@@ -55,7 +57,7 @@ impl Stations {
     /// The address that a datagram goes to. A slave that is meant by the station address 0x1001 plus its number is reached by its own one.
     pub fn translated(&self, sent: Datagram<'_>) -> u32
         ensures register { result / 2 ^ 16 ≡ sent.entry.address / 2 ^ 16 }
-        ensures broadcast { code_of sent.entry.command ≡ 7 → result ≡ sent.entry.address }
+        ensures other { MeansNone (pdu sent.entry) → result ≡ sent.entry.address }
         ensures station { (slave : ℕ) → slave < 64 → (code_of sent.entry.command ≡ 4) ⊎ (code_of sent.entry.command ≡ 5)
             → sent.entry.address % 2 ^ 16 ≡ 0x1001 + slave → result % 2 ^ 16 ≡ slice_index self.now.by_slave slave }
     {

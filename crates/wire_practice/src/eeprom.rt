@@ -92,16 +92,17 @@ impl Eeprom {
         }
     }
 
-    /// The power is cut, and comes back. A word in flight is left by the pattern.
+    /// The power is cut, and comes back. A word in flight is left by the pattern; what fills it fills its page.
     pub(crate) fn cut_power(&mut self, pattern: Pattern) {
-        if let Some(write) = self.in_flight() {
-            let address = u32::from(write.word);
-            let left = match pattern {
-                Pattern::Old => self.chip.get(address),
-                Pattern::New => write.value,
-                Pattern::Fill(word) => word,
-            };
-            self.chip.set(address, left);
+        match (self.in_flight(), pattern) {
+            (Some(write), Pattern::New) => self.chip.set(u32::from(write.word), write.value),
+            (Some(write), Pattern::Fill(word)) => {
+                let (first, behind) = self.page_of(write.word);
+                for address in first..behind {
+                    self.chip.set(address, word);
+                }
+            }
+            _ => {}
         }
         self.job = None;
         self.programming = None;
@@ -125,6 +126,13 @@ impl Eeprom {
             ) => Some(write),
             _ => None,
         }
+    }
+
+    /// The first word that the chip writes anew with this one, and the word behind the last one.
+    pub(crate) fn page_of(&self, word: u16) -> (u32, u32) {
+        let page = u32::from(self.quirks.page.max(1));
+        let first = u32::from(word) - u32::from(word) % page;
+        (first, first.saturating_add(page))
     }
 
     /// Whether the controller is busy.
@@ -172,6 +180,7 @@ impl Eeprom {
         match end {
             End::Read => self.fetch(),
             End::Missed => self.errors |= MISSED,
+            End::Write(_) if self.quirks.is_protected => {}
             End::Write(write) => {
                 let until = now.saturating_add(self.quirks.programs_on);
                 self.programming = Some(Programming { write, until });

@@ -157,6 +157,14 @@ impl PracticeLine {
         }
     }
 
+    /// The first word that a slave's chip writes anew with this one, and the word behind the last one.
+    pub fn page_of(&self, slave: usize, word: u16) -> (u32, u32) {
+        match self.slaves.get(slave) {
+            Some(slave) => slave.eeprom.page_of(word),
+            None => (0, 0),
+        }
+    }
+
     /// How many words the slaves have begun to write.
     pub fn begun(&self) -> u32 {
         let mut begun = 0u32;

@@ -29,6 +29,10 @@ pub struct Quirks {
     /// For how long the chip programs a word on, once the controller is idle. Each command meanwhile ends with a missing acknowledge, and a
     /// power cut tears the word.
     pub programs_on: u64,
+    /// How many words the chip writes anew as a whole with each word, 1 or more: a power cut tears all of them.
+    pub page: u16,
+    /// Whether the chip is write protected: a write ends without an error, and the word keeps its value.
+    pub is_protected: bool,
     /// How many of the first commands, reads and writes, end with a missing acknowledge: bit 13 of control and status. Nothing is read or
     /// written then.
     pub first_missed: u32,
@@ -60,6 +64,8 @@ pub const NO_QUIRKS: Quirks = Quirks {
     read_time: 0,
     write_time: 0,
     programs_on: 0,
+    page: 1,
+    is_protected: false,
     first_missed: 0,
     each_missed: 0,
     is_blocked_by_errors: false,

@@ -65,9 +65,13 @@ fn measured_slaves<R: Clock + AllocGlobal, W: Wire, O: Write>(
     Ok(found.into_words(rt.alloc())?)
 }
 
-/// Writes the files of a backup, if what is there of them may stay.
+/// Writes the files of a backup of slaves with these words, as `backup_line` does, if what is there of them may stay.
+///
+/// # Errors
+///
+/// As for `backup_line`, behind those of the line.
 #[tactic(auto, using(crate::proofs::Kept::unchanged))]
-fn save_backup<S: Store>(
+pub fn save_backup<S: Store>(
     alloc: Global,
     name: &str,
     slaves: &[Words],
@@ -146,7 +150,7 @@ fn write_text<S: Store>(name: &str, text: &Option<String>, store: &mut S) -> Res
 
 /// Writes a file, where it isn't there.
 #[tactic(auto, using(crate::proofs::Kept::kept_by_one, crate::proofs::Kept::kept_same))]
-fn write_missing<S: Store>(name: &str, bytes: &[u8], store: &mut S) -> Result<(), Fault>
+pub(crate) fn write_missing<S: Store>(name: &str, bytes: &[u8], store: &mut S) -> Result<(), Fault>
     ensures kept { KeepsAll (S.files store.old) (S.files store.new) }
     ensures written { OnOk result (IsAbsent (S.files store.old) name.now ⊎ HasBytes (S.files store.old) name.now bytes.now
         → HasBytes (S.files store.new) name.now bytes.now) }

@@ -1,12 +1,13 @@
 //! What is looked at once a line is found, before a word is written.
-ghost use Rattle.std.specs.Prelude.{◌≡◌, ◌≤◌, length, IfOk};
+ghost use Rattle.std.specs.Prelude.{◌≡◌, ◌≤◌, length, IfOk, OnOk};
+ghost use Rattle.wire_scan.specs.Judging.{IsForSlave};
 
 use line_changes::resizes;
-use sii_edit::Command;
-use sii_words::{Plant, Words};
+use sii_edit::{Command, Edit};
+use sii_words::{ImageFile, Plant, Words};
 use std::alloc::{AllocError, Global};
 use wire_bringup::{FoundLine, SlaveState};
-use wire_faults::WireFault;
+use wire_faults::{DeviceDiffers, WireFault};
 
 /// The words of the slaves of a line that was found, of which the line file names so many.
 ///
@@ -32,7 +33,7 @@ pub fn judge_slaves(alloc: Global, found: FoundLine, wanted: usize) -> Result<Ve
 ///
 /// For the first slave of so many: `Running` where it is in Safe-Operational or Operational, and `Held` where its PDI has the EEPROM or is
 /// offered it.
-pub(crate) fn judge_states(states: &[SlaveState], slaves: usize) -> Result<(), WireFault> {
+pub fn judge_states(states: &[SlaveState], slaves: usize) -> Result<(), WireFault> {
     for (slave, state) in states.iter().take(slaves).enumerate() {
         if state.is_above_preop() {
             return Err(WireFault::Running { slave });
@@ -42,6 +43,65 @@ pub(crate) fn judge_states(states: &[SlaveState], slaves: usize) -> Result<(), W
         }
     }
     Ok(())
+}
+
+/// Looks whether an image is that of this slave, which has these words: it has the same vendor and product, and as many words at least. A slave
+/// whose check byte is wrong, as that of a blank EEPROM, doesn't tell what it is, so only the number of words counts.
+///
+/// # Errors
+///
+/// `OtherDevice` where it isn't, with the first of vendor, product and words that differs.
+pub fn judge_image(slave: usize, words: &Words, image: &ImageFile) -> Result<(), WireFault>
+    ensures { OnOk result (IsForSlave words.now image.now) }
+{
+    let (own, other) = (words.identity(), image.identity());
+    let is_known = words.check_ok();
+    let why = if is_known && own.vendor != other.vendor {
+        DeviceDiffers::Vendor(own.vendor, other.vendor)
+    } else if is_known && own.product != other.product {
+        DeviceDiffers::Product(own.product, other.product)
+    } else if image.as_slice().len() < words.len() {
+        DeviceDiffers::Words(words.len(), image.as_slice().len())
+    } else {
+        return Ok(());
+    };
+    Err(WireFault::OtherDevice { slave, why })
+}
+
+/// Looks whether each image that a command writes is that of its slave, as `judge_image` does.
+///
+/// # Errors
+///
+/// As for `judge_image`, of the first image that isn't.
+pub fn judge_images(slaves: &[Words], commands: &[Command]) -> Result<(), WireFault> {
+    for command in commands {
+        match command {
+            Command::One(edit) => judge_edit(slaves, edit)?,
+            Command::Group(edits) => {
+                for edit in edits.as_slice() {
+                    judge_edit(slaves, edit)?;
+                }
+            }
+            Command::Guarded(edits) => {
+                for guarded in edits.as_slice() {
+                    judge_edit(slaves, &guarded.edit)?;
+                }
+            }
+            Command::Swap { .. } => {}
+        }
+    }
+    Ok(())
+}
+
+/// The same of one edit. One that names no slave of the line is refused later.
+fn judge_edit(slaves: &[Words], edit: &Edit) -> Result<(), WireFault> {
+    match edit {
+        Edit::Image { slave, image } => match slaves.get(usize::from(*slave)) {
+            Some(words) => judge_image(usize::from(*slave), words, image),
+            None => Ok(()),
+        },
+        Edit::Alias { .. } | Edit::Category { .. } => Ok(()),
+    }
 }
 
 /// Looks whether the commands leave word 0x3E alone, or make it tell the size that the slave's EEPROM has. A command that is refused changes
@@ -71,8 +131,8 @@ pub fn judge_commands(
 }
 
 /// A copy of the slaves' words.
-fn copies_of(alloc: Global, slaves: &[Words]) -> Result<Vec<Words>, AllocError>
-    ensures { IfOk result (λ copies. length copies.items ≡ length slaves.now) }
+pub(crate) fn copies_of(alloc: Global, slaves: &[Words]) -> Result<Vec<Words>, AllocError>
+    ensures { IfOk result (λ copies. copies.items ≡ slaves.now) }
 {
     let mut copies = Vec::new(alloc);
     for words in slaves {

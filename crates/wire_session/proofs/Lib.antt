@@ -1,6 +1,7 @@
 mod BehindDesk
 mod Endings
 mod Interleaved
+mod Mirrored
 mod Recovering
 mod RunEnds
 mod SlavesHeld

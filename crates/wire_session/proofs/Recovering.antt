@@ -20,9 +20,11 @@ use Rattle.station_line.specs.Init.{Formats}
 use Rattle.station_files.specs.declared.faults.Fault.TheVariants.{Exists}
 use Rattle.site_wire.specs.declared.device.WireTold.{WireTold}
 use Rattle.wire_scan.specs.Backup.{IsWithoutPast}
+use Rattle.wire_scan.specs.Keeping.{AreOfImages}
 use Rattle.wire_scan.specs.Opening.{IsFound}
+use Rattle.wire_scan.specs.declared.asked.Mend.{Mend}
 use Rattle.wire_session.specs.declared.told.Worked.{Worked}
-use Rattle.wire_session.specs.Recovery.{BeginsJournal, IsBegun, RefusesInit, EndsRecovery, Recovers, SavesRecovered}
+use Rattle.wire_session.specs.Recovery.{BeginsJournal, IsBegun, RefusesInit, EndsOpenedRecovery, EndsRecovery, Recovers, SavesRecovered}
 use Rattle.wire_session.specs.Slaves.{SlavesHold}
 use Rattle.station_files.specs.declared.faults.Fault.{Fault}
 use Rattle.wire_session.specs.Reporting.{IsPrinted}
@@ -61,14 +63,14 @@ printed_leaves (Ok done) (Err fault) old new line is may = λ apart. absurd (apa
 printed_leaves (Err fault) result old new line is may =
     subst (λ (r : Result (Unit {0}) WireFault). LeavesImages r old new line) (sym is) (may_fail (Unit {0}) fault old new line may)
 
--- ---- the journal is opened
+-- ---- the files of the line are opened
 
 pub recovers_opened : (Before After : Station → Type 0) (result : Result (Unit {0}) WireFault) (old mid new : Known) (line : LineFile) (plant : List (List ℕ))
-    (bytes : List ℕ) (site : SiteValue) → ChangesOnly old mid (string_bytes line.journal) → IsSiteOf plant bytes site
+    (bytes : List ℕ) (site : SiteValue) → ChangesAmong old mid (files_of line) → IsSiteOf plant bytes site
     → ((s : Station) → HasRecovered s → Before s → After s) → EndsRecovery Before result mid new line site.seen
-    → EndsRecovery After result old new line (switched_on plant bytes)
-recovers_opened Before After result old mid new line plant bytes site only made says ends =
-    ends_behind_open (λ done. SavesRecovered Before new line site.seen) (λ done. SavesRecovered After new line (switched_on plant bytes)) result old mid new line only
+    → EndsOpenedRecovery After result old new line (switched_on plant bytes)
+recovers_opened Before After result old mid new line plant bytes site others made says ends =
+    ends_behind_open (λ done. SavesRecovered Before new line site.seen) (λ done. SavesRecovered After new line (switched_on plant bytes)) result old mid new line others
     (λ done saves. subst (λ (seen : Seen). SavesRecovered After new line seen) made.seen (record {
       s = saves.s;
       recovered = saves.recovered;
@@ -79,12 +81,12 @@ recovers_opened Before After result old mid new line plant bytes site only made 
 
 -- ---- the whole
 
-pub recovers : (worked : Worked (Unit {0}) WireTold) (leads : Leads) (old found new : Known) (name : List ℕ) (line : LineFile) (plant : List (List ℕ)) (bytes : List ℕ) → IsFound old name line plant bytes
-    → HasJournal (map length plant) bytes → IsLineApart leads line name → found ≡ old
-    → EndsRecovery (λ s. IsSomeAnd worked.told (SlavesHold plant s)) worked.ended found new line (switched_on plant bytes) → Recovers worked leads old new name
-recovers worked leads old found new name line plant bytes given judged apart same ends =
-    let P : Known → Type 0 = λ files. EndsRecovery (λ s. IsSomeAnd worked.told (SlavesHold plant s)) worked.ended files new line (switched_on plant bytes) in
-    inr (record { line = line; plant = plant; bytes = bytes; found = given; judged = judged; apart = apart; ends = subst P same ends })
+pub recovers : (worked : Worked (Unit {0}) WireTold) (said : List Mend) (leads : Leads) (old found new : Known) (name : List ℕ) (line : LineFile) (plant : List (List ℕ)) (bytes : List ℕ) → IsFound old name line plant bytes
+    → HasJournal (map length plant) bytes → AreOfImages old line said bytes plant → IsLineApart leads line name → found ≡ old
+    → EndsOpenedRecovery (λ s. IsSomeAnd worked.told (SlavesHold plant s)) worked.ended found new line (switched_on plant bytes) → Recovers worked said leads old new name
+recovers worked said leads old found new name line plant bytes given judged kept apart same ends =
+    let P : Known → Type 0 = λ files. EndsOpenedRecovery (λ s. IsSomeAnd worked.told (SlavesHold plant s)) worked.ended files new line (switched_on plant bytes) in
+    inr (record { line = line; plant = plant; bytes = bytes; found = given; judged = judged; kept = kept; apart = apart; ends = subst P same ends })
 
 -- ---- init
 
@@ -105,6 +107,9 @@ refuses_early (wire.UnknownSize slave says) old new leads name same = same
 refuses_early (wire.Running slave) old new leads name same = same
 refuses_early (wire.Held slave) old new leads name same = same
 refuses_early (wire.OtherSize command slave words) old new leads name same = same
+refuses_early (wire.NotOne found slaves) old new leads name same = same
+refuses_early (wire.OtherDevice slave why) old new leads name same = same
+refuses_early (wire.OtherWords slave difference reason) old new leads name same = same
 
 -- the line, the words and the journal were read one after the other
 pub begun_by : (old first second : Known) (name : List ℕ) (line : LineFile) (plant : List (List ℕ)) (bytes : List ℕ) → SpellsLine old name line → first ≡ old → SpellsSlaves first line plant → second ≡ first

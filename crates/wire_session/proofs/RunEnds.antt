@@ -1,7 +1,7 @@
 -- What the files hold after a run on a wire.
 use Rattle.std.proofs.Common.{◌≡◌, ℕ, Bool, false, List, ◌∷◌, ◌++◌, length, map, None, Option, Some, Result, Ok, Err, inr, sym}
 use Rattle.std.proofs.Common.{subst}
-use Rattle.std.specs.Prelude.{IfSome, IsSomeAnd, IsTrue, OnOk, string_bytes}
+use Rattle.std.specs.Prelude.{IfOk, IfSome, IsSomeAnd, IsTrue, OnOk, Vec, Global}
 use Rattle.sii_edit.specs.declared.command.Command.{Command}
 use Rattle.site_core.specs.State.{Seen}
 use Rattle.site_core.specs.Times.{Follows}
@@ -11,6 +11,7 @@ use Rattle.station_alone.specs.Recovery.{HasRecovered}
 use Rattle.station_text.specs.declared.line_file.LineFile.{LineFile}
 use Rattle.station_files.specs.Files.{Known, ChangesAmong, ChangesOnly}
 use Rattle.station_files.specs.Locations.{Leads}
+use Rattle.station_files.specs.FileNames.{IsLineApart}
 use Rattle.station_files.specs.ScriptFiles.{SpellsCommands}
 use Rattle.station_files.specs.declared.faults.ExitStatus.{ExitStatus}
 use Rattle.station_files.specs.declared.faults.ExitStatus.TheVariants.{Done}
@@ -26,9 +27,13 @@ use Rattle.script_session.specs.Behind.{LedOn, SavesFollowed}
 use Rattle.script_session.specs.Saving.{SavesBehind, SavesLeft, Serves}
 use Rattle.script_session.proofs.SavingLaws.{behind-unserved, behind-worse}
 use Rattle.wire_faults.specs.declared.faults.WireFault.{WireFault}
+use Rattle.wire_scan.specs.Keeping.{AreMends, AreOfImages}
 use Rattle.wire_scan.specs.Opening.{IsFound}
+use Rattle.wire_scan.specs.declared.asked.Mend.{Mend}
+use Rattle.wire_scan.specs.declared.opening.Found.{Found}
+use Rattle.wire_session.specs.declared.running.Given.{Given}
 use Rattle.wire_session.specs.Ending.{Ends}
-use Rattle.wire_session.specs.Running.{EndsFound, RunsScript, SavesDesk, SavesFound, SavesSite}
+use Rattle.wire_session.specs.Running.{BeginsWithMends, EndsFound, MendsLine, RunsScript, SavesDesk, SavesFound, SavesSite}
 use Rattle.site_wire.specs.declared.device.WireTold.{WireTold}
 use Rattle.wire_session.specs.declared.told.LineTold.{LineTold}
 use Rattle.wire_session.specs.declared.told.Worked.{Worked}
@@ -131,15 +136,15 @@ ends_opened follows well tells told result old new line slaves site was_old open
           };
     }) ends
 
--- ---- the journal is opened
+-- ---- the files of the line are opened
 
 pub ends_found : (Way : Seen → Type 0) (worked : Worked ExitStatus WireTold) (old mid new : Known) (line : LineFile) (plant : List (List ℕ))
-    (bytes : List ℕ) (site : SiteValue) (commands : List Command) → ChangesOnly old mid (string_bytes line.journal) → IsSiteOf plant bytes site
+    (bytes : List ℕ) (site : SiteValue) (commands : List Command) → ChangesAmong old mid (files_of line) → IsSiteOf plant bytes site
     → ((s : Station) → HasRecovered s → Way s.seen → IsSomeAnd worked.told (SlavesHold plant s))
     → Ends (SavesSite Way new line site commands) worked.ended mid new line → EndsFound worked old new line plant bytes commands
-ends_found Way worked old mid new line plant bytes site commands only made hold ends =
+ends_found Way worked old mid new line plant bytes site commands others made hold ends =
     ends_behind_open (SavesSite Way new line site commands) (λ status. SavesFound new line plant bytes commands worked.told status)
-    worked.ended old mid new line only
+    worked.ended old mid new line others
     (λ status saves. record {
       site = site;
       made = made;
@@ -154,11 +159,11 @@ pub found_behind : (old mid : Known) (name : List ℕ) (line : LineFile) (plant 
     → IsFound mid name line plant bytes → IsFound old name line plant bytes
 found_behind old mid name line plant bytes same found = subst (λ (files : Known). IsFound files name line plant bytes) same found
 
-pub runs : (worked : Worked ExitStatus WireTold) (leads : Leads) (old found new : Known) (name script : List ℕ) (line : LineFile)
+pub runs : (worked : Worked ExitStatus WireTold) (said : List Mend) (leads : Leads) (old found new : Known) (name script : List ℕ) (line : LineFile)
     (plant : List (List ℕ)) (bytes : List ℕ) (commands : List Command) → IsFound old name line plant bytes
-    → HasJournal (map length plant) bytes → SpellsCommands old script commands → IsRunApart leads line name script → found ≡ old
-    → EndsFound worked found new line plant bytes commands → RunsScript worked leads old new name script
-runs worked leads old found new name script line plant bytes commands given judged spelt apart same ends =
+    → HasJournal (map length plant) bytes → AreOfImages old line said bytes plant → BeginsWithMends old said script commands → IsRunApart leads line name script
+    → found ≡ old → EndsFound worked found new line plant bytes commands → RunsScript worked said leads old new name script
+runs worked said leads old found new name script line plant bytes commands given judged kept spelt apart same ends =
     let P : Known → Type 0 = λ files. EndsFound worked files new line plant bytes commands in
     inr (record {
       line = line;
@@ -166,8 +171,48 @@ runs worked leads old found new name script line plant bytes commands given judg
       bytes = bytes;
       found = given;
       judged = judged;
+      kept = kept;
       commands = commands;
       spelt = spelt;
       apart = apart;
       ends = subst P same ends;
     })
+
+-- the same where image files were to be written to their slaves
+pub mends : (worked : Worked ExitStatus WireTold) (said : List Mend) (leads : Leads) (old found new : Known) (name : List ℕ) (line : LineFile)
+    (plant : List (List ℕ)) (bytes : List ℕ) (commands : List Command) → IsFound old name line plant bytes
+    → HasJournal (map length plant) bytes → AreOfImages old line said bytes plant → AreMends said commands → IsLineApart leads line name
+    → found ≡ old → EndsFound worked found new line plant bytes commands → MendsLine worked said leads old new name
+mends worked said leads old found new name line plant bytes commands given judged kept said_so apart same ends =
+    let P : Known → Type 0 = λ files. EndsFound worked files new line plant bytes commands in
+    inr (record {
+      line = line;
+      plant = plant;
+      bytes = bytes;
+      found = given;
+      judged = judged;
+      kept = kept;
+      mends = commands;
+      said_so = said_so;
+      apart = apart;
+      ends = subst P same ends;
+    })
+
+-- the image files were loaded behind the script
+pub kept_behind : (old mid : Known) (line : LineFile) (said : List Mend) (bytes : List ℕ) (plant : List (List ℕ)) → mid ≡ old
+    → AreOfImages mid line said bytes plant → AreOfImages old line said bytes plant
+kept_behind old mid line said bytes plant same kept = subst (λ (files : Known). AreOfImages files line said bytes plant) same kept
+
+-- what is said of a line that was found, where its commands were taken out
+pub for_given : {L E : Type 0} (result : Result (Given L) E) (found : Found L) (P : Found L → Type 0)
+    → IfOk result (λ given. given.found ≡ record found { mends = given.found.mends }) → ((mends : Vec Command Global) → P (record found { mends = mends }))
+    → IfOk result (λ given. P given.found)
+for_given (Ok given) found P same holds = subst P (sym same) (holds given.found.mends)
+for_given (Err fault) found P same holds = tt
+
+-- the commands that are said, and those of the script behind them
+pub with_script : {L E : Type 0} (result : Result (Given L) E) (old : Known) (said : List Mend) (script : List ℕ) (mends behind : List Command)
+    → IfOk result (λ given. given.commands.items ≡ mends ++ behind) → AreMends said mends → SpellsCommands old script behind
+    → IfOk result (λ given. BeginsWithMends old said script given.commands.items)
+with_script (Ok given) old said script mends behind all said_so spelt = record { mends = mends; behind = behind; said_so = said_so; spelt = spelt; all = all }
+with_script (Err fault) old said script mends behind all said_so spelt = tt

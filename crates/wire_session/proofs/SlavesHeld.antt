@@ -180,44 +180,47 @@ goes_thrice : (slave : ℕ) (a b c d : SlaveHalf) (first second third : List Exc
 goes_thrice slave a b c d first second third one two three =
     goes_then slave a c d (first ++ second) third (goes_then slave a b c first second one two) three
 
-module _ {L F C : Type 0} where
-  abbrev well : WireDevice L F C → Type 0
-  well device = device.is_over ≡ false
+-- devices that have a device on a wire inside
+module _ {L F C D : Type 0} (within : D → WireDevice L F C) where
+  abbrev follows : D → Seen → Type 0
+  follows device seen = WireFollows (within device) seen
 
-  abbrev tells : WireDevice L F C → WireTold → Type 0
-  tells = TellsWire
+  abbrev well : D → Type 0
+  well device = (within device).is_over ≡ false
+
+  abbrev tells : D → WireTold → Type 0
+  tells device told = TellsWire (within device) told
 
   -- one device, from the first call of its site on
   one_device : (slave : ℕ) (before now : Seen) (first half : SlaveHalf) (told : WireTold) → before.past ≡ [] → Follows before now
-      → IsFollowed (KeepsTold {D = WireDevice L F C} WireFollows well tells told) now
+      → IsFollowed (KeepsTold follows well tells told) now
       → slice_get before.state.halves slave ≡ Some first → slice_get now.state.halves slave ≡ Some half → GoesOn slave first half (exchanges told.sent)
   one_device slave before now first half told new goes followed at_first at_now =
-      let device = followed.0 in
-      let follows : WireFollows device now = followed.1.0.0 in
-      let log : exchanges told.sent ≡ follows.slaves.log = ap exchanges followed.1.1.sent ∙ follows.slaves.has in
+      let kept : WireFollows (within followed.0) now = followed.1.0.0 in
+      let log : exchanges told.sent ≡ kept.slaves.log = ap exchanges followed.1.1.sent ∙ kept.slaves.has in
       λ real later station_is behind lives.
-      follows.slaves.follow followed.1.0.1 followed.1.0.2 slave first half real later
+      kept.slaves.follow followed.1.0.1 followed.1.0.2 slave first half real later
       (ap (λ state. slice_get state.halves slave) (first_stays before now new goes) ∙ at_first) at_now station_is behind
       (subst (λ (l : List Exchanged). Lives l real later) log lives)
 
   -- a device that was sound has sent to the slaves of its part alone
-  sent_as_part : (told : WireTold) (seen : Seen) → IsFollowed (KeepsTold {D = WireDevice L F C} WireFollows well tells told) seen
+  sent_as_part : (told : WireTold) (seen : Seen) → IsFollowed (KeepsTold follows well tells told) seen
       → AreFor told.journal.part (exchanges told.sent)
   sent_as_part told seen followed =
-      let device = followed.0 in
-      let follows : WireFollows device seen = followed.1.0.0 in
+      let device = within followed.0 in
+      let kept : WireFollows device seen = followed.1.0.0 in
       subst (λ (p : Option LinePart). AreFor p (exchanges told.sent)) (sym followed.1.1.journal.part)
-      (subst (λ (sent : List Exchange). AreFor device.journal.asking.part (exchanges sent)) (sym followed.1.1.sent) (follows.own followed.1.0.1))
+      (subst (λ (sent : List Exchange). AreFor device.journal.asking.part (exchanges sent)) (sym followed.1.1.sent) (kept.own followed.1.0.1))
 
   module _ (site : SiteValue) (slaves : ℕ) (s : Station) (told : LineTold WireTold) (new : site.seen.past ≡ [])
-      (followed : EndsTold {D = WireDevice L F C} WireFollows well tells site slaves told s.seen) where
+      (followed : EndsTold follows well tells site slaves told s.seen) where
     abbrev opened : Station
     opened = followed.leads.opened
 
     abbrev left : SiteValue
     left = followed.leads.behind.left
 
-    abbrev served : IsServedTold {D = WireDevice L F C} WireFollows well tells opened told.desk left
+    abbrev served : IsServedTold follows well tells opened told.desk left
     served = followed.leads.behind.served
 
     -- what is told of the device of a slave's part
@@ -230,7 +233,7 @@ module _ {L F C : Type 0} where
         parts.apart.slaves at_opened in
         let end = placed-at (λ place (x : SiteValue) (e : Stay SiteValue SlaveLog). IsEndOfSlave place x e) 0 parts.sites.slaves.items parts.ends.workers.items slave begun.0
         parts.of_sites.workers begun.1 in
-        let work = told_at WireFollows well tells told.desk.slaves.items parts.ends.workers.items slave end.0 served.devices.slaves served.sound.slaves end.1 in
+        let work = told_at follows well tells told.desk.slaves.items parts.ends.workers.items slave end.0 served.devices.slaves served.sound.slaves end.1 in
         (work.part, work.here)
 
     three_devices : (slave : ℕ) (first half : SlaveHalf) → slice_get site.seen.state.halves slave ≡ Some first → slice_get s.seen.state.halves slave ≡ Some half
@@ -243,8 +246,8 @@ module _ {L F C : Type 0} where
         let end = placed-at (λ place (x : SiteValue) (e : Stay SiteValue SlaveLog). IsEndOfSlave place x e) 0 parts.sites.slaves.items parts.ends.workers.items slave begun.0
         parts.of_sites.workers begun.1 in
         let back = placed-at EndsWith 0 parts.ends.workers.items left.seen.state.halves slave end.0 parts.together.halves end.1 in
-        let work = told_at WireFollows well tells told.desk.slaves.items parts.ends.workers.items slave end.0 served.devices.slaves served.sound.slaves end.1 in
-        let before = keeps_told WireFollows well tells told.desk.line opened.seen served.sound.line served.devices.before in
+        let work = told_at follows well tells told.desk.slaves.items parts.ends.workers.items slave end.0 served.devices.slaves served.sound.slaves end.1 in
+        let before = keeps_told follows well tells told.desk.line opened.seen served.sound.line served.devices.before in
         let one = one_device slave site.seen opened.seen first mid told.desk.line.told new followed.leads.opens before at_first at_opened in
         let from_first : 0 + slave ≡ slave = omega arith in
         let start_is : end.0.start ≡ begun.0 = end.2.start in
@@ -263,13 +266,13 @@ module _ {L F C : Type 0} where
       disk_misses =
           let sent = subst (λ (p : Option LinePart). AreFor p (exchanges told.desk.disk.told.sent)) own.disk
           (sent_as_part told.desk.disk.told served.served.ends.flusher.site.seen
-          (keeps_told WireFollows well tells told.desk.disk served.served.ends.flusher.site.seen served.sound.disk served.devices.disk)) in
+          (keeps_told follows well tells told.desk.disk served.served.ends.flusher.site.seen served.sound.disk served.devices.disk)) in
           λ k d inside. absurd (sent k d inside).works
 
       slave_misses : (other : ℕ) (part : PartTold WireTold) → other ≢ slave → slice_get told.desk.slaves.items other ≡ Some part
           → Misses (station slave) (exchanges part.told.sent)
       slave_misses other part apart here =
-          let device = told_of WireFollows well tells told.desk.slaves.items served.served.ends.workers.items other part served.devices.slaves served.sound.slaves here in
+          let device = told_of follows well tells told.desk.slaves.items served.served.ends.workers.items other part served.devices.slaves served.sound.slaves here in
           let sent = subst (λ (p : Option LinePart). AreFor p (exchanges part.told.sent)) (own.slaves other part here) (sent_as_part part.told device.0 device.1) in
           λ k d inside.
           let call = sent k d inside in
@@ -303,11 +306,11 @@ module _ {L F C : Type 0} where
     pub slaves_hold : AreOfParts (λ (part : LinePart) (one : WireTold). one.journal.part ≡ Some part) told.desk → (plant : List (List ℕ)) (bytes : List ℕ) → site.seen ≡ switched_on plant bytes → site.line.sizes ≡ map length plant → slaves ≡ length plant
         → HasRecovered s → SlavesHold plant s told
     slaves_hold own plant bytes found sizes count recovered slave words here =
-        let within : slave < length plant = slice_get_within plant slave words here in
+        let there : slave < length plant = slice_get_within plant slave words here in
         let inside : slave < length opened.seen.state.halves =
         (let many : length plant ≡ length opened.seen.state.halves =
-        sym (length-map plant length) ∙ ap length (sym sizes) ∙ ap (λ (l : Line). length l.sizes) (sym followed.leads.line) ∙ served.followed.count in omega (arith, within, many)) in
-        let last : slave < length s.seen.state.halves = (let many = followed.ends.count in omega (arith, within, many, count)) in
+        sym (length-map plant length) ∙ ap length (sym sizes) ∙ ap (λ (l : Line). length l.sizes) (sym followed.leads.line) ∙ served.followed.count in omega (arith, there, many)) in
+        let last : slave < length s.seen.state.halves = (let many = followed.ends.count in omega (arith, there, many, count)) in
         let half = get_or s.seen.state.halves slave (powered_up [] 0) in
         let at_last = slice_get-get_or s.seen.state.halves slave (powered_up [] 0) last in
         let at_first : slice_get site.seen.state.halves slave ≡ Some (powered_up words (station slave)) =

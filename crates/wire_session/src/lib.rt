@@ -2,7 +2,9 @@
 #![tactic(auto)]
 
 mod as_found;
+mod followed;
 mod init;
+mod mending;
 mod planning;
 mod recovery;
 mod redoing;
@@ -12,6 +14,7 @@ mod threads;
 mod told;
 
 pub use init::{begin_journal, init_on_wire};
+pub use mending::mend_line;
 pub use planning::plan_on_wire;
 pub use recovery::recover_line;
 pub use running::{RunOrder, run_script};

@@ -33,7 +33,7 @@ pub fn plan_on_wire<R: Clock + AllocGlobal, W: Wire, S: Store, O: Write>(
     store: &mut S,
     output: &mut O,
 ) -> Result<ExitStatus, WireFault>
-    ensures plans { IfOk result (PlansOnWire S.leads (S.files store.old) order.entry.named.line.now order.entry.named.script.now) }
+    ensures plans { IfOk result (PlansOnWire order.entry.asked.mends S.leads (S.files store.old) order.entry.named.line.now order.entry.named.script.now) }
     ensures same { S.files store.new ≡ S.files store.old }
 {
     match find_all(rt, wire, order, store) {
@@ -61,6 +61,8 @@ fn plan_found<L: Drop, O: Write>(
     let Found {
         line: _,
         slaves,
+        images: _,
+        mends: _,
         states: _,
         journal,
         lock: _lock,

@@ -3,15 +3,16 @@ ghost use Rattle.std.specs.Prelude.{◌≡◌, ◌≤◌, ◌∷◌, ◌++◌, [
 ghost use Rattle.esc_rom.specs.Owned.{OwnsAll};
 ghost use Rattle.station_files.specs.FileNames.{files_with, written_of};
 ghost use Rattle.station_files.specs.Locations.{AreApart};
-ghost use Rattle.station_files.specs.ScriptFiles.{SpellsCommands};
 ghost use Rattle.station_line.specs.Judging.{HasJournal, IsRunApart};
 ghost use Rattle.station_line.specs.Opened.{is_old};
 ghost use Rattle.wire_scan.specs.Opening.{IsFound};
 ghost use Rattle.wire_session.specs.Ending.{Ends};
-ghost use Rattle.wire_session.specs.Running.{EndsFound, RunsScript, SavesSite};
+ghost use Rattle.wire_scan.specs.Keeping.{AreOfImages};
+ghost use Rattle.wire_session.specs.Running.{BeginsWithMends, EndsFound, RunsScript, SavesSite};
 ghost use Rattle.wire_session.specs.Slaves.{AreOfParts, EndsTold};
 
 use crate::as_found::AsFound;
+use crate::followed::followed;
 use crate::reporting::{report_end, tell_handed, tell_why};
 use crate::threads::run_threads;
 use crate::told::Worked;
@@ -19,21 +20,24 @@ use line_changes::Before;
 use script_session::Work;
 use sii_edit::Command;
 use sii_words::Plant;
-use site_file::FileDevice;
 use site_shadow::ShadowSite;
-use site_wire::{LiveLine, LockedLine, TellsPart, WireDevice, WireTold};
+use site_wire::{LiveLine, LockedLine, TellsPart, WireTold};
 use station_files::{ExitStatus, Fault, Store, load_script};
 use station_line::{is_old, of_open, open_station, site_of};
 use station_text::LineFile;
 use std::alloc::{AllocError, Global};
 use std::io::Write;
+use std::mem;
 use std::rt::Clock;
 use std::sync::Wait;
 use std::thread::Threads;
 use wire_bringup::hand_back;
 use wire_faults::WireFault;
 use wire_frames::{NumberedWire, Wire};
-use wire_scan::{Asked, Found, Named, find_line, judge_commands, keep_script_apart, open_journal};
+use wire_mirror::Images;
+use wire_scan::{
+    Asked, Found, Named, find_line, judge_commands, judge_images, keep_script_apart, open_line,
+};
 
 /// What a run is given, or the plan of one.
 #[derive(Clone, Copy)]
@@ -44,7 +48,7 @@ pub struct RunOrder<'a> {
     pub asked: Asked,
 }
 
-/// What was found for a run: the line, and the commands of the script.
+/// What was found for a run: the line, and the commands: those that write image files to their slaves, as was said, and then those of the script.
 #[derive(Drop)]
 pub(crate) struct Given<L> {
     pub(crate) found: Found<L>,
@@ -59,16 +63,19 @@ struct Start<S> {
     was_old: bool,
 }
 
-/// Runs the script file that the order names on the line on this wire: submits its commands in order, serves them by threads, one for each
-/// slave, which share the wire, prints the answer to each, what is told of them as it happens, and the totals, and writes the words of each
-/// slave to its image file, which is replaced as a whole. A journal that isn't of version 2 is recovered and migrated first. Where no thread
-/// can be made, one serves all. The EEPROMs are handed back as they were found. Returns the exit status: `Done`, or that of the worst refusal.
+/// Runs the script file that the order names on the line on this wire: submits its commands in order, behind those that write image files to their
+/// slaves, as was said, serves them by threads, one for each slave, which share the wire, and prints the answer to each, what is told of them as it
+/// happens, and the totals. Each image file is replaced first by a new file with the words that its slave was found with, or that it is to get, and
+/// gets each word that the slave has shown, before the batch that names it is retired. A journal that isn't of version 2 is recovered and migrated
+/// first. Where no thread can be made, one serves all. The EEPROMs are handed back as they were found. Returns the exit status: `Done`, or that of
+/// the worst refusal.
 ///
 /// # Errors
 ///
-/// As for `load_script`; then as for `find_line` and `keep_script_apart`; then, unless that is allowed, as for `judge_commands`. Nothing
-/// is written up to there. Then as for `open_journal`, `open_station` and `serve_task`, or why the line on the wire has stopped. No image
-/// file is written up to there, and a recovery completes what was begun. Then `File` or `Memory`, as the store answers.
+/// As for `load_script`; then as for `find_line` and `keep_script_apart`; then, unless that is allowed, as for `judge_commands`, and as for
+/// `judge_images`. Nothing is written up to there. Then as for `open_line`, `open_station` and `serve_task`; `Disk` where a file of the line
+/// can't be written or synced any more; or why the line on the wire has stopped. A recovery completes what was begun. Then `File` or `Memory`,
+/// as the store answers.
 pub fn run_script<
     R: Wait + Threads + Clock + AllocGlobal + Sync,
     W: Wire + Send + Drop,
@@ -81,7 +88,7 @@ pub fn run_script<
     store: &mut S,
     output: &mut O,
 ) -> Worked<ExitStatus, WireTold>
-    ensures { RunsScript result S.leads (S.files store.old) (S.files store.new) order.entry.named.line.now order.entry.named.script.now }
+    ensures { RunsScript result order.entry.asked.mends S.leads (S.files store.old) (S.files store.new) order.entry.named.line.now order.entry.named.script.now }
 {
     let mut wire = wire;
     match find_all(rt, &mut wire, order, store) {
@@ -108,7 +115,9 @@ pub(crate) fn find_all<R: Clock + AllocGlobal, W: Wire, S: Store>(
     ensures judged { IfOk result (λ given. HasJournal (map length given.found.slaves.items) given.found.journal.items) }
     ensures some { IfOk result (λ given. 1 ≤ length given.found.slaves.items) }
     ensures most { IfOk result (λ given. length given.found.slaves.items ≤ 64) }
-    ensures spelt { IfOk result (λ given. SpellsCommands (S.files store.old) order.entry.named.script.now given.commands.items) }
+    ensures spelt { IfOk result (λ given. BeginsWithMends (S.files store.old) order.entry.asked.mends order.entry.named.script.now given.commands.items) }
+    ensures kept { IfOk result (λ given. AreOfImages (S.files store.old) given.found.line order.entry.asked.mends given.found.journal.items given.found.slaves.items) }
+    ensures images { IfOk result (λ given. length given.found.images.items ≡ length given.found.slaves.items) }
     ensures apart { IfOk result (λ given.
         IsRunApart S.leads given.found.line order.entry.named.line.now order.entry.named.script.now) }
     ensures same { S.files store.new ≡ S.files store.old }
@@ -117,7 +126,7 @@ pub(crate) fn find_all<R: Clock + AllocGlobal, W: Wire, S: Store>(
     let commands = load_script(rt.alloc(), named.script, store)?;
     match find_line(rt, wire, named.line, asked, store) {
         Ok(found) => match judge_script(rt.alloc(), named, &found, &commands, asked, store) {
-            Ok(()) => Ok(Given { found, commands }),
+            Ok(()) => with_mends(rt.alloc(), wire, found, commands),
             Err(fault) => {
                 hand_back(wire, &found.states);
                 drop(found);
@@ -128,6 +137,32 @@ pub(crate) fn find_all<R: Clock + AllocGlobal, W: Wire, S: Store>(
         Err(fault) => {
             drop(commands);
             Err(fault)
+        }
+    }
+}
+
+/// A line that was found, with the commands that write image files to its slaves, and these behind them.
+fn with_mends<W: Wire, L: Drop>(
+    alloc: Global,
+    wire: &mut NumberedWire<W>,
+    found: Found<L>,
+    commands: Vec<Command>,
+) -> Result<Given<L>, WireFault>
+    ensures found { IfOk result (λ given. given.found ≡ record found { mends = given.found.mends }) }
+    ensures commands { IfOk result (λ given. given.commands.items ≡ found.mends.items ++ commands.items) }
+{
+    let mut found = found;
+    let mut behind = commands;
+    match found.mends.append(&mut behind) {
+        Ok(()) => {
+            let commands = mem::replace(&mut found.mends, Vec::new(alloc));
+            Ok(Given { found, commands })
+        }
+        Err(AllocError) => {
+            hand_back(wire, &found.states);
+            drop(found);
+            drop(behind);
+            Err(WireFault::Station(Fault::Memory))
         }
     }
 }
@@ -148,14 +183,17 @@ fn judge_script<S: Store>(
     ensures same { S.files store.new ≡ S.files store.old }
 {
     keep_script_apart(alloc, &found.line, named, store)?;
-    if asked.resizes {
+    if !asked.resizes {
+        judge_commands(alloc, &found.slaves, commands)?;
+    }
+    if asked.any_device {
         return Ok(());
     }
-    judge_commands(alloc, &found.slaves, commands)
+    judge_images(&found.slaves, commands)
 }
 
 /// Runs the commands on a line that was found, hands the EEPROMs back, and prints what has changed if that is asked for.
-fn run_found<
+pub(crate) fn run_found<
     R: Wait + Threads + Clock + AllocGlobal + Sync,
     W: Wire + Send + Drop,
     S: Store,
@@ -171,11 +209,14 @@ fn run_found<
     requires some { 1 ≤ length found.slaves.items }
     requires most { length found.slaves.items ≤ 64 }
     requires count { length found.slaves.items ≡ length found.line.images.items }
+    requires images { length found.images.items ≡ length found.line.images.items }
     ensures { EndsFound result (S.files store.old) (S.files store.new) found.line found.slaves.items found.journal.items commands.items }
 {
     let Found {
         line,
         slaves,
+        images,
+        mends: _,
         states,
         journal,
         lock: _lock,
@@ -189,6 +230,7 @@ fn run_found<
     let as_found = AsFound {
         line: &line,
         slaves: &slaves,
+        images: &images,
         journal,
     };
     let Worked {
@@ -208,7 +250,7 @@ fn run_found<
     }
 }
 
-/// Opens the journal of a line, and runs the commands.
+/// Opens the files of a line, and runs the commands. Each image file follows its slave.
 fn run_opened<
     R: Wait + Threads + Clock + AllocGlobal + Sync,
     W: Wire + Send + Drop,
@@ -225,15 +267,17 @@ fn run_opened<
     requires some { 1 ≤ length found.slaves.now }
     requires most { length found.slaves.now ≤ 64 }
     requires count { length found.slaves.now ≡ length found.line.now.images.items }
+    requires images { length found.images.now ≡ length found.line.now.images.items }
     ensures { EndsFound result (S.files store.old) (S.files store.new)
         found.entry.line.now found.entry.slaves.now found.entry.journal.items work.commands.items }
 {
     let AsFound {
         line,
         slaves,
+        images: kept,
         journal,
     } = found;
-    let files = match open_journal(rt.alloc(), line, &journal, store) {
+    let files = match open_line(rt.alloc(), line, kept, &journal, store) {
         Ok(files) => files,
         Err(fault) => {
             drop(journal);
@@ -242,7 +286,8 @@ fn run_opened<
         }
     };
     let was_old = is_old(&journal);
-    let device = WireDevice::shared(locked.shared(rt), rt, FileDevice::new(files));
+    let images = Images::new(files.images);
+    let device = followed(rt, locked, files.journal, &images);
     match site_of(rt.alloc(), slaves, journal, device) {
         Ok(site) => run_site(rt, line, Start { site, was_old }, work, store, output),
         Err(AllocError) => {

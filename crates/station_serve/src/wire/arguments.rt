@@ -2,9 +2,13 @@
 
 use crate::arguments::form_of;
 use crate::pages::code_asked;
+use crate::wire::changing::{Change, New};
+use crate::wire::mends::mends_of;
+use crate::wire::one_slave::{Look, Purpose};
 use crate::wire::rows::{rows, wire_program};
 use crate::wire::sizes::sizes_of;
-use command_line::{Given, Unread, read_typed, read_words, refuse};
+use crate::wire::which::which_in;
+use command_line::{Given, Unread, read_typed, read_words, refuse, small_in};
 use station_listing::Code;
 use station_rows::Form;
 use std::alloc::Global;
@@ -42,6 +46,8 @@ pub struct Arguments<'a> {
 pub enum Task<'a> {
     /// Prints a line for each slave.
     Scan {
+        /// The name of the line file, where slaves are compared with their image files.
+        line: Option<&'a str>,
         /// The sizes of EEPROMs, as far as they are given.
         sizes: Sizes,
         /// Text, or rows of JSON.
@@ -69,7 +75,12 @@ pub enum Task<'a> {
         asked: Asked,
     },
     /// Runs a script on the line.
-    Run(RunOrder<'a>),
+    Run {
+        /// The files, and what is asked for.
+        order: RunOrder<'a>,
+        /// The folder in which a call on one slave may have been cut, if it is known.
+        folder: Option<&'a str>,
+    },
     /// Says what a run would do, and does nothing.
     Plan {
         /// The files, and what is asked for.
@@ -84,6 +95,17 @@ pub enum Task<'a> {
         /// What is asked for that isn't done where nothing is said.
         asked: Asked,
     },
+    /// Recovers the line on which the last call that changed one slave was cut.
+    RecoverLast {
+        /// The folder that its files are kept in.
+        folder: &'a str,
+        /// What is asked for that isn't done where nothing is said.
+        asked: Asked,
+    },
+    /// Reads one slave.
+    Look(Look<'a>),
+    /// Changes one slave.
+    Change(Change<'a>),
     /// Explains one code, or all of them.
     Explain {
         /// The code; `None` for all codes.
@@ -111,7 +133,7 @@ pub fn read_arguments<'a>(alloc: Global, words: &'a [String]) -> Result<Argument
     let given = read_words(alloc, program, words)?;
     let tenure = match tenure_of(&given) {
         Ok(tenure) => tenure,
-        Err(text) => return Err(refuse(alloc, program, words, text)),
+        Err(text) => return Err(refuse(alloc, program, given.subcommand, text)),
     };
     match task_of(&given) {
         Ok(task) => Ok(Arguments {
@@ -123,9 +145,9 @@ pub fn read_arguments<'a>(alloc: Global, words: &'a [String]) -> Result<Argument
             is_verbose: given.has("verbose"),
             is_quiet: given.has("quiet") || matches!(task, Task::Explain { .. }),
             task,
-            typed: read_typed(alloc, program, words, &given)?,
+            typed: read_typed(alloc, program, &given)?,
         }),
-        Err(text) => Err(refuse(alloc, program, words, text)),
+        Err(text) => Err(refuse(alloc, program, given.subcommand, text)),
     }
 }
 
@@ -181,23 +203,35 @@ fn task_of<'a>(given: &Given<'a>) -> Result<Task<'a>, &'static str> {
     let form = form_of(given);
     let task = match given.subcommand {
         "scan" => Task::Scan {
+            line: given.text("LINE"),
             sizes: sizes_in(given)?,
             form,
         },
         "backup" => backup_task(given, sizes_in(given)?),
         "init" => Task::Init {
             line,
-            asked: asked_apart(given),
+            asked: asked_apart(given)?,
         },
-        "run" => Task::Run(order_of(given)),
+        "run" => Task::Run {
+            order: order_of(given)?,
+            folder: given.text("state"),
+        },
         "plan" => Task::Plan {
-            order: order_of(given),
+            order: order_of(given)?,
             form,
         },
-        "recover" => Task::Recover {
-            line,
-            asked: asked_apart(given),
+        "recover" => match given.text("LINE") {
+            Some(line) => Task::Recover {
+                line,
+                asked: asked_apart(given)?,
+            },
+            None => Task::RecoverLast {
+                folder: folder_in(given)?,
+                asked: asked_apart(given)?,
+            },
         },
+        "read" | "show" | "diff" | "verify" => Task::Look(look_of(given)?),
+        "alias" | "write" => Task::Change(change_of(given)?),
         "explain" => Task::Explain {
             code: code_asked(given)?,
         },
@@ -217,6 +251,59 @@ fn backup_task<'a>(given: &Given<'a>, sizes: Sizes) -> Task<'a> {
     }
 }
 
+/// Which slave is read, and for what.
+fn look_of<'a>(given: &Given<'a>) -> Result<Look<'a>, &'static str> {
+    let (which, file) = which_in(given, "FILE")?;
+    let form = form_of(given);
+    let purpose = match (given.subcommand, file) {
+        ("read", None) => Purpose::Read {
+            file: given.text("output"),
+        },
+        ("show", None) => Purpose::Show {
+            all: given.has("all"),
+            form,
+        },
+        ("diff", Some(file)) => Purpose::Diff { file, form },
+        ("verify", Some(file)) => Purpose::Verify { file },
+        (_, Some(_)) => return Err("only one slave is named"),
+        (_, None) => return Err("FILE is needed"),
+    };
+    Ok(Look {
+        which,
+        sizes: sizes_in(given)?,
+        purpose,
+    })
+}
+
+/// How one slave is changed.
+fn change_of<'a>(given: &Given<'a>) -> Result<Change<'a>, &'static str> {
+    let new = if given.subcommand == "alias" {
+        let (which, value) = which_in(given, "VALUE")?;
+        let value = value.and_then(small_in);
+        (
+            which,
+            New::Alias(value.ok_or("VALUE is a number, 0 to 65535")?),
+        )
+    } else {
+        let (which, file) = which_in(given, "FILE")?;
+        let file = file.ok_or("FILE is needed")?;
+        (which, New::Image(file))
+    };
+    let (which, new) = new;
+    Ok(Change {
+        which,
+        sizes: sizes_in(given)?,
+        new,
+        folder: folder_in(given)?,
+        asked: asked_in(given)?,
+    })
+}
+
+/// The folder for what is kept of calls on one slave.
+fn folder_in<'a>(given: &Given<'a>) -> Result<&'a str, &'static str> {
+    given.text("state").ok_or("--state DIR is needed, which the launcher gives where it isn't said")
+}
+
 /// The sizes of EEPROMs that are given.
 fn sizes_in(given: &Given<'_>) -> Result<Sizes, &'static str> {
     sizes_of(given.word("words")).ok_or(
@@ -225,33 +312,42 @@ fn sizes_in(given: &Given<'_>) -> Result<Sizes, &'static str> {
 }
 
 /// What `run` or `plan` is given.
-fn order_of<'a>(given: &Given<'a>) -> RunOrder<'a> {
-    RunOrder {
+fn order_of<'a>(given: &Given<'a>) -> Result<RunOrder<'a>, &'static str> {
+    Ok(RunOrder {
         named: Named {
             line: given.word("LINE"),
             script: given.script(),
         },
-        asked: asked_in(given),
-    }
+        asked: asked_in(given)?,
+    })
 }
 
 /// What the flags ask for.
-fn asked_in(given: &Given<'_>) -> Asked {
-    Asked {
+fn asked_in(given: &Given<'_>) -> Result<Asked, &'static str> {
+    let mends = mends_of(
+        given.text("found"),
+        given.text("file"),
+        given.text("exchanged"),
+    );
+    Ok(Asked {
         trusts_images: given.has("trust-images"),
         is_forced: given.has("force"),
         resizes: given.has("resize"),
+        any_device: given.has("any-device"),
+        mends: mends.ok_or(
+            "--found, --file and --exchanged are SLAVE,.. with numbers from 0 to 63, each once",
+        )?,
         tells: Tells {
             report: given.has("report"),
             events: given.has("events"),
         },
-    }
+    })
 }
 
 /// What the flags of `init` and `recover` ask for. Their `--force` is about EEPROMs beside a master, and not about slaves in operation.
-fn asked_apart(given: &Given<'_>) -> Asked {
-    Asked {
+fn asked_apart(given: &Given<'_>) -> Result<Asked, &'static str> {
+    Ok(Asked {
         is_forced: false,
-        ..asked_in(given)
-    }
+        ..asked_in(given)?
+    })
 }

@@ -4,6 +4,8 @@ use crate::pages::{explanation, print_page};
 use crate::wire::arguments::{Arguments, Task, Tenure};
 use crate::wire::backups::{back_up, back_up_to};
 use crate::wire::capture::{begin_capture, end_capture};
+use crate::wire::changing::{change_slave, last_line, require_ended};
+use crate::wire::one_slave::look_at_slave;
 use command_line::{InputScript, Script};
 use line_watch::{Capture, Cleared, ObservedWire, Progress};
 use station_files::{ExitStatus, Failures, Fault, Store, report_fault};
@@ -17,8 +19,8 @@ use std::thread::Threads;
 use std::time::Duration;
 use wire_faults::WireFault;
 use wire_frames::{EthernetWire, NumberedWire, TimedWire, Wire};
-use wire_scan::{CaptureNames, keep_capture_apart, scan_line};
-use wire_session::{init_on_wire, plan_on_wire, recover_line, run_script};
+use wire_scan::{Asked, CaptureNames, Mend, Mends, keep_capture_apart, scan_files, scan_line};
+use wire_session::{init_on_wire, mend_line, plan_on_wire, recover_line, run_script};
 
 /// A connection to a line.
 #[derive(Drop)]
@@ -235,7 +237,10 @@ fn do_task<
     output: &mut O,
 ) -> Result<ExitStatus, WireFault> {
     match task {
-        Task::Scan { sizes, form } => all_done(scan_line(rt, &mut wire, &sizes, form, output)),
+        Task::Scan { line, sizes, form } => all_done(match line {
+            Some(line) => scan_files(rt, &mut wire, line, form, store, output),
+            None => scan_line(rt, &mut wire, &sizes, form, output),
+        }),
         Task::Backup { line, sizes } => back_up(rt, line, &sizes, &mut wire, store, output),
         Task::BackupTo { folder, sizes } => {
             back_up_to(rt, folder, &sizes, &mut wire, store, output)
@@ -243,13 +248,50 @@ fn do_task<
         Task::Init { line, asked } => {
             all_done(init_on_wire(rt, &mut wire, line, asked, store, output))
         }
-        Task::Run(order) => run_script(rt, wire, order, store, output).into_ended(),
-        Task::Plan { order, form } => plan_on_wire(rt, &mut wire, order, form, store, output),
-        Task::Recover { line, asked } => {
-            all_done(recover_line(rt, wire, line, asked, store, output).into_ended())
+        Task::Run { order, folder } => {
+            if let Some(folder) = folder {
+                require_ended(rt.alloc(), folder, store)?;
+            }
+            run_script(rt, wire, order, store, output).into_ended()
         }
+        Task::Plan { order, form } => plan_on_wire(rt, &mut wire, order, form, store, output),
+        Task::Recover { line, asked } => recover(rt, wire, line, asked, store, output),
+        Task::RecoverLast { folder, asked } => {
+            let line = last_line(rt.alloc(), folder)?;
+            writeln!(output, "line {line}")?;
+            recover(rt, wire, line.as_str(), asked, store, output)
+        }
+        Task::Look(look) => look_at_slave(rt, &mut wire, look, store, output),
+        Task::Change(change) => change_slave(rt, wire, change, store, output),
         Task::Explain { code } => all_done(print_page(explanation(rt.alloc(), code), output)),
     }
+}
+
+/// Recovers a line, and writes the image files to their slaves of which that is said.
+fn recover<
+    H: Wait + Threads + Clock + AllocGlobal + Sync,
+    W: Wire + Send + Drop,
+    S: Store,
+    O: Write,
+>(
+    rt: &H,
+    wire: NumberedWire<W>,
+    line: &str,
+    asked: Asked,
+    store: &mut S,
+    output: &mut O,
+) -> Result<ExitStatus, WireFault> {
+    if writes_images(&asked.mends) {
+        return mend_line(rt, wire, line, asked, store, output).into_ended();
+    }
+    all_done(recover_line(rt, wire, line, asked, store, output).into_ended())
+}
+
+/// Whether image files are to be written to their slaves.
+fn writes_images(mends: &Mends) -> bool {
+    mends
+        .iter()
+        .any(|said| matches!(said, Mend::File | Mend::Exchanged))
 }
 
 /// `Done` where no fault came.

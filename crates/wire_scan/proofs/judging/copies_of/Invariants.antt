@@ -1,5 +1,5 @@
-use Rattle.std.specs.Prelude.{◌≡◌, length}
+use Rattle.std.proofs.Common.{◌≡◌, take}
 use Rattle.wire_scan.proofs.judging.copies_of.Given as goal
 
 abbrev pub invariant-loop-words : goal.invariant-loop-words
-invariant-loop-words l = length l.copies.items ≡ l.words-index
+invariant-loop-words l = l.copies.items ≡ take l.words-index l.slaves

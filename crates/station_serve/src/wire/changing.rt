@@ -1,0 +1,269 @@
+//! The subcommands that change one slave, without a line file: `alias` and `write`. Each is a run on the line that is found, whose files lie in a
+//! folder of the station's.
+
+use crate::wire::backups::dated_name;
+use crate::wire::one_slave::find_slaves;
+use crate::wire::serving::all_done;
+use crate::wire::which::Which;
+use line_changes::{Before, changes_since, put_changes};
+use sii_words::{ImageFile, Plant};
+use station_files::{Entry, ExitStatus, Fault, Place, Store, load_line, read_image};
+use station_listing::Code;
+use station_rows::{Form, Rows, named, said};
+use std::alloc::{AllocError, Global};
+use std::io::Write;
+use std::rt::Clock;
+use std::sync::Wait;
+use std::thread::Threads;
+use wire_bringup::{Sizes, look_along};
+use wire_faults::WireFault;
+use wire_frames::{NumberedWire, Wire};
+use wire_scan::{Asked, Named, judge_image, judge_measures, judge_states, save_backup};
+use wire_session::{RunOrder, begin_journal, run_script};
+
+/// A change of one slave.
+#[derive(Clone, Copy)]
+pub struct Change<'a> {
+    /// The slave that is meant.
+    pub which: Which,
+    /// The sizes of EEPROMs, as far as they are given.
+    pub sizes: Sizes,
+    /// What it gets.
+    pub new: New<'a>,
+    /// The folder for the journal and for what is kept.
+    pub folder: &'a str,
+    /// What is asked for that isn't done where nothing is said.
+    pub asked: Asked,
+}
+
+/// What a slave gets.
+#[derive(Clone, Copy)]
+pub enum New<'a> {
+    /// This configured station alias.
+    Alias(u16),
+    /// The image in this file.
+    Image(&'a str),
+}
+
+/// What is there for a run.
+#[derive(Drop)]
+struct Ready {
+    /// The name of the line file.
+    line: String,
+    /// The name of the script.
+    script: String,
+    /// The words of the slaves.
+    words: Plant,
+}
+
+/// What is noted of a line on which a call was cut.
+const CUT: &str =
+    "an earlier call was cut: recover, without a line file, ends it; of another line, name another folder by --state";
+
+/// The name of the line file of the last call that changed a slave, in this folder.
+///
+/// # Errors
+///
+/// Memory was refused.
+pub(crate) fn last_line(alloc: Global, folder: &str) -> Result<String, AllocError> {
+    format!(in alloc; "{folder}/line.toml")
+}
+
+/// Changes one slave of the line on this wire: writes what a run needs into the folder, under names with the date and the time, and runs it. Prints
+/// the name of the file with the image of the slave as it was, the answers of the run, and, if it ends well, the words that have changed, and that
+/// all is done. Returns the exit status.
+///
+/// # Errors
+///
+/// As for `make_ready`, with no word of a slave written; then as for `run_script`; then `File` or `Memory`, as files or the output answer.
+pub(crate) fn change_slave<
+    H: Wait + Threads + Clock + AllocGlobal + Sync,
+    W: Wire + Send + Drop,
+    S: Store,
+    O: Write,
+>(
+    rt: &H,
+    wire: NumberedWire<W>,
+    change: Change<'_>,
+    store: &mut S,
+    output: &mut O,
+) -> Result<ExitStatus, WireFault> {
+    let mut wire = wire;
+    let ready = match make_ready(rt, &mut wire, change, store, output) {
+        Ok(ready) => ready,
+        Err(fault) => {
+            drop(wire);
+            return Err(fault);
+        }
+    };
+    let Ready {
+        line,
+        script,
+        words,
+    } = ready;
+    let order = RunOrder {
+        named: Named {
+            line: line.as_str(),
+            script: script.as_str(),
+        },
+        asked: change.asked,
+    };
+    let ended = run_script(rt, wire, order, store, output).into_ended();
+    if !matches!(ended, Ok(ExitStatus::Done)) {
+        return ended;
+    }
+    let line = load_line(rt.alloc(), line.as_str(), store)?;
+    all_done(tell_done(rt.alloc(), &Before { line, words }, store, output))
+}
+
+/// Looks whether an earlier call was cut, finds the line and the slave that is meant, and writes into the folder: the image of the slave as it is,
+/// whose name is printed; a backup of the line with an empty journal; and a script. The line file is the last one of the folder then. No word of a
+/// slave is written.
+///
+/// # Errors
+///
+/// `Exists` where an earlier call was cut; as for `read_image` of the new image; unless that is allowed, as for `judge_states`; as for `bring_up`;
+/// `NotOne` where not one slave is meant; as for `judge_measures`; unless that is allowed, as for `judge_image`; then as for `save_backup` and
+/// `begin_journal`, and `File` or `Memory`, as files or the output answer.
+fn make_ready<H: Clock + AllocGlobal, W: Wire, S: Store, O: Write>(
+    rt: &H,
+    wire: &mut NumberedWire<W>,
+    change: Change<'_>,
+    store: &mut S,
+    output: &mut O,
+) -> Result<Ready, WireFault> {
+    let alloc = rt.alloc();
+    require_ended(alloc, change.folder, store)?;
+    let image = image_in(alloc, change.new, store)?;
+    if !change.asked.is_forced && !wire.is_lent() {
+        let seen = look_along(wire)?;
+        judge_states(&seen.states, usize::from(seen.slaves))?;
+    }
+    let found = find_slaves(rt, wire, &change.sizes)?;
+    let place = change.which.place_in(&found)?;
+    judge_measures(&found, &change.sizes)?;
+    let words = Plant::of(found.into_words(alloc)?);
+    match &image {
+        Some(image) if !change.asked.any_device => {
+            judge_image(place, words.slave(place), image)?;
+        }
+        _ => {}
+    }
+    let stem = dated_name(rt, change.folder, "%Y%m%d-%H%M%S%.6f")?;
+    let before = format!(in alloc; "{stem}-before.bin")?;
+    store.write(before.as_str(), &words.slave(place).to_bytes()?)?;
+    writeln!(output, "kept {before}")?;
+    output.flush()?;
+    let script = format!(in alloc; "{stem}-script.toml")?;
+    let text = script_text(alloc, place, change.new)?;
+    store.write(script.as_str(), text.as_bytes())?;
+    let line = format!(in alloc; "{stem}.toml")?;
+    begin_line(alloc, change.folder, line.as_str(), &words, store)?;
+    Ok(Ready {
+        line,
+        script,
+        words,
+    })
+}
+
+/// Looks whether the last call that changed a slave has left nothing to do in the folder. In a folder that can't be read there was none.
+///
+/// # Errors
+///
+/// `Exists` where it was cut; as for `begin_journal`.
+pub(crate) fn require_ended<S: Store>(
+    alloc: Global,
+    folder: &str,
+    store: &mut S,
+) -> Result<(), WireFault> {
+    let line = last_line(alloc, folder)?;
+    if !matches!(store.look(line.as_str()), Ok(Entry::File { .. })) {
+        return Ok(());
+    }
+    let mut unseen: Vec<u8> = Vec::new(alloc);
+    let ended = begin_journal(alloc, line.as_str(), store, &mut unseen);
+    if let Err(WireFault::Station(Fault::Exists)) = ended {
+        store.note(Code::Exists, Place::File(line.as_str()), &CUT);
+    }
+    ended
+}
+
+/// The image that a slave gets, if it gets one.
+fn image_in<S: Store>(
+    alloc: Global,
+    new: New<'_>,
+    store: &mut S,
+) -> Result<Option<ImageFile>, Fault> {
+    match new {
+        New::Image(file) => {
+            let mut nothing: &[u8] = &[];
+            Ok(Some(read_image(alloc, false, Some(file), &mut nothing, store)?))
+        }
+        New::Alias(_) => Ok(None),
+    }
+}
+
+/// The script that gives the slave at this place what it is to get.
+fn script_text(alloc: Global, place: usize, new: New<'_>) -> Result<String, AllocError> {
+    match new {
+        New::Alias(value) => {
+            format!(in alloc; "[[command]]\nalias = {{ slave = {place}, value = {value} }}\n")
+        }
+        New::Image(file) => {
+            let file = spelt(alloc, file)?;
+            format!(in alloc; "[[command]]\nimage = {{ slave = {place}, file = \"{file}\" }}\n")
+        }
+    }
+}
+
+/// A text as it stands between double quotes in TOML.
+fn spelt(alloc: Global, text: &str) -> Result<String, AllocError> {
+    let mut spelt = String::new(alloc);
+    for letter in text.chars() {
+        if letter.is_control() || letter == '"' || letter == '\\' {
+            let code = letter as u32;
+            let escape = format!(in alloc; "\\u{code:04x}")?;
+            spelt.push_str(escape.as_str())?;
+        } else {
+            spelt.push(letter)?;
+        }
+    }
+    Ok(spelt)
+}
+
+/// Writes a backup of slaves with these words, and an empty journal; and makes its line file the last one of the folder.
+fn begin_line<S: Store>(
+    alloc: Global,
+    folder: &str,
+    line: &str,
+    words: &Plant,
+    store: &mut S,
+) -> Result<(), WireFault> {
+    let mut slaves = Vec::new(alloc);
+    for slave in 0..words.len() {
+        slaves.push(words.slave(slave).try_copy()?)?;
+    }
+    save_backup(alloc, line, &slaves, store)?;
+    let mut unseen: Vec<u8> = Vec::new(alloc);
+    begin_journal(alloc, line, store, &mut unseen)?;
+    let Some(text) = store.read(alloc, line)? else {
+        return Err(WireFault::Station(Fault::File));
+    };
+    let last = last_line(alloc, folder)?;
+    store.write(last.as_str(), &text)?;
+    Ok(())
+}
+
+/// Prints the words that have changed since, and that all is done.
+fn tell_done<S: Store, O: Write>(
+    alloc: Global,
+    before: &Before,
+    store: &mut S,
+    output: &mut O,
+) -> Result<(), Fault> {
+    let report = changes_since(alloc, before, store)?;
+    let mut rows = Rows::new(alloc, Form::Text);
+    put_changes(&mut rows, &report.changes)?;
+    rows.say(&[said("", "done"), named("words", report.changes.len())])?;
+    rows.write(output)
+}
