@@ -115,7 +115,7 @@ pub(crate) fn told_on<R: Wait + Threads + Sync, W: Wire + Send>(
     locked: &LockedLine<W>,
     parts: Parts,
 ) -> Option<Told> {
-    if !parts.is_whole() {
+    if !parts.are_of_line() {
         return None;
     }
     let device = WireDevice::shared(locked.shared(rt), &bench.clock, journal_on(alloc, bench));

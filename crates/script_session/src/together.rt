@@ -1,11 +1,13 @@
 //! Puts a line together again from the ends of its threads, and tells of the devices of its parts.
 
 ghost use Rattle.std.specs.Prelude.{◌≡◌, ◌<◌, ◌≤◌, ◌+◌, ◌∷◌, ◌++◌, [], List, length, vec_capacity, IfOk, IfSome};
-ghost use Rattle.std.specs.Prelude.{IsOkAnd, IsTrue};
+ghost use Rattle.std.specs.Prelude.{IsOkAnd, IsTrue, Some};
 ghost use Rattle.std.specs.List.{AllByRecursion, AllZip};
 ghost use Rattle.site_core.specs.State.{Seen};
 ghost use Rattle.site_shadow.specs.Line.{half_of, halves_of};
+ghost use Rattle.site_shadow.specs.Lending.{IsOf};
 ghost use Rattle.site_shadow.specs.Site.{SiteValue};
+ghost use Rattle.site_shadow.specs.declared.lending.LinePart.{LinePart};
 ghost use Rattle.station_jobs.specs.Ends.{Stay};
 ghost use Rattle.station_threads.specs.declared.closing.Ends.{Ends};
 ghost use Rattle.station_jobs.specs.Flushing.{IsFlushed};
@@ -19,18 +21,19 @@ ghost use Rattle.script_session.specs.Parts.{
   IsDeskTold,
   IsLineOf,
   IsRoom,
+  IsToldAsOwn,
   IsTogether,
   IsWorkFollowed,
   Telling,
 };
 ghost use Rattle.station_line.specs.Site.{IsFollowed};
 
-use crate::apart::site_of;
+use crate::apart::{InMemory, site_of};
 use crate::told::{DeskTold, PartTold, taken_back};
 use esc_model::RomHalf;
 use esc_rom::owns_all;
 use site_core::Site;
-use site_shadow::{Device, Lends, Parts, ShadowSite};
+use site_shadow::{Lends, Parts, ShadowSite};
 use station_files::Fault;
 use station_jobs::{CycleLog, End, Leads, SlaveLog};
 use station_threads::{Ends, PerDevice, Sites};
@@ -97,6 +100,8 @@ fn parts_of<D: Lends>(site: ShadowSite<D>, whole: &mut D) -> (Parts, PartTold<D:
     ensures disk { IfSome result.0.disk (λ bytes. bytes.items ≡ site.seen.state.disk.bytes) }
     ensures halves { halves_of result.0.halves.items ≡ site.seen.state.halves }
     ensures told { IsFollowed (Telling D.follows D.well D.tells result.1) site.seen }
+    ensures own { (part : LinePart) → IsOf (Some part) site.line → D.is_of part result.1.told }
+    ensures whole { D.is_whole whole.old → D.is_whole whole.new }
 {
     let has_stopped = site.has_stopped();
     let (parts, device) = site.into_parts();
@@ -112,6 +117,8 @@ fn parts_at<D: Lends, L: Leads + Drop>(
     ensures halves { halves_of result.0.halves.items ≡ end.site.seen.state.halves }
     ensures led { L.leads end.log end.start.seen end.site.seen }
     ensures told { IsFollowed (Telling D.follows D.well D.tells result.1) end.site.seen }
+    ensures own { (part : LinePart) → IsOf (Some part) end.start.line → D.is_of part result.1.told }
+    ensures whole { D.is_whole whole.old → D.is_whole whole.new }
 {
     let (site, _log) = end.into_parts();
     parts_of(site, whole)
@@ -185,7 +192,9 @@ fn half_at<D: Lends>(
 ) -> (Result<Option<RomHalf>, Fault>, PartTold<D::Told>)
     ensures half { IfOk result.0 (λ half. EndsWith slave end (half_of half)) }
     ensures told { IsWorkFollowed (Telling D.follows D.well D.tells result.1) end }
+    ensures own { (part : LinePart) → IsOf (Some part) end.start.line → D.is_of part result.1.told }
     ensures followed { IsWorkFollowed D.follows end }
+    ensures whole { D.is_whole whole.old → D.is_whole whole.new }
 {
     let (mut parts, told) = parts_at(end, whole);
     if slave >= parts.halves.len() {
@@ -204,9 +213,10 @@ fn with_slave<D: Lends>(
     whole: &mut D,
 ) -> OfSlaves<D::Told>
     requires { length left.told.items < vec_capacity left.told }
-    ensures left { (workers : List (Stay SiteValue SlaveLog)) → AreLeftBy D.follows D.well D.tells workers left
-        → AreLeftBy D.follows D.well D.tells (workers ++ end ∷ []) result }
+    ensures left { (workers : List (Stay SiteValue SlaveLog)) → AreLeftBy D.follows D.well D.tells D.is_of workers left
+        → AreLeftBy D.follows D.well D.tells D.is_of (workers ++ end ∷ []) result }
     ensures followed { IsWorkFollowed D.follows end }
+    ensures whole { D.is_whole whole.old → D.is_whole whole.new }
     ensures count { length result.told.items ≡ length left.told.items + 1 }
     ensures reserved { vec_capacity result.told ≡ vec_capacity left.told }
 {
@@ -227,8 +237,9 @@ fn slaves_at<D: Lends>(
 ) -> OfSlaves<D::Told>
     requires room { IsRoom room }
     requires reserved { length workers.items ≤ vec_capacity room.told }
-    ensures left { AreLeftBy D.follows D.well D.tells workers.items result }
+    ensures left { AreLeftBy D.follows D.well D.tells D.is_of workers.items result }
     ensures followed { AllByRecursion (IsWorkFollowed D.follows) workers.items }
+    ensures whole { D.is_whole whole.old → D.is_whole whole.new }
 {
     let mut left = room;
     for end in workers {
@@ -238,18 +249,23 @@ fn slaves_at<D: Lends>(
 }
 
 /// Whether the site is a line of `slaves` slaves, all of them owned, with its disk.
-fn is_line_of<D: Device>(site: &ShadowSite<D>, slaves: usize) -> bool
-    ensures { IsTrue result → IsLineOf slaves site.now.line }
+fn is_line_of(site: &InMemory, slaves: usize) -> bool
+    ensures line { IsTrue result → IsLineOf slaves site.now.line }
+    ensures some { 1 ≤ length site.now.line.sizes }
 {
-    site.has_disk() && usize::from(site.slaves()) == slaves && owns_all(site)
+    let count = usize::from(site.slaves());
+    site.has_disk() && count == slaves && owns_all(site)
 }
 
 /// The device of the line takes back that of the process data, if a thread exchanged them.
-fn end_cycle<D: Lends>(cycle: Option<End<ShadowSite<D>, CycleLog>>, whole: &mut D) {
+fn end_cycle<D: Lends>(cycle: Option<End<ShadowSite<D>, CycleLog>>, whole: &mut D)
+    ensures { D.is_whole whole.old → D.is_whole whole.new }
+{
     if let Some(end) = cycle {
         let (parts, told) = parts_at(end, whole);
         drop(parts);
         drop(told);
+        return;
     }
 }
 
@@ -262,7 +278,9 @@ fn split<D: Lends>(
     ensures disk { IfSome result.0.disk (λ bytes. bytes.items ≡ ends.flusher.site.seen.state.disk.bytes) }
     ensures flushed { IsFlushed ends.flusher.log ends.flusher.start.seen ends.flusher.site.seen }
     ensures told { IsFollowed (Telling D.follows D.well D.tells result.1) ends.flusher.site.seen }
+    ensures own { (part : LinePart) → IsOf (Some part) ends.flusher.start.line → D.is_of part result.1.told }
     ensures workers { result.2 ≡ ends.workers }
+    ensures whole { D.is_whole whole.old → D.is_whole whole.new }
 {
     let Ends {
         flusher,
@@ -274,13 +292,12 @@ fn split<D: Lends>(
     (parts, told, workers)
 }
 
-/// The line with the disk of these parts and these EEPROM halves.
-fn line_of<D: Device + Drop>(
+/// The line in memory with the disk of these parts and these EEPROM halves.
+fn line_of(
     alloc: Global,
     line: Parts,
-    device: D,
     halves: Vec<Option<RomHalf>>,
-) -> Result<ShadowSite<D>, Fault>
+) -> Result<InMemory, Fault>
     ensures new { IfOk result (λ site. site.seen.past ≡ []) }
     ensures disk { IfOk result (λ site. HasDiskOf line.disk site) }
     ensures halves { IfOk result (λ site. site.seen.state.halves ≡ halves_of halves.items) }
@@ -299,12 +316,13 @@ fn line_of<D: Device + Drop>(
         halves,
         process: None,
     };
-    site_of(alloc, parts, device)
+    site_of(alloc, parts)
 }
 
 /// The site, if it is a line of `slaves` slaves with its disk; otherwise `Unserved`.
-fn whole_line<D: Device + Drop>(site: ShadowSite<D>, slaves: usize) -> Result<ShadowSite<D>, Fault>
-    ensures { IfOk result (λ whole. (whole ≡ site) × IsLineOf slaves whole.line) }
+fn whole_line(site: InMemory, slaves: usize) -> Result<InMemory, Fault>
+    ensures line { IfOk result (λ whole. (whole ≡ site) × IsLineOf slaves whole.line) }
+    ensures some { IfOk result (λ whole. 1 ≤ length whole.line.sizes) }
 {
     if is_line_of(&site, slaves) {
         Ok(site)
@@ -314,22 +332,24 @@ fn whole_line<D: Device + Drop>(site: ShadowSite<D>, slaves: usize) -> Result<Sh
     }
 }
 
-/// The line with the disk of these parts and these EEPROM halves, if it is one of `slaves` slaves.
-fn joined<D: Device + Drop>(
+/// The line with the disk of these parts and these EEPROM halves, if it is one of `slaves` slaves. Its own device is put behind it.
+fn joined<D: Lends>(
     alloc: Global,
     line: Parts,
     device: D,
     halves: Result<Vec<Option<RomHalf>>, Fault>,
     slaves: usize,
 ) -> Result<ShadowSite<D>, Fault>
+    requires { D.is_whole device }
     ensures { (ends : Ends SiteValue) → IfSome line.disk (λ bytes. bytes.items ≡ ends.flusher.site.seen.state.disk.bytes)
         → IfOk halves (λ found. AllPlaced EndsWith 0 ends.workers.items (halves_of found.items))
         → IfOk result (λ site. IsTogether ends site × IsLineOf slaves site.line) }
 {
     match halves {
         Ok(halves) => {
-            let made = line_of(alloc, line, device, halves)?;
-            whole_line(made, slaves)
+            let made = line_of(alloc, line, halves)?;
+            let whole = whole_line(made, slaves)?;
+            Ok(whole.with_device(device))
         }
         Err(fault) => {
             drop(line);
@@ -353,9 +373,11 @@ pub(crate) fn put_together<D: Lends>(
 ) -> (Result<ShadowSite<D>, Fault>, DeskTold<D::Told>)
     requires room { IsRoom whole.room }
     requires reserved { length ends.workers.items ≤ vec_capacity whole.room.told }
+    requires whole { D.is_whole whole.device }
     ensures together { IfOk result.0 (λ site. IsTogether ends site × IsLineOf slaves site.line) }
     ensures told { (opened : Seen) → IsFollowed (Telling D.follows D.well D.tells whole.told) opened
         → IsDeskTold D.follows D.well D.tells opened result.1 ends }
+    ensures own { IsToldAsOwn D.is_of result.1 ends }
     ensures followed { AreFollowed D.follows ends }
 {
     let Whole {

@@ -19,7 +19,7 @@ use Rattle.site_file.specs.declared.asking.LineFile.TheVariants.{Journal as Jour
 use Rattle.site_file.specs.declared.files.FileDevice.{FileDevice}
 use Rattle.site_file.specs.declared.asking.Asked.{Asked}
 use Rattle.site_file.specs.declared.asking.FileTold.{FileTold}
-use Rattle.site_file.specs.Asking.{HasLog, TellsLog}
+use Rattle.site_file.specs.Asking.{HasLog}
 use Rattle.site_file.specs.Following as files
 use Rattle.site_file.specs.Held.{is_same}
 use Rattle.site_file.specs.Files.{File, image_of}
@@ -211,16 +211,15 @@ sound-at : {T : Type 0} (told : List (PartTold T)) (slave : ℕ) (part : PartTol
 sound-at told slave part all here = at-place (λ one. IsTrue one.is_sound) told slave part all here
 
 -- the calls of a device, by what is told of it
-told-calls : (F : Type 0) (device kept : FileDevice F) (calls : List Asked) (told : Option (List Asked)) → kept ≡ device → HasLog kept.asking.calls calls
-    → TellsLog device.asking.calls told → IfSome told (λ asked. asked ≡ calls)
-told-calls F device kept calls None same log tells = tt
-told-calls F device kept calls (Some asked) same log tells =
+told-calls : (F : Type 0) (device kept : FileDevice F) (calls asked : List Asked) → kept ≡ device → HasLog kept.asking.calls calls
+    → HasLog device.asking.calls asked → asked ≡ calls
+told-calls F device kept calls asked same log tells =
     append_cancel_left device.asking.calls.begun.value asked calls (sym tells ∙ subst (λ (d : FileDevice F). HasLog d.asking.calls calls) same log)
 
 -- what a device tells of its log, its device of files has asked
 abbrev pub TellsFile : (F : Type 0) → {D : Type 0} → (follows : D → Seen → Type 0) → HasFileDevice F follows → (D → FileTold → Type 0) → Type 0
 TellsFile F {D} follows to_file tells =
-    (device : D) (seen : Seen) (f : follows device seen) (told : FileTold) → tells device told → TellsLog (to_file device seen f).0.asking.calls told.calls
+    (device : D) (seen : Seen) (f : follows device seen) (told : FileTold) → tells device told → HasLog (to_file device seen f).0.asking.calls told.calls
 
 -- by devices that keep this and tell of it
 module _ (F : Type 0) {D : Type 0} (follows : D → Seen → Type 0) (to_file : HasFileDevice F follows) (tells : D → FileTold → Type 0) (tells_file : TellsFile F follows to_file tells) where
@@ -297,14 +296,14 @@ module _ (F : Type 0) {D : Type 0} (follows : D → Seen → Type 0) (well : D �
     have_asked : HaveAsked told desk.ends keeps_told.desk
     unfolding keeps_told keeps_parts desk told_disk told_works
     have_asked = record {
-      journal = subst (λ (d : FileDevice F). TellsLog d.asking.calls told.disk.told.calls)
+      journal = subst (λ (d : FileDevice F). HasLog d.asking.calls told.disk.told.calls)
           (sym (journal_device F follows to_file station synced desk tellings.flushed told_disk told_works))
           (tells_file tellings.disk.0 desk.ends.flusher.site.seen tellings.disk.1.0 told.disk.told tellings.disk.1.1);
       images = λ slave end is.
           let w = told-work follows well tells told.slaves.items desk.ends.workers.items tellings.slaves slave end is in (
             w.0,
             w.1,
-            subst (λ (d : FileDevice F). TellsLog d.asking.calls w.0.told.calls)
+            subst (λ (d : FileDevice F). HasLog d.asking.calls w.0.told.calls)
                 (sym (image_device F follows to_file station synced desk tellings.flushed told_disk told_works slave end is))
                 (tells_file w.2.followed.0 end.site.seen w.2.followed.1.0 w.0.told w.2.followed.1.1),
           );
@@ -518,23 +517,6 @@ unserved_line follows well tells told station commands why same_desk same_openin
     by (unserved.Line part) (at_desk.line _ followed) = (followed.0, (followed.1.0, followed.1.1))
     by (unserved.Apart devices) (at_desk.apart _ parts none tellings) = (tellings.before.0, (tellings.before.1.0, tellings.before.1.1))
     by (unserved.Desk devices) (at_desk.desk _ ending served_by tellings) = (tellings.before.0, (tellings.before.1.0, tellings.before.1.1))
-
-desk_told : (F : Type 0) (told : RunTold FileTold) (station : Station) (commands : List Command) (one final : ExitStatus) → ¬ IsFaultless final
-    → DeskGoes (OfFiles F told) station commands one → DeskGoes (OfFiles F told) station commands final
-desk_told F told station commands one final bad (unbegun was) = unbegun bad
-desk_told F told station commands one final bad (idle parts none keeps was) = idle parts none keeps bad
-desk_told F told station commands one final bad (apart ending desk keeps was) = apart ending desk keeps bad
-desk_told F told station commands one final bad (served ending site sound parts desk closes) =
-    served ending site sound parts desk (λ closed. behind_told (OfFiles F told) ending.is_driven sound commands site.seen one final (λ was. bad)
-    (closes closed))
-
--- a fault that is told behind a run ends it as a fault, or the status stays
-pub told_as : (F : Type 0) (before : Seen) (commands : List Command) (one final : ExitStatus) (told : RunTold FileTold) → (final ≡ one) ⊎ (¬ IsFaultless final)
-    → RunKeepsFiles F before commands one told → RunKeepsFiles F before commands final told
-told_as F before commands one final told (inl same) kept = subst (λ (s : ExitStatus). RunKeepsFiles F before commands s told) (sym same) kept
-told_as F before commands one final told (inr bad) (unopened last stage was) = unopened last stage bad
-told_as F before commands one final told (inr bad) (opened station stage synced goes) = opened station stage synced
-    (desk_told F told station commands one final bad goes)
 
 pub runs_kept : (F : Type 0) (old : Known) (name script : List ℕ) (line : LineFile) (site : SiteValue) (commands : List Command) (status : ExitStatus) (told : RunTold FileTold) → Loads old name line site
     → SpellsCommands old script commands → RunKeepsFiles F site.seen commands status told → KeepsRunFiles F old name script status told

@@ -14,8 +14,7 @@ use Rattle.site_file.specs.declared.asking.Asked.{Asked}
 use Rattle.site_file.specs.declared.asking.FileTold.{FileTold}
 use Rattle.site_file.specs.Parts.{AreOf}
 use Rattle.site_shadow.specs.declared.lending.LinePart.{LinePart}
-use Rattle.site_shadow.specs.declared.lending.LinePart.TheVariants as parts
-use Rattle.site_file.specs.Asking.{TellsLog}
+use Rattle.site_file.specs.Asking.{HasLog}
 use Rattle.site_file.specs.Files.{BecomesBy, File, IsBytes}
 use Rattle.site_file.specs.Held.{of_file}
 use Rattle.site_file.specs.AllFiles.{calls_of, Holds, Shows}
@@ -42,7 +41,7 @@ use Rattle.script_session.specs.declared.told.DeskTold.{DeskTold}
 use Rattle.script_session.specs.declared.told.UnservedTold.{UnservedTold}
 use Rattle.script_session.specs.declared.told.UnservedTold.TheVariants as unserved
 use Rattle.script_session.specs.declared.told.PartTold.{PartTold}
-use Rattle.script_session.specs.Parts.{AreSound, AreUnserved, IsDeskTold}
+use Rattle.script_session.specs.Parts.{AreSound, AreUnserved, IsDeskTold, IsToldOfParts}
 use Rattle.station_session.specs.declared.told.RunTold.{RunTold}
 use Rattle.station_line.specs.Rounds.{AreAmong}
 use Rattle.station_line.specs.Site.{IsFollowed}
@@ -189,7 +188,7 @@ pub record KeepsAtDesk (F : Type 0) (station : Station) (sound : Result (Unit {0
 
 -- What is told of the calls of a device, if something is.
 abbrev pub IsTold : Option FileTold → (List Asked → Type 0) → Type 0
-IsTold told so = IfSome told (λ file. IfSome file.calls so)
+IsTold told so = IfSome told (λ file. so file.calls)
 
 -- As `KeepsOn`, by the calls that are told.
 pub record KeepsAsTold (F : Type 0) (told : Option FileTold) (before now : Seen) : Type 0 where
@@ -204,10 +203,10 @@ pub record ServesAsTold (F : Type 0) (told : Option FileTold) (commands : List C
 -- The devices behind the parts of a desk have asked their files what is told of them.
 pub record HaveAsked {F : Type 0} (told : DeskTold FileTold) (ends : Ends SiteValue)
     (desk : DeskOnFiles F seen_of ends.flusher ends.workers.items) : Type 0 where
-  pub journal : TellsLog desk.journal.device.asking.calls told.disk.told.calls
+  pub journal : HasLog desk.journal.device.asking.calls told.disk.told.calls
   pub images : (slave : ℕ) (end : Stay SiteValue SlaveLog) (is : slice_get ends.workers.items slave ≡ Some end)
       → (part : PartTold FileTold) × (slice_get told.slaves.items slave ≡ Some part)
-      × TellsLog (desk.images slave end is).device.asking.calls part.told.calls
+      × HasLog (desk.images slave end is).device.asking.calls part.told.calls
 
 -- As `KeepsParts`, by the calls that are told.
 pub record KeepsPartsAsTold (F : Type 0) (told : Option (DeskTold FileTold)) (station : Station) (ends : Ends SiteValue) : Type 0 where
@@ -245,25 +244,18 @@ pub record KeepsRunFiles (F : Type 0) (old : Known) (name script : List ℕ) (st
   pub spelt : SpellsCommands old script commands
   pub kept : RunKeepsFiles F site.seen commands status told
 
--- All that a device asked of its files is told, and it was the device of this part: it asked no other file.
-pub record IsPartTold (part : LinePart) (told : FileTold) : Type 0 where
-  pub log : IsTrue (is_some told.calls)
-  pub own : IfSome told.calls (AreOf (Some part))
+-- The device of this part is told of: it asked no other file.
+abbrev pub IsPartTold : LinePart → FileTold → Type 0
+IsPartTold part told = AreOf (Some part) told.calls
 
--- The same of the device behind the worker of each slave, in order.
-abbrev pub AreSlavesTold : List (PartTold FileTold) → Type 0
-AreSlavesTold told = (slave : ℕ) (part : PartTold FileTold) → slice_get told slave ≡ Some part → IsPartTold (parts.Slave slave) part.told
+-- The devices of the line as the station was opened, at the desk, each of its own part, and of the line behind it are told of.
+pub record TellsAll {T : Type 0} (of : LinePart → T → Type 0) (told : RunTold T) : Type 0 where
+  pub desk : IsSomeAnd told.desk (IsToldOfParts of)
+  pub behind : IsTrue (is_some told.behind)
 
--- The logs of the line's device before it was taken apart, and of the device of each part are told, each of its own part.
-pub record AreLogsTold (told : DeskTold FileTold) : Type 0 where
-  pub line : IsTrue (is_some told.line.told.calls)
-  pub disk : IsPartTold parts.Disk told.disk.told
-  pub slaves : AreSlavesTold told.slaves.items
-
--- The logs of the line's device as the station was opened, of the devices at the desk, and of the line's behind it are told.
-pub record IsAllTold (told : RunTold FileTold) : Type 0 where
-  pub desk : IsSomeAnd told.desk AreLogsTold
-  pub behind : IsSomeAnd told.behind (λ file. IsTrue (is_some file.calls))
+-- All that was asked of the files is told.
+abbrev pub IsAllTold : RunTold FileTold → Type 0
+IsAllTold told = TellsAll IsPartTold told
 
 -- No device is told of: none has had a file of the line.
 pub record IsNoneTold {T : Type 0} (told : RunTold T) : Type 0 where

@@ -3,17 +3,18 @@ ghost use Rattle.std.specs.Prelude.{◌≡◌, is_some, false, IfErr, IfOk, IsTr
 ghost use Rattle.station_files.specs.Faults.{IsFaultless};
 ghost use Rattle.station_line.specs.Opened.{is_old, IsFresh};
 ghost use Rattle.station_line.specs.Refusals.{RefusesRun};
-ghost use Rattle.station_session.specs.RunFiles.{IsAllTold, IsNoneTold, KeepsRunFiles, RunKeepsFiles, RunsFollowed};
+ghost use Rattle.station_session.specs.RunFiles.{IsAllTold, IsNoneTold, KeepsRunFiles, RunKeepsFiles, RunsFollowed, TellsAll};
 ghost use Rattle.station_session.specs.Session.{EndsRun, RunsFiles};
 
 use crate::answers::Answers;
 use crate::fused::{Fuse, run_fused};
 use crate::threads::run_threads;
-use crate::told::{FilesTold, RunTold, Served, with_all_told};
+use crate::told::{FilesTold, RunTold, Served};
 use crate::watch::Watch;
 use line_watch::{Cleared, Watched};
 use sii_edit::Command;
 use site_file::{FileDevice, FileTold, OpenFiles};
+use site_core::Site;
 use site_mem::FaultPlan;
 use site_shadow::{Lends, ShadowSite};
 use station_files::{ExitStatus, Failures, Fault, Store};
@@ -196,7 +197,6 @@ fn run_opened<S: Store, W: Write, T: Write + Send, R: Wait + Threads + Clock + A
         &mut Cleared::new(output, progress, rt),
         failures,
     );
-    let served = with_all_told(served, failures);
     watch.erase();
     served
 }
@@ -212,8 +212,10 @@ fn run_site<D: Lends + Send, S: Store, W: Write, R: Wait + Threads + AllocGlobal
 ) -> Served<D::Told>
     requires fresh { IsFresh line.now ready.site }
     requires old { ready.is_old ≡ is_old ready.site.seen.state.disk.bytes }
+    requires whole { D.is_whole ready.device }
     ensures ends { EndsRun false (S.files store.old) (S.files store.new) line.now ready.site ready.commands.items result.status }
     ensures goes { RunsFollowed D.follows D.well D.tells ready.site.seen ready.commands.items result.status result.told }
+    ensures told { IsFaultless result.status → TellsAll D.is_of result.told }
 {
     let Ready {
         site,
@@ -221,6 +223,8 @@ fn run_site<D: Lends + Send, S: Store, W: Write, R: Wait + Threads + AllocGlobal
         is_old,
         commands,
     } = ready;
+    // Its contract says that there is one slave at least.
+    let _slaves = site.slaves();
     match open_station(rt.alloc(), site.with_device(device), is_old) {
         Ok(alone) => {
             let answers = Answers { output, failures };

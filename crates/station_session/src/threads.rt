@@ -1,10 +1,10 @@
 //! Runs commands by threads, on the files of a line.
-ghost use Rattle.std.specs.Prelude.{◌≡◌, [], false, length, Ok, OnOk, Some};
+ghost use Rattle.std.specs.Prelude.{◌≡◌, [], false, is_some, length, IsTrue, Ok, OnOk, Some};
 ghost use Rattle.station_files.specs.Faults.{IsFaultless};
 ghost use Rattle.station_files.specs.Files.{ChangesAmong};
 ghost use Rattle.station_line.specs.Site.{files_of, IsFollowed};
 ghost use Rattle.script_session.specs.Parts.{IsLineOf};
-ghost use Rattle.station_session.specs.RunFiles.{GoesBehind, OfDevices, ServesFollowedBy, TellsOf, line_told};
+ghost use Rattle.station_session.specs.RunFiles.{GoesBehind, OfDevices, ServesFollowedBy, TellsAll, TellsOf, line_told};
 ghost use Rattle.station_session.specs.Session.{EndsStation};
 ghost use Rattle.script_session.specs.Saving.{SavesBehind, SavesLeft};
 
@@ -40,6 +40,7 @@ pub(crate) fn run_threads<
     ensures ends { EndsStation false (S.files store.old) (S.files store.new) line.now alone commands.items result.status }
     ensures followed { IsFollowed (TellsOf D.follows D.tells (line_told result.told.desk result.told.opening)) alone.seen }
     ensures serves { ServesFollowedBy D.follows D.well D.tells alone commands.items result.status result.told }
+    ensures told { IsFaultless result.status → TellsAll D.is_of result.told }
 {
     let work = Work {
         commands,
@@ -75,6 +76,7 @@ fn end_threads<D: Lends, S: Store, W: Write>(
     ensures others { ChangesAmong (S.files store.old) (S.files store.new) (files_of line.now) }
     ensures saved { IsFaultless result.status → SavesLeft (S.files store.new) line.now left result.status }
     ensures desk { result.told.desk ≡ Some left.told }
+    ensures behind { IsFaultless result.status → IsTrue (is_some result.told.behind) }
     ensures goes { left.ending.closed ≡ Ok tt → GoesBehind (OfDevices D.follows D.well D.tells result.told) left.ending.is_driven left.sound
         left.unserved.items left.site.seen result.status }
 {
@@ -126,6 +128,7 @@ fn save_behind<D: Lends, S: Store, W: Write>(
     ensures saved { IsFaultless result.status
         → SavesBehind (S.files store.new) line.now left.site.seen left.ending.is_driven left.unserved.items result.status }
     ensures desk { result.told.desk ≡ Some left.told }
+    ensures behind { IsFaultless result.status → IsTrue (is_some result.told.behind) }
     ensures goes { GoesBehind (OfDevices D.follows D.well D.tells result.told) left.ending.is_driven left.sound left.unserved.items left.site.seen
         result.status }
 {

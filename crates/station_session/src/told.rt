@@ -1,12 +1,10 @@
 //! What a run tells of the devices of its line.
-ghost use Rattle.std.specs.Prelude.{◌≡◌, ◌⊎◌, Some, None, IsTrue};
-ghost use Rattle.station_files.specs.Faults.{IsFaultless};
-ghost use Rattle.station_session.specs.RunFiles.{desk_of, opening_of, AreLogsTold, AreSlavesTold, IsAllTold, IsNoneTold, IsPartTold};
+ghost use Rattle.std.specs.Prelude.{◌≡◌, Some, None};
+ghost use Rattle.station_session.specs.RunFiles.{desk_of, opening_of, IsNoneTold};
 
-use script_session::{DeskTold, PartTold, UnservedTold};
+use script_session::{DeskTold, UnservedTold};
 use site_file::FileTold;
-use site_shadow::LinePart;
-use station_files::{ExitStatus, Failures, Fault};
+use station_files::ExitStatus;
 
 /// What a run tells of the calls on the files of its line.
 pub type FilesTold = RunTold<FileTold>;
@@ -76,69 +74,4 @@ impl<T> RunTold<T> {
 pub(crate) struct Served<T> {
     pub(crate) status: ExitStatus,
     pub(crate) told: RunTold<T>,
-}
-
-/// The same, or `Unserved` where no fault is told and a log is missing.
-pub(crate) fn with_all_told(served: Served<FileTold>, failures: &mut Failures) -> Served<FileTold>
-    ensures told { result.told ≡ served.told }
-    ensures status { (result.status ≡ served.status) ⊎ (¬ IsFaultless result.status) }
-    ensures all { IsFaultless result.status → IsAllTold result.told }
-{
-    let is_enough = match served.status {
-        ExitStatus::Done | ExitStatus::Refused => is_all_told(&served.told),
-        _ => true,
-    };
-    if is_enough {
-        return served;
-    }
-    let Served { status: _, told } = served;
-    Served {
-        status: failures.note(Fault::Unserved),
-        told,
-    }
-}
-
-/// Whether the logs of all devices are told, those of a desk's each of its own part.
-fn is_all_told(told: &FilesTold) -> bool
-    ensures { IsTrue result → IsAllTold told.now }
-{
-    match (&told.desk, &told.behind) {
-        (Some(desk), Some(behind)) => behind.calls.is_some() && are_logs_told(desk),
-        _ => false,
-    }
-}
-
-/// Whether the logs of the devices at a desk are told, each of its own part.
-fn are_logs_told(told: &DeskTold<FileTold>) -> bool
-    ensures { IsTrue result → AreLogsTold told.now }
-{
-    if !is_part_told(&told.disk.told, LinePart::Disk) {
-        return false;
-    }
-    if !are_slaves_told(told.slaves.as_slice()) {
-        return false;
-    }
-    told.line.told.calls.is_some()
-}
-
-/// Whether the log of each slave's device is told.
-fn are_slaves_told(told: &[PartTold<FileTold>]) -> bool
-    ensures { IsTrue result → AreSlavesTold told.now }
-{
-    for place in 0..told.len() {
-        if !is_part_told(&told[place].told, LinePart::Slave(place)) {
-            return false;
-        }
-    }
-    true
-}
-
-/// Whether the log of the device of this part is told.
-fn is_part_told(told: &FileTold, part: LinePart) -> bool
-    ensures { IsTrue result → IsPartTold part told.now }
-{
-    if !told.is_of(part) {
-        return false;
-    }
-    told.calls.is_some()
 }

@@ -41,7 +41,8 @@ use Rattle.script_session.proofs.SavingLaws.{keeps_told}
 use Rattle.script_session.proofs.SlaveLaws.{placed-at}
 use Rattle.wire_session.specs.declared.told.LineTold.{LineTold}
 use Rattle.wire_session.specs.Interleaving.{Interleaves}
-use Rattle.wire_session.specs.Slaves.{AreOfParts, EndsTold, SlavesHold, all_sent, sent_at_desk}
+use Rattle.script_session.specs.Parts.{IsToldOfParts}
+use Rattle.wire_session.specs.Slaves.{EndsTold, SlavesHold, all_sent, sent_at_desk}
 use Rattle.wire_session.proofs.Interleaved.{Misses, OthersMiss, lives_joined, own_part}
 
 -- PLACES
@@ -258,7 +259,7 @@ module _ {L F C : Type 0} where
         (goes_thrice slave first mid back.0 half (exchanges told.desk.line.told.sent) (exchanges work.part.told.sent) (exchanges told.behind.sent) one two three)
 
     -- no device of another part has sent to a slave
-    module _ (own : AreOfParts (λ (part : LinePart) (one : WireTold). one.journal.part ≡ Some part) told.desk) (slave : ℕ) where
+    module _ (own : IsToldOfParts (λ (part : LinePart) (one : WireTold). one.journal.part ≡ Some part) told.desk) (slave : ℕ) where
       disk_misses : Misses (station slave) (exchanges told.desk.disk.told.sent)
       disk_misses =
           let sent = subst (λ (p : Option LinePart). AreFor p (exchanges told.desk.disk.told.sent)) own.disk
@@ -300,7 +301,7 @@ module _ {L F C : Type 0} where
           both.behind)
 
     -- each slave that was found with these words holds the contents
-    pub slaves_hold : AreOfParts (λ (part : LinePart) (one : WireTold). one.journal.part ≡ Some part) told.desk → (plant : List (List ℕ)) (bytes : List ℕ) → site.seen ≡ switched_on plant bytes → site.line.sizes ≡ map length plant → slaves ≡ length plant
+    pub slaves_hold : IsToldOfParts (λ (part : LinePart) (one : WireTold). one.journal.part ≡ Some part) told.desk → (plant : List (List ℕ)) (bytes : List ℕ) → site.seen ≡ switched_on plant bytes → site.line.sizes ≡ map length plant → slaves ≡ length plant
         → HasRecovered s → SlavesHold plant s told
     slaves_hold own plant bytes found sizes count recovered slave words here =
         let within : slave < length plant = slice_get_within plant slave words here in

@@ -3,13 +3,14 @@ ghost use Rattle.std.specs.Prelude.{◌≡◌, ◌≤◌, ◌∷◌, ◌++◌, [
 ghost use Rattle.esc_rom.specs.Owned.{OwnsAll};
 ghost use Rattle.station_files.specs.FileNames.{files_with, written_of};
 ghost use Rattle.station_files.specs.Locations.{AreApart};
+ghost use Rattle.script_session.specs.Parts.{IsToldOfParts};
 ghost use Rattle.station_files.specs.ScriptFiles.{SpellsCommands};
 ghost use Rattle.station_line.specs.Judging.{HasJournal, IsRunApart};
 ghost use Rattle.station_line.specs.Opened.{is_old};
 ghost use Rattle.wire_scan.specs.Opening.{IsFound};
 ghost use Rattle.wire_session.specs.Ending.{Ends};
 ghost use Rattle.wire_session.specs.Running.{EndsFound, RunsScript, SavesSite};
-ghost use Rattle.wire_session.specs.Slaves.{AreOfParts, EndsTold};
+ghost use Rattle.wire_session.specs.Slaves.{EndsTold};
 
 use crate::as_found::AsFound;
 use crate::reporting::{report_end, tell_handed, tell_why};
@@ -20,8 +21,8 @@ use script_session::Work;
 use sii_edit::Command;
 use sii_words::Plant;
 use site_file::FileDevice;
-use site_shadow::ShadowSite;
-use site_wire::{LiveLine, LockedLine, TellsPart, WireDevice, WireTold};
+use site_shadow::{Lends, ShadowSite};
+use site_wire::{LiveLine, LockedLine, WireDevice, WireTold};
 use station_files::{ExitStatus, Fault, Store, load_script};
 use station_line::{is_old, of_open, open_station, site_of};
 use station_text::LineFile;
@@ -253,7 +254,7 @@ fn run_opened<
 }
 
 /// Opens the station on this line, and serves the commands by threads.
-fn run_site<R: Wait + Threads + AllocGlobal + Sync, D: TellsPart + Send, S: Store, O: Write>(
+fn run_site<R: Wait + Threads + AllocGlobal + Sync, D: Lends + Send, S: Store, O: Write>(
     rt: &R,
     line: &LineFile,
     start: Start<ShadowSite<D>>,
@@ -264,7 +265,7 @@ fn run_site<R: Wait + Threads + AllocGlobal + Sync, D: TellsPart + Send, S: Stor
     requires disk { IsTrue start.site.line.has_disk }
     requires owned { OwnsAll start.site.line }
     requires old { start.was_old ≡ is_old start.site.seen.state.disk.bytes }
-    ensures own { IfSome result.told (λ told. AreOfParts D.is_of told.desk) }
+    ensures own { IfSome result.told (λ told. IsToldOfParts D.is_of told.desk) }
     ensures ends { Ends (SavesSite (λ last. IsSomeAnd result.told (λ told.
         EndsTold D.follows D.well D.tells start.site (length line.now.images.items) told last)) (S.files store.new) line.now
         start.site work.commands.items) result.ended (S.files store.old) (S.files store.new) line.now }

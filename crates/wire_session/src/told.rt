@@ -1,11 +1,8 @@
 //! What is told of the devices of a line on a wire.
-ghost use Rattle.std.specs.Prelude.{◌≡◌, Err, None, IsTrue};
+ghost use Rattle.std.specs.Prelude.{◌≡◌, Err, None};
 ghost use Rattle.wire_faults.specs.declared.faults.WireFault.TheVariants as wire;
-ghost use Rattle.wire_session.specs.Slaves.{AreOfParts, AreOfSlaves};
 
-use script_session::{DeskTold, PartTold};
-use site_shadow::LinePart;
-use site_wire::TellsPart;
+use script_session::DeskTold;
 use station_files::Fault;
 use wire_faults::WireFault;
 
@@ -16,25 +13,6 @@ pub struct LineTold<T> {
     pub desk: DeskTold<T>,
     /// Of the line's device behind the desk.
     pub behind: T,
-}
-
-/// Whether this is told of the devices of the disk's part and of each slave's, each of its own.
-pub(crate) fn are_of_parts<D: TellsPart>(told: &DeskTold<D::Told>) -> bool
-    ensures { IsTrue result → AreOfParts D.is_of told.now }
-{
-    D::is_told_of(&told.disk.told, LinePart::Disk) && are_of_slaves::<D>(told.slaves.as_slice())
-}
-
-/// Whether this is told of the devices of the slaves' parts, each of its own.
-fn are_of_slaves<D: TellsPart>(parts: &[PartTold<D::Told>]) -> bool
-    ensures { IsTrue result → AreOfSlaves D.is_of parts.now }
-{
-    for slave in 0..parts.len() {
-        if !D::is_told_of(&parts[slave].told, LinePart::Slave(slave)) {
-            return false;
-        }
-    }
-    true
 }
 
 /// How the work on a line ended, and what is told of its devices.

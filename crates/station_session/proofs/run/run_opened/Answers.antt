@@ -1,29 +1,24 @@
-use Rattle.std.proofs.Common.{false, sym, subst}
+use Rattle.std.proofs.Common.{subst, sym}
 use denote.Param.Send.{sendable}
+use Rattle.site_file.specs.Fitting.{IsWhole}
 use Rattle.site_file.proofs.Sent.{device-send}
 use Rattle.line_watch.proofs.Sent.{watched-send}
-use Rattle.station_session.specs.RunFiles.{RunKeepsFiles}
-use Rattle.station_session.proofs.Ending.{told-too}
-use Rattle.station_session.proofs.RunFiles.{run_on_files, told_as}
+use Rattle.station_session.proofs.RunFiles.{run_on_files}
+use Rattle.station_session.proofs.Telling.{all_own}
 use Rattle.station_session.proofs.run.run_opened.Goals as goal
 
 pub run_site-served-requires-send-D : goal.run_site-served-requires-send-D
 run_site-served-requires-send-D g c κs lives = search (watched-send, device-send, sendable) depth 40
 
-pub returns-clause-ends : goal.returns-clause-ends
-returns-clause-ends g c =
-    let given = c.args.given in
-    let files = g.S.Store.files in
-    told-too false (files c.args.store.now) (files c.run_site-served.new.store) given.session.line given.session.site given.commands.items c.run_site-served.result.status c.with_all_told-served.result.status
-    c.run_site-served.ensures.ends
-    c.with_all_told-served.ensures.status
+pub run_site-served-requires-clause-whole : goal.run_site-served-requires-clause-whole
+run_site-served-requires-clause-whole g c κs lives = subst (λ d. IsWhole d) (sym c.new-2.ensures) c.new.ensures.whole
 
 pub returns-clause-kept : goal.returns-clause-kept
 returns-clause-kept g c =
     let given = c.args.given in
     let ran = c.run_site-served in
-    let told = c.with_all_told-served in
-    subst (λ t. RunKeepsFiles _ given.session.site.seen given.commands.items told.result.status t) (sym told.ensures.told)
-    (told_as _ given.session.site.seen given.commands.items ran.result.status told.result.status ran.result.told told.ensures.status
-    (run_on_files _ _ _ _ (λ device seen follows. (device.device, follows)) (λ device seen follows told tells. tells.calls) (λ device seen follows well. well) ran.result.told
-    given.session.site.seen given.commands.items ran.result.status c.requires.fresh.new ran.ensures.goes))
+    run_on_files _ _ _ _ (λ device seen follows. (device.device, follows)) (λ device seen follows told tells. tells.calls) (λ device seen follows well. well) ran.result.told
+    given.session.site.seen given.commands.items ran.result.status c.requires.fresh.new ran.ensures.goes
+
+pub returns-clause-told : goal.returns-clause-told
+returns-clause-told g c good = all_own c.run_site-served.result.told (c.run_site-served.ensures.told good)

@@ -4,6 +4,7 @@ use Rattle.script_session.specs.Parts.{AreSound, IsDeskTold}
 use Rattle.station_session.proofs.ThreadsEnd.{ends-left}
 use Rattle.station_session.specs.RunFiles.{OfDevices, TellsOf, line_told, served}
 use Rattle.station_session.proofs.RunFiles.{behind_unserved, not_served, unserved_line}
+use Rattle.station_session.proofs.Telling.{tells_all}
 use Rattle.station_session.proofs.threads.run_threads.Goals as goal
 
 pub returns-in-Ok-clause-ends : goal.returns-in-Ok-clause-ends
@@ -31,6 +32,10 @@ returns-in-Ok-clause-serves g c =
     })
     (λ closed. behind_unserved (OfDevices follows well tells c.end_threads.result.told) left.ending.is_driven left.sound left.unserved.items
     c.args.commands.items left.site.seen c.end_threads.result.status c.in-Ok.ensures.unserved (c.end_threads.ensures.goes closed))
+
+pub returns-in-Ok-clause-told : goal.returns-in-Ok-clause-told
+returns-in-Ok-clause-told g c good =
+    tells_all g.D.Lends.is_of c.end_threads.result.told c.in-Ok.left.told c.end_threads.ensures.desk c.in-Ok.ensures.own (c.end_threads.ensures.behind good)
 
 pub returns-in-Err-clause-followed : goal.returns-in-Err-clause-followed
 returns-in-Err-clause-followed g c =
