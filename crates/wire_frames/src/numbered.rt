@@ -1,5 +1,5 @@
 //! Frames that are sent until they come back.
-ghost use Rattle.std.specs.Prelude.{◌≡◌, ◌/◌, ◌^◌, length, take, true, false, IfSome, IfOk};
+ghost use Rattle.std.specs.Prelude.{◌≡◌, ◌+◌, ◌/◌, ◌%◌, ◌^◌, length, take, true, false, IfSome, IfOk};
 ghost use Rattle.ecat_frame.specs.Command.{code_of};
 ghost use Rattle.ecat_frame.specs.Frame.{pdu, IsFrame};
 ghost use Rattle.wire_frames.specs.Came.{CameOver, Reaches};
@@ -217,6 +217,7 @@ impl<W: Wire> NumberedWire<W> {
         ensures may { IfSome result (λ frame. self.old.is_lent ≡ true → OnlyEeprom frame) }
         ensures lent { self.new.is_lent ≡ self.old.is_lent }
         ensures same { self.new.stations ≡ self.old.stations }
+        ensures next { self.new.number ≡ (self.old.number + 1) % 2 ^ 32 }
     {
         self.number = self.number.wrapping_add(1);
         let mut numbered = sent;
