@@ -1,4 +1,4 @@
-// sii_wire [-i INTERFACE] [--timeout MS] [--program FILE] ARGUMENT..: opens a raw EtherCAT socket on the interface as descriptors 0 and 1,
+// sii_wire [-i INTERFACE] [--timeout MS] [--state DIR] [--program FILE] ARGUMENT..: opens a raw EtherCAT socket on the interface as descriptors 0 and 1,
 // gives up every privilege, and executes the proved program, sii_station --wire, whose text goes to what was standard output
 // (docs/INSTALL.md). By the name sii_slaves it executes the slaves to practise on.
 #define _GNU_SOURCE
@@ -17,6 +17,7 @@
 #include <stdio.h>
 #include <stdlib.h>
 #include <string.h>
+#include <sys/mman.h>
 #include <sys/prctl.h>
 #include <sys/stat.h>
 #include <sys/syscall.h>
@@ -110,6 +111,36 @@ static const char *program_beside(void) {
     errx(MISSING, "the program isn't there: install Pilzhoon, or build it, or name it by --program FILE");
 }
 
+// The folder for what alias and write keep of an interface: DIR of --state, or else pilzhoon/INTERFACE in $XDG_STATE_HOME, or in ~/.local/state of
+// the user who called. With is_made it is made, as far as that can be done; who writes there says what is wrong.
+static const char *state_folder(const char *named, const char *interface, int is_made) {
+    static char path[PATH_MAX];
+    const char *state = getenv("XDG_STATE_HOME"), *home = getenv("SUDO_UID") ? NULL : getenv("HOME");
+    struct passwd *user = home ? NULL : getpwuid(getuid());
+    int is_given = state && *state == '/';
+    int length = named ? snprintf(path, sizeof path, "%s", named)
+               : snprintf(path, sizeof path, "%s%s/pilzhoon/%s", is_given ? state : home ? home : user ? user->pw_dir : "",
+                          is_given ? "" : "/.local/state", interface ? interface : "lent");
+    if (length < 1 || length >= (int)sizeof path) errx(USAGE, "--state wants a folder");
+    for (char *at = path; is_made && *at++;) {
+        char was = *at;
+        if (was == '/' || !was) *at = 0, mkdir(path, 0700), *at = was;
+    }
+    return path;
+}
+
+// A copy of standard input in memory, for a word -: the wire takes its place. Of a longer one than any file of a call the program sees it.
+static int copy_input(void) {
+    enum { MOST = 1 << 26 };
+    static char piece[1 << 16];
+    int copy = memfd_create("input", 0);
+    ssize_t count = copy;
+    for (ssize_t all = 0; all <= MOST && (count = read(0, piece, sizeof piece)) > 0; all += count)
+        must(write(copy, piece, (size_t)count) == count, "a copy of standard input");
+    must(copy >= 0 && count >= 0, "standard input");
+    return copy;
+}
+
 // Whether a word stands among these, with a space on each side.
 static int is_among(const char *word, const char *words) {
     const char *at = strstr(words, word);
@@ -117,31 +148,39 @@ static int is_among(const char *word, const char *words) {
 }
 
 int main(int argc, char **argv) {
-    const char *name = NULL, *program = NULL, *timeout = "100";
-    char *words[argc + 7], *rest = NULL;
-    int it = 1, count = 6, helps = 0, text_named = 0, spare;
+    const char *name = NULL, *program = NULL, *state = NULL, *timeout = "100";
+    char *words[argc + 9], *rest = NULL;
+    int it = 1, begin = 8, count = begin, helps = 0, keeps = 0, looks = 0, text_named = 0, input = -1, spare;
     if (!strcmp(program_invocation_short_name, "sii_slaves")) called = executed = "sii_slaves";
     while ((spare = open("/dev/null", O_RDWR)) >= 0 && spare < 3) {}  // so that standard input, output and error are there
     for (const char *word; it < argc && (word = argv[it]); it++) {
-        const char **value = !strcmp(word, "-i") ? &name : !strcmp(word, "--timeout") ? &timeout : !strcmp(word, "--program") ? &program : NULL;
+        const char **value = !strcmp(word, "-i") || !strcmp(word, "--interface") ? &name : !strcmp(word, "--timeout") ? &timeout
+                           : !strcmp(word, "--state") ? &state : !strcmp(word, "--program") ? &program : NULL;
         if (value == &name && it + 1 == argc) return state_of(NULL), 0;
         helps |= is_among(word, " -h --help -V --version ");
+        keeps |= is_among(word, " alias write ");
+        looks |= is_among(word, " alias write run recover ");
         text_named |= !strncmp(word, "--text", 6);
         if (value) *value = argv[++it];
-        else words[count++] = argv[it];
+        else if (strcmp(word, "-")) words[count++] = argv[it];
+        else words[count++] = "/dev/fd/4", input = 4;
     }
     long ms = timeout ? strtol(timeout, &rest, 10) : 0;
     if (!rest || *rest || ms < 1 || ms > 60000) errx(USAGE, "--timeout wants a number of milliseconds, 1 to 60000");
     // Subcommands that need no wire. What stands after sii_slaves is a file.
     const char *plain = called == executed ? "" : " help explain man completions ";
-    int wire = helps || is_among(count > 6 ? words[6] : "help", plain) ? spare : open_wire(name, ms);
+    int wire = helps || is_among(count > begin ? words[begin] : "help", plain) ? spare : open_wire(name, ms);
+    if (input == 4 && wire == 0) errx(USAGE, "-: standard input is the wire that a master lends");
     give_up_privileges();
-    int text = fcntl(open_text(), F_DUPFD, 10), moved = fcntl(wire, F_DUPFD, 10), begin = text_named ? 2 : 0;
+    if (input == 4) input = fcntl(copy_input(), F_DUPFD, 10);
+    int text = fcntl(open_text(), F_DUPFD, 10), moved = fcntl(wire, F_DUPFD, 10);
     must(text >= 0 && moved >= 0 && dup2(text, 3) == 3 && dup2(moved, 0) == 0 && dup2(moved, 1) == 1, "descriptors");
     // Help goes to standard error, and is to be read in a pager.
-    must((!helps || dup2(3, 2) == 2) && !close_range(4, ~0U, 0), "descriptors");
-    words[count] = NULL, words[begin] = argv[0], words[begin + 1] = "--wire", words[begin + 2] = "--timeout", words[begin + 3] = (char *)timeout;
-    if (!text_named) words[4] = "--text", words[5] = "/dev/fd/3";
+    must((!helps || dup2(3, 2) == 2) && (input < 0 || dup2(input, 4) == 4) && !close_range(input < 0 ? 4 : 5, ~0U, 0), "descriptors");
+    words[count] = NULL;
+    if (!text_named) words[--begin] = "/dev/fd/3", words[--begin] = "--text";
+    if (looks && called != executed) words[--begin] = (char *)state_folder(state, name, keeps && wire != spare), words[--begin] = "--state";
+    words[--begin] = (char *)timeout, words[--begin] = "--timeout", words[--begin] = "--wire", words[--begin] = argv[0];
     if (!program) program = program_beside();
 #ifdef BUILD
     if (is_among(words[count - 1], " -V --version ")) dprintf(3, "%s\n", BUILD);

@@ -13,6 +13,8 @@
 //   --block          a pending error blocks commands, until command 0 clears it
 //   --busy-counts    a write to the EEPROM registers of a busy slave is counted, though it does nothing
 //   --wide           reads load eight bytes, not four, as control and status says
+//   --page WORDS     the chip writes so many words anew as a whole, which a power cut in one of them tears all (1)
+//   --protect        the chip is write protected: it acknowledges a write, and keeps the word
 //   --chip WORDS     the chip has so many words, a power of two: an address is taken modulo that (the image's length)
 //   --alias-on       the slave answers to its alias as station address from the start
 //   --address N      its station address at power-up, as of a former master (0)
@@ -65,7 +67,7 @@ struct slave {
     struct { int kind, start, bits; } wanted[MANAGER_COUNT];
     int64_t outputs_at;
     // How it behaves.
-    int read_us, write_us, program_us, nack, first, stuck, ends, block, busy_counts, wide, alias_on, address, pdi, state;
+    int read_us, write_us, program_us, nack, first, stuck, ends, block, busy_counts, wide, alias_on, address, pdi, state, page, protect;
 };
 
 static struct slave *slaves[MAX_SLAVES];
@@ -116,10 +118,12 @@ static void load(struct slave *it) {
     set_status(it, status | (it->wide ? READS_EIGHT : 0) | (it->words > 1024 ? TWO_BYTES : 0), CHECK_ERROR | NOT_LOADED);
 }
 
-// The power of the whole line fails. Whatever is being programmed is torn.
+// The power of the whole line fails. Whatever is being programmed is torn, with the words of its page.
 static void cut_power(void) {
-    for (int k = 0; k < slave_count; k++)
-        if (slaves[k]->programming) keep_word(slaves[k], slaves[k]->at, left);
+    for (int k = 0; k < slave_count; k++) {
+        uint32_t page = (uint32_t)slaves[k]->page, first = slaves[k]->at / page * page;
+        for (uint32_t at = first; slaves[k]->programming && !slaves[k]->protect && at < first + page; at++) keep_word(slaves[k], at, left);
+    }
     printf("power cut at word %u\n", cut_at);
     exit(0);
 }
@@ -134,7 +138,7 @@ static void settle(struct slave *it) {
         it->command = NOTHING;
     }
     if (it->programming && now >= it->done_at) {
-        keep_word(it, it->at, it->value);
+        if (!it->protect) keep_word(it, it->at, it->value);
         it->programming = 0;
     }
 }
@@ -423,7 +427,7 @@ static long number(const char *text) {
 }
 
 int main(int argc, char **argv) {
-    static struct slave form = { .read_us = 500, .write_us = 3000 };
+    static struct slave form = { .read_us = 500, .write_us = 3000, .page = 1 };
     setvbuf(stdout, NULL, _IOLBF, 0);
     if (argc < 3) errx(2, "usage: line [OPTION.. IMAGE].. INTERFACE");
     for (int k = 1; k + 1 < argc; k++) {
@@ -432,7 +436,7 @@ int main(int argc, char **argv) {
             { "--first", &form.first, 0 }, { "--stuck", &form.stuck, 0 }, { "--ends", &form.ends, 1 }, { "--state", &form.state, 0 },
             { "--block", &form.block, 1 }, { "--busy-counts", &form.busy_counts, 1 }, { "--wide", &form.wide, 1 }, { "--chip", &form.chip, 0 },
             { "--alias-on", &form.alias_on, 1 }, { "--address", &form.address, 0 }, { "--pdi", &form.pdi, 1 }, { "--lose", &lose, 0 },
-            { "--watchdog", &watchdog_ms, 0 },
+            { "--watchdog", &watchdog_ms, 0 }, { "--page", &form.page, 0 }, { "--protect", &form.protect, 1 },
         };
         const char *word = argv[k];
         size_t option = 0;
@@ -448,6 +452,8 @@ int main(int argc, char **argv) {
             it->name = word;
         }
     }
+    for (int k = 0; k < slave_count; k++)
+        if (!slaves[k]->page) errx(2, "--page: a number from 1 on is wanted here");
     now = clock_us();
     for (int k = 0; k < slave_count; k++) power_up(slaves[k]);
     int wire = open_wire(argv[argc - 1]);

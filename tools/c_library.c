@@ -1,5 +1,5 @@
 /*
- * c_library IMAGES [SEED]: makes that many EEPROM images by chance and compares what the library says of them with a judge of its own,
+ * c_library IMAGES [SEED]: makes that many EEPROM images by chance and compares what the library says of them with a checker of its own,
  * which is written from ETG.1000.6 and ETG.2010 and shares nothing with the library. Prints how often each code came; the status is 1
  * at the first difference.
  */
@@ -19,7 +19,7 @@ static uint32_t chance(uint32_t below) {
     return (uint32_t)((state >> 33) % below);
 }
 
-/* ---- the judge */
+/* ---- the checker */
 
 typedef struct {
     const uint8_t *bytes;
@@ -39,7 +39,7 @@ static uint8_t remainder_of(const uint8_t *bytes) {
     return (uint8_t)crc;
 }
 
-static uint32_t judge_length(size_t length, int device) {
+static uint32_t check_length(size_t length, int device) {
     if (length % 2) return PZ_ODD_LENGTH;
     size_t words = length / 2;
     return words < 64 || words > MOST_WORDS || (device && words % 64) ? PZ_BAD_SIZE : PZ_OK;
@@ -108,9 +108,9 @@ static long malformed(view v, const chain *all) {
 
 static chain scratch;
 
-static uint32_t judge(const uint8_t *bytes, size_t length, size_t *detail) {
+static uint32_t check_image(const uint8_t *bytes, size_t length, size_t *detail) {
     *detail = 0;
-    uint32_t code = judge_length(length, 0);
+    uint32_t code = check_length(length, 0);
     if (code) return code;
     view v = {bytes, length / 2};
     if (bytes[14] != remainder_of(bytes)) return *detail = remainder_of(bytes), PZ_BAD_CHECK;
@@ -179,7 +179,7 @@ static void put(uint8_t *bytes, size_t at, size_t value) {
 static uint32_t edit_category(uint8_t *device, size_t length, unsigned kind, const uint8_t *content, size_t n) {
     static chain all;
     static uint8_t made[MOST_BYTES];
-    uint32_t code = judge_length(length, 1);
+    uint32_t code = check_length(length, 1);
     if (code) return code;
     if (n % 2) return PZ_ODD_LENGTH;
     view v = {device, length / 2};
@@ -218,9 +218,9 @@ static uint32_t edit_category(uint8_t *device, size_t length, unsigned kind, con
 static uint32_t edit_image(uint8_t *device, size_t length, const uint8_t *image, size_t n) {
     static chain all;
     static uint8_t made[MOST_BYTES];
-    uint32_t code = judge_length(length, 1);
+    uint32_t code = check_length(length, 1);
     if (code) return code;
-    code = judge_length(n, 0);
+    code = check_length(n, 0);
     if (code) return code;
     if (n > length) return PZ_IMAGE_TOO_LONG;
     if (image[14] != remainder_of(image)) return PZ_BAD_CHECK;
@@ -241,7 +241,7 @@ static uint32_t place(uint8_t **devices, const size_t *lengths, size_t slaves, s
     int counts[64];
     pz_image_sizes made = {0, 0, 0, 0};
     for (size_t i = 0; i < slaves; i++) {
-        uint32_t code = judge_length(lengths[i], 1);
+        uint32_t code = check_length(lengths[i], 1);
         if (code) return code;
     }
     for (size_t i = 0; i < slaves; i++) {
@@ -348,7 +348,7 @@ static void same(const char *what, int holds) {
 
 static void compare_reading(const uint8_t *image, size_t length) {
     size_t detail = 7, expected_detail;
-    uint32_t code = pz_judge(image, length, &detail), expected = judge(image, length, &expected_detail);
+    uint32_t code = pz_judge(image, length, &detail), expected = check_image(image, length, &expected_detail);
     same("pz_judge", code == expected && detail == expected_detail);
     codes[0][code]++;
 
@@ -356,7 +356,7 @@ static void compare_reading(const uint8_t *image, size_t length) {
     memset(&head, 0xAA, sizeof head);
     before = head;
     code = pz_read_head(image, length, &head);
-    same("pz_read_head", code == judge_length(length, 0));
+    same("pz_read_head", code == check_length(length, 0));
     codes[1][code]++;
     if (code) {
         same("the head of bad bytes", memcmp(&head, &before, sizeof head) == 0);
@@ -454,7 +454,7 @@ static void compare_alias(const uint8_t *image, size_t length) {
     memcpy(mine, image, length);
     memcpy(theirs, image, length);
     unsigned value = chance(65536);
-    uint32_t code = pz_set_alias(theirs, length, (uint16_t)value), expected = judge_length(length, 0);
+    uint32_t code = pz_set_alias(theirs, length, (uint16_t)value), expected = check_length(length, 0);
     if (!expected && image[14] != remainder_of(image)) expected = PZ_BAD_CHECK;
     if (!expected) {
         put(mine, 4, value);

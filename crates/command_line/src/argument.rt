@@ -40,6 +40,12 @@ pub enum Kind {
     FlagWith(&'static str),
     /// An option with a text.
     Text(&'static str),
+    /// An option with a text, which is spelt by this letter too.
+    ShortText(&'static str, char),
+    /// An option that the help doesn't list, without a value.
+    HiddenFlag,
+    /// An option that the help doesn't list, with a text.
+    HiddenText(&'static str),
     /// An option with a text, which isn't taken with the second argument.
     TextWithout(&'static str, &'static str),
     /// An option with a number of 0 to 65535.
@@ -55,7 +61,11 @@ impl Kind {
     pub(crate) fn has_value(self) -> bool {
         !matches!(
             self,
-            Kind::Flag | Kind::ShortFlag(_) | Kind::GlobalFlag | Kind::FlagWith(_)
+            Kind::Flag
+                | Kind::ShortFlag(_)
+                | Kind::GlobalFlag
+                | Kind::FlagWith(_)
+                | Kind::HiddenFlag
         )
     }
 
@@ -81,6 +91,7 @@ impl Argument {
             .help(self.help)
             .long_help(text_or(self.long_help, self.help))
             .required(self.kind.is_required())
+            .hide(matches!(self.kind, Kind::HiddenFlag | Kind::HiddenText(_)))
             .global(matches!(self.kind, Kind::GlobalFlag));
         let spelt = if self.kind.is_word() {
             arg
@@ -99,8 +110,12 @@ pub(crate) fn text_or(text: &'static str, other: &'static str) -> &'static str {
 /// The argument as an option of this kind, with the name of its value, or as a flag.
 fn option<'a>(arg: Arg<'a>, kind: Kind) -> Arg<'a> {
     match kind {
-        Kind::Text(name) | Kind::TextWithout(name, _) | Kind::Small(name) | Kind::Large(name) =>
-            arg.value_name(name),
+        Kind::Text(name)
+        | Kind::HiddenText(name)
+        | Kind::TextWithout(name, _)
+        | Kind::Small(name)
+        | Kind::Large(name) => arg.value_name(name),
+        Kind::ShortText(name, letter) => arg.value_name(name).short(letter),
         Kind::Texts(name, letter, _) => arg
             .value_name(name)
             .short(letter)

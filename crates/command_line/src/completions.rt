@@ -26,6 +26,7 @@ const BASH: &str = "_@p() {
     case $sub in
     '') names='@s' options='~ --@l~' ;;
     help) names='@s' ;;
+    completions) names='bash zsh fish' ;;
 %    @n) options='~ --@l~' ;;
 %    esac
     if [[ $word == -* ]]; then
@@ -33,7 +34,7 @@ const BASH: &str = "_@p() {
     elif [[ $names ]]; then
         COMPREPLY=($(compgen -W \"$names\" -- \"$word\"))
     else
-        COMPREPLY=($(compgen -f -- \"$word\"))
+        mapfile -t COMPREPLY < <(compgen -f -- \"$word\")
     fi
 }
 complete -o filenames -F _@p @p
@@ -150,7 +151,7 @@ fn push_options(
     text: &mut String,
 ) -> Result<(), AllocError> {
     for option in subject.command.get_arguments() {
-        if option.get_long().is_some() {
+        if option.get_long().is_some() && !option.is_hide_set() {
             let option = Some(option);
             push_words(words, Subject { option, ..subject }, text)?;
         }
@@ -190,7 +191,7 @@ fn push_marked(
     push_quoted(words, text)
 }
 
-/// The names of a program's subcommands, each behind a blank.
+/// The names of a program's subcommands, each after a blank.
 fn push_names(program: &Command<'_>, text: &mut String) -> Result<(), AllocError> {
     for subcommand in program.get_subcommands() {
         push_all(text, &[" ", subcommand.get_name()])?;
@@ -212,7 +213,7 @@ fn push_quoted(quoted: &str, text: &mut String) -> Result<(), AllocError> {
     Ok(())
 }
 
-/// These texts, one behind the other.
+/// These texts, one after the other.
 pub(crate) fn push_all(text: &mut String, parts: &[&str]) -> Result<(), AllocError> {
     for part in parts {
         text.push_str(part)?;

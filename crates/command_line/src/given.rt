@@ -10,7 +10,7 @@ use std::time::Duration;
 
 /// What the words of a command line give: a subcommand, and the arguments that are there.
 #[derive(Drop)]
-pub struct Given<'a> {
+pub struct ParsedArguments<'a> {
     /// The name of the subcommand.
     pub subcommand: &'a str,
     values: Vec<Value<'a>>,
@@ -25,10 +25,10 @@ struct Value<'a> {
     text: &'a str,
 }
 
-impl<'a> Given<'a> {
+impl<'a> ParsedArguments<'a> {
     /// This subcommand, with no argument yet.
-    pub(crate) fn of(alloc: Global, subcommand: &'a str) -> Given<'a> {
-        Given {
+    pub(crate) fn of(alloc: Global, subcommand: &'a str) -> ParsedArguments<'a> {
+        ParsedArguments {
             subcommand,
             values: Vec::new(alloc),
             commands: Vec::new(alloc),
@@ -140,6 +140,30 @@ fn text_in<'a>(argument: Argument, found: &ArgMatches<'a>) -> Option<&'a str> {
 pub fn is_digits(text: &str) -> bool {
     for byte in text.bytes() {
         if !byte.is_ascii_digit() {
+            return false;
+        }
+    }
+    true
+}
+
+/// The number that a text spells, in decimal digits, or in hexadecimal ones behind `0x`, as in a script. A sign is not taken.
+pub fn number_in(text: &str) -> Option<u32> {
+    match text.strip_prefix("0x") {
+        Some(digits) if is_hexadecimal(digits) => u32::from_str_radix(digits, 16).ok(),
+        None if is_digits(text) => text.parse::<u32>().ok(),
+        _ => None,
+    }
+}
+
+/// The number of 0 to 65535 that a text spells so.
+pub fn small_in(text: &str) -> Option<u16> {
+    u16::try_from(number_in(text)?).ok()
+}
+
+/// Whether a text has hexadecimal digits only.
+fn is_hexadecimal(text: &str) -> bool {
+    for byte in text.bytes() {
+        if !byte.is_ascii_hexdigit() {
             return false;
         }
     }

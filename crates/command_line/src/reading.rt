@@ -1,7 +1,8 @@
 //! Reads the words of a command line.
 
-use crate::given::Given;
+use crate::given::ParsedArguments;
 use crate::program::{Program, described};
+use crate::subcommand::described_arguments;
 use crate::unread::{Unread, why_unread};
 use clap::error::ErrorKind;
 use clap::{ArgMatches, Command, Error};
@@ -16,7 +17,7 @@ pub fn read_words<'a>(
     alloc: Global,
     program: Program<'_>,
     words: &'a [String],
-) -> Result<Given<'a>, Unread> {
+) -> Result<ParsedArguments<'a>, Unread> {
     match given_in(alloc, program, words) {
         Ok(given) => Ok(given),
         Err(error) => Err(why_unread(alloc, &error)),
@@ -27,7 +28,7 @@ fn given_in<'a>(
     alloc: Global,
     program: Program<'_>,
     words: &'a [String],
-) -> Result<Given<'a>, Error> {
+) -> Result<ParsedArguments<'a>, Error> {
     let mut command = described(alloc, program)?;
     let read = read_with(alloc, program, &mut command, words);
     drop(command);
@@ -39,7 +40,7 @@ fn read_with<'a>(
     program: Program<'_>,
     command: &mut Command<'a>,
     words: &'a [String],
-) -> Result<Given<'a>, Error> {
+) -> Result<ParsedArguments<'a>, Error> {
     let matches = command.try_get_matches_from_mut(words)?;
     let given = given_by(alloc, program, &matches);
     drop(matches);
@@ -51,12 +52,12 @@ fn given_by<'a>(
     alloc: Global,
     program: Program<'_>,
     matches: &ArgMatches<'a>,
-) -> Result<Given<'a>, AllocError> {
+) -> Result<ParsedArguments<'a>, AllocError> {
     let (name, found) = match matches.subcommand() {
         Some((name, found)) => (name, found),
         None => ("", matches),
     };
-    let mut given = Given::of(alloc, name);
+    let mut given = ParsedArguments::of(alloc, name);
     given.take_all(program.options, matches)?;
     for subcommand in program.subcommands {
         if subcommand.name == name {
@@ -66,32 +67,36 @@ fn given_by<'a>(
     Ok(given)
 }
 
-/// Refuses words that were read: this text, and the usage.
-pub fn refuse(alloc: Global, program: Program<'_>, words: &[String], text: &str) -> Unread {
-    match refusal(alloc, program, words, text) {
-        Ok(error) | Err(error) => why_unread(alloc, &error),
+/// Refuses words that were read: this text, and the usage of the subcommand of this name, or of the program where it has none.
+pub fn refuse(alloc: Global, program: Program<'_>, subcommand: &str, text: &str) -> Unread {
+    match refusal(alloc, program, subcommand, text) {
+        Ok(error) => why_unread(alloc, &error),
+        Err(AllocError) => Unread::Memory,
     }
 }
 
 fn refusal(
     alloc: Global,
     program: Program<'_>,
-    words: &[String],
+    subcommand: &str,
     text: &str,
-) -> Result<Error, Error> {
-    let mut command = described(alloc, program)?;
-    let refused = refuse_with(&mut command, words, text);
+) -> Result<Error, AllocError> {
+    let called = program.name;
+    let name = format!(in alloc; "{called} {subcommand}")?;
+    let found = program
+        .subcommands
+        .iter()
+        .find(|row| row.name == subcommand);
+    let mut command = match found {
+        Some(row) => {
+            let arguments = described_arguments(alloc, row.arguments)?;
+            Command::new(alloc, name.as_str()).args(arguments)?
+        }
+        None => described(alloc, program)?,
+    };
+    let refused = command.error(ErrorKind::ValueValidation, text);
     drop(command);
     refused
-}
-
-fn refuse_with<'a>(
-    command: &mut Command<'a>,
-    words: &'a [String],
-    text: &str,
-) -> Result<Error, Error> {
-    drop(command.try_get_matches_from_mut(words)?);
-    Ok(command.error(ErrorKind::ValueValidation, text)?)
 }
 
 /// The text of the script whose commands are typed in these words, if any are.
@@ -102,11 +107,10 @@ fn refuse_with<'a>(
 pub fn read_typed(
     alloc: Global,
     program: Program<'_>,
-    words: &[String],
-    given: &Given<'_>,
+    given: &ParsedArguments<'_>,
 ) -> Result<Option<Vec<u8>>, Unread> {
     match given.typed(alloc) {
-        Err(Unread::Wrong(text)) => Err(refuse(alloc, program, words, text.as_str())),
+        Err(Unread::Wrong(text)) => Err(refuse(alloc, program, given.subcommand, text.as_str())),
         typed => typed,
     }
 }

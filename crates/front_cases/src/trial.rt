@@ -2,7 +2,7 @@
 
 use crate::bench::Bench;
 use crate::calls::{Mishap, try_calls};
-use crate::tries::{try_behind, try_inputs, try_once, try_outputs, try_page, try_plan};
+use crate::tries::{try_after, try_inputs, try_once, try_outputs, try_page, try_plan};
 use station_cases::{Full, Run, Shelf};
 use std::io::Print;
 use std::sync::Wait;
@@ -12,7 +12,7 @@ use toml::{Table, Value};
 
 /// How many runs were tried, and how many didn't go as expected.
 #[derive(Drop)]
-pub struct Tally {
+pub(crate) struct Tally {
     pub runs: u64,
     pub wrong: u64,
 }
@@ -22,7 +22,7 @@ pub struct Tally {
 /// # Errors
 ///
 /// The case is malformed, memory was refused, or nothing can be printed.
-pub fn try_case(
+pub(crate) fn try_case(
     rt: &(impl Print + Wait + Threads + Sync),
     bench: &mut Bench,
     named: &Table,
@@ -113,7 +113,7 @@ fn try_so<'a>(
     }
 }
 
-/// Tries a run once, and what is run behind it.
+/// Tries a run once, and what is run after it.
 fn try_plainly<'a>(
     rt: &(impl Wait + Threads + Sync),
     bench: &mut Bench,
@@ -121,13 +121,13 @@ fn try_plainly<'a>(
     shelf: &mut Shelf,
 ) -> io::Result<&'a str> {
     match try_once(rt, bench, run, shelf)? {
-        "" => try_behind(rt, bench, run, shelf, 0),
+        "" => try_after(rt, bench, run, shelf, 0),
         wrong => Ok(wrong),
     }
 }
 
 /// The name of a case.
-pub fn name_of(case: &Value) -> &str {
+pub(crate) fn name_of(case: &Value) -> &str {
     match case.get("name") {
         Some(Value::String(name)) => name.as_str(),
         _ => "",

@@ -3,14 +3,14 @@
 use crate::quirk_list::QuirkList;
 use crate::serving::{PowerCut, Practice};
 use command_line::{
-    Argument, Given, Kind, Program, TEXT, TIMEOUT, Unread, WIRE, read_words, refuse,
+    Argument, Kind, ParsedArguments, Program, TEXT, TIMEOUT, Unread, WIRE, read_words, refuse,
 };
 use std::alloc::Global;
 use std::time::Duration;
 
 /// A command line: the slaves, and where their text and their frames go.
 #[derive(Clone, Copy)]
-pub struct Arguments<'a> {
+pub(crate) struct Arguments<'a> {
     /// The name of the file that the text goes to; `None` for standard error.
     pub text: Option<&'a str>,
     /// How long a frame is waited for, if that is said.
@@ -36,7 +36,7 @@ const QUIRKS_HELP: &str =
     "What the slaves do as some controllers and chips do: items that are separated by
 commas, each for all slaves, or for slave S alone where S: stands before it.
 
-  chip=N       the chip has N words, 1 to 65536; addresses behind them roll over
+  chip=N       the chip has N words, 1 to 65536; addresses after them roll over
   busy=N       busy with a command for N datagrams; 2 where nothing is said
   read=T       busy with a read for T microseconds
   write=T      busy with a write for T microseconds
@@ -45,15 +45,18 @@ commas, each for all slaves, or for slave S alone where S: stands before it.
   missed=K     the first K commands end with a missing acknowledge
   each=K       each command whose number is a multiple of K does
   blocks       an error that is set blocks commands until command 000 clears it
+  page=N       the chip writes N words anew with each one, 1 to 4096: a power cut
+               tears all of them
+  protected    the chip is write protected: its words keep their values
   wide         a read loads eight bytes, as bit 6 of control and status says
   aliasing     alias addressing is on as the power comes
   state=N      the AL state: 1 Init, 2 Pre-Op, 4 Safe-Op, 8 Op
   held         the PDI holds the EEPROM as the power comes
   station=N    the slave has this station address, and keeps it
-  restarts=K   this slave alone loses its power for a moment behind frame K
+  restarts=K   this slave alone loses its power for a moment after frame K
   cut=K        this slave alone loses its power for a moment in its word K
   left=W       what a word in flight is left as then
-  S:cable=K    behind K frames the cable behind slave S is pulled
+  S:cable=K    after K frames the cable after slave S is pulled
 
 A blank slave is an image file whose bytes are all 0xff. An image file may have up
 to 65536 words here; what its word 0x3E says is up to you.
@@ -108,7 +111,10 @@ fn slaves_program() -> Program<'static> {
 /// # Errors
 ///
 /// What is wrong with the words; or the text of the help or the version, where that is asked for; or memory was refused.
-pub fn read_arguments<'a>(alloc: Global, words: &'a [String]) -> Result<Arguments<'a>, Unread> {
+pub(crate) fn read_arguments<'a>(
+    alloc: Global,
+    words: &'a [String],
+) -> Result<Arguments<'a>, Unread> {
     let program = slaves_program();
     let given = read_words(alloc, program, words)?;
     match practice_of(&given) {
@@ -117,12 +123,12 @@ pub fn read_arguments<'a>(alloc: Global, words: &'a [String]) -> Result<Argument
             time_out: given.milliseconds("timeout"),
             practice,
         }),
-        Err(text) => Err(refuse(alloc, program, words, text)),
+        Err(text) => Err(refuse(alloc, program, given.subcommand, text)),
     }
 }
 
 /// The slaves that the words ask for, or why these are refused.
-fn practice_of<'a>(given: &Given<'a>) -> Result<Practice<'a>, &'static str> {
+fn practice_of<'a>(given: &ParsedArguments<'a>) -> Result<Practice<'a>, &'static str> {
     let cut = given
         .cut("cut")?
         .map(|(word, left)| PowerCut { word, left });

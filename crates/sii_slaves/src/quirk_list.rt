@@ -5,7 +5,7 @@ use wire_practice::{Cable, NO_QUIRKS, PowerLoss, Quirks};
 
 /// The quirks of a line of slaves: items that are separated by commas.
 #[derive(Clone, Copy)]
-pub struct QuirkList<'a> {
+pub(crate) struct QuirkList<'a> {
     text: &'a str,
 }
 
@@ -15,7 +15,7 @@ struct Item<'a> {
     /// None: of all.
     slave: Option<u32>,
     name: &'a str,
-    /// The number behind an equals sign.
+    /// The number after an equals sign.
     number: Option<u32>,
 }
 
@@ -58,6 +58,7 @@ fn with_plain(quirks: Quirks, name: &str) -> Option<Quirks> {
         "wide" => with.is_wide = true,
         "aliasing" => with.has_alias_addressing = true,
         "held" => with.is_held = true,
+        "protected" => with.is_protected = true,
         _ => return None,
     }
     Some(with)
@@ -74,8 +75,9 @@ fn with_number(quirks: Quirks, name: &str, number: u32) -> Option<Quirks> {
         "busy" => with.delay = number,
         "missed" => with.first_missed = number,
         "each" => with.each_missed = number,
-        "restarts" => with.loss = PowerLoss::Behind(number),
+        "restarts" => with.loss = PowerLoss::After(number),
         "cut" => with.loss = PowerLoss::InWord(number),
+        "page" if number >= 1 && number <= 4096 => with.page = (number % 65_536) as u16,
         "chip" if number >= 1 && number <= 65_536 => with.chip = Some(number),
         "state" if number < 32 => with.state = (number % 32) as u8,
         "station" => with.station = Some(u16::try_from(number).ok()?),
@@ -134,8 +136,8 @@ impl<'a> QuirkList<'a> {
                 },
             ) = item_of(text)
             {
-                let behind = (slave % 65536) as u16;
-                return Some(Cable { behind, frames });
+                let after = (slave % 65536) as u16;
+                return Some(Cable { after, frames });
             }
         }
         None

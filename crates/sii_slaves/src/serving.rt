@@ -25,7 +25,7 @@ const EMPTY_READS: u32 = 1_000;
 
 /// A planned power cut of the slaves.
 #[derive(Clone, Copy)]
-pub struct PowerCut {
+pub(crate) struct PowerCut {
     /// The number of the word in whose midst the power is cut, from 1, as the slaves begin to write them.
     pub word: u32,
     /// The value of the torn word.
@@ -34,7 +34,7 @@ pub struct PowerCut {
 
 /// A line of slaves to practise on.
 #[derive(Clone, Copy)]
-pub struct Practice<'a> {
+pub(crate) struct Practice<'a> {
     /// The name of the line file.
     pub line: &'a str,
     /// A planned power cut, if there is one.
@@ -60,7 +60,7 @@ enum Heard {
 ///
 /// As for `load_line`; `File` where an image file is absent or can't be read, `OddLength` and `BadSize` where it hasn't 1 to 65,536 words;
 /// `File` where one can't be opened, written or synced, or the wire is closed; `Memory`.
-pub fn serve_slaves<R: Clock + AllocGlobal, W: Wire, S: Store, O: Write>(
+pub(crate) fn serve_slaves<R: Clock + AllocGlobal, W: Wire, S: Store, O: Write>(
     rt: &R,
     practice: Practice<'_>,
     wire: &mut W,
@@ -115,8 +115,8 @@ fn load_slave<S: Store>(
 /// The moment, in microseconds.
 fn moment<C: Clock>(clock: &C) -> Result<u64, Fault> {
     let now = clock.monotonic()?;
-    let whole = now.as_secs().saturating_mul(1_000_000);
-    Ok(whole.saturating_add(u64::from(now.subsec_micros())))
+    let entire = now.as_secs().saturating_mul(1_000_000);
+    Ok(entire.saturating_add(u64::from(now.subsec_micros())))
 }
 
 /// Opens the files `names`, of which these contents were read, in order.

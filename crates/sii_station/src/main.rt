@@ -6,6 +6,7 @@ use station_serve::wire::{
     Arguments, Connection, Screen, read_arguments, refuse_text, serve_on_wire,
 };
 use station_serve::{Streams, refuse_words, serve};
+use std::alloc::{AllocError, Global};
 use std::fs::{File, Files};
 use std::io::{BufWriter, Input, IsTerminal, Print, Read, Write};
 use std::process::ExitCode;
@@ -38,9 +39,22 @@ fn main(rt: HostRuntime) -> ExitCode {
     ExitCode::from(status)
 }
 
-/// The arguments, the program's name first.
+/// The arguments, the program's name first. With the environment variable `PILZHOON_VERBOSE` a call on files has `--verbose` too, so that the log of
+/// a service has the second line of a fault.
 fn words(rt: &HostRuntime) -> io::Result<Vec<String>> {
-    let words = env::args(rt)?.collect(rt.alloc())?;
+    let words: Vec<String> = env::args(rt)?.collect(rt.alloc())?;
+    let is_reported = words.iter().any(|word| word.as_str() == "--verbose");
+    if is_reported || is_on_wire(&words) || env::var(rt, "PILZHOON_VERBOSE").is_err() {
+        return Ok(words);
+    }
+    Ok(reported(rt.alloc(), words)?)
+}
+
+/// These arguments, with `--verbose` behind the program's name.
+fn reported(alloc: Global, words: Vec<String>) -> Result<Vec<String>, AllocError> {
+    let mut words = words;
+    let place = words.len().min(1);
+    words.insert(place, String::from_str(alloc, "--verbose")?)?;
     Ok(words)
 }
 
@@ -107,7 +121,7 @@ fn serve_task<
     let terminal = if is_terminal { Some(*faults) } else { None };
     let screen = Screen {
         faults,
-        is_told: arguments.is_verbose || is_terminal,
+        is_reported: arguments.is_verbose || !arguments.is_quiet,
         terminal,
     };
     serve_on_wire(rt, arguments, screen, connection, &mut files, text) as u8

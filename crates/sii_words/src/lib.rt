@@ -23,10 +23,10 @@ pub use identity::Identity;
 pub use image_file::ImageFile;
 pub use item_list::ItemList;
 pub use layout::{bytes_of_words, words_of_bytes};
-pub use plant::Plant;
+pub use plant::{MAX_SLAVES, Plant};
 pub use redoing::redo;
 pub use run::Run;
-pub use size::{is_device_size, is_image_size};
+pub use size::{MAX_WORDS, MIN_WORDS, is_device_size, is_image_size};
 pub use stretches::{push_stretches, push_word};
 pub use words::Words;
 

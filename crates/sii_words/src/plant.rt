@@ -5,6 +5,9 @@ use crate::words::Words;
 use std::alloc::AllocError;
 use std::marker::Model;
 
+/// The most slaves of a line.
+pub const MAX_SLAVES: usize = 64;
+
 /// The contents of a line: the EEPROM words of its 1 to 64 slaves. In contracts its value is the list of the slaves' word
 /// lists.
 #[derive(Drop)]

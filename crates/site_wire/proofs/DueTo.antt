@@ -9,6 +9,7 @@ use Rattle.wire_frames.specs.Sending.{IsForEeprom}
 use Rattle.site_wire.specs.Due.{IsFit}
 use Rattle.site_wire.specs.Following.{IsDueTo}
 
-pub due_to : (slave : ℕ) (half : SlaveHalf) (frame : List Pdu) (d : Pdu) → frame ≡ d ∷ [] → IsFit half d → IsForEeprom d
+pub due_to : (slave : ℕ) (half : SlaveHalf) (frame : List Pdu) (d : Pdu) → frame ≡ d ∷ [] → d.counter ≡ 0 → IsFit half d → IsForEeprom d
     → station_of d.address ≡ station slave → All (λ (byte : ℕ). byte < 256) d.content → IsDueTo slave half frame d
-due_to slave half frame d one fits eeprom to bytes = record { one = one; fits = fits; eeprom = eeprom; to = to; bytes = bytes }
+due_to slave half frame d one fresh fits eeprom to bytes =
+    record { one = one; fresh = fresh; fits = fits; eeprom = eeprom; to = to; bytes = bytes }

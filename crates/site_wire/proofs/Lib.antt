@@ -1,7 +1,7 @@
 mod Liking
 mod Storing
 mod Stored
-mod Judged
+mod Validated
 mod Taking
 mod Again
 mod Chain
@@ -12,11 +12,13 @@ mod AmendedLaws
 mod Boards
 mod Due
 mod Only
-mod ForEeprom
+mod Ordered
+mod Asking
+mod Passing
 pub mod Living
 mod Sends
 mod ReadingBack
-mod Behind
+mod After
 mod Carrying
 mod FollowingUp
 mod Journal

@@ -1,12 +1,12 @@
 -- What is sent, put together of its parts; and what a device sends of its own.
-use Rattle.std.proofs.Common.{◌≡◌, inl, inr, ℕ, ◌^◌, ◌<◌, List, [], ◌∷◌, ◌++◌, slice_index_or, Option, Some, refl, sym, ap}
+use Rattle.std.proofs.Common.{◌≡◌, inl, inr, ℕ, ◌^◌, ◌<◌, List, [], ◌∷◌, ◌++◌, slice_index_or, Option, Some, refl, sym, ap, subst}
 use Rattle.std.proofs.Common.{◌∙◌, arith, append-nil, append_assoc}
 use Rattle.std.specs.Option.{option_map}
-use Rattle.std.specs.Int.{w16, w32, to_le_bytes}
+use Rattle.std.specs.Int.{w16, to_le_bytes}
 use Rattle.std.specs.List.{All}
 use Rattle.std.proofs.lemmas.List.Elements.{All-cons, All-nil, All-append}
 use Rattle.ecat_frame.specs.Frame.{Pdu, sent}
-use Rattle.ecat_frame.specs.declared.command.Command.TheVariants.{Fprd, Fpwr}
+use Rattle.ecat_frame.specs.declared.command.Command.TheVariants.{Fprd}
 use Rattle.esc_model.specs.Bytes.{station_of}
 use Rattle.esc_model.specs.Orders.{station, address_of, poll_order, clear_order, write_order}
 use Rattle.esc_model.specs.SlaveHalf.{SlaveHalf, in_flight}
@@ -16,33 +16,41 @@ use Rattle.site_wire.specs.Due.{clears, reads, writes}
 use Rattle.site_wire.specs.declared.answers.Answer.{Answer}
 use Rattle.site_wire.specs.declared.sending.Exchange.{Exchange}
 use Rattle.site_wire.specs.Answering.{found_of}
-use Rattle.site_wire.specs.Sent.{Exchanged, exchanged, each_exchanged, exchanges, Notes, Sends}
+use Rattle.site_wire.specs.declared.order.Order.{Order}
+use Rattle.site_wire.specs.Orders.{datagram_of, words_order}
+use Rattle.site_wire.specs.Sent.{Exchanged, exchanged, exchanges, Notes, Sends}
 use Rattle.site_wire.specs.Answers.{shown_status}
 use Rattle.site_wire.specs.Answering.{shown_by}
-use Rattle.site_wire.specs.declared.answers.Shown.{Shown}
-use Rattle.site_wire.specs.declared.answers.Shown.TheVariants as shown
+use Rattle.site_wire.specs.declared.answers.AccessState.{AccessState}
+use Rattle.site_wire.specs.declared.answers.AccessState.TheVariants as shown
 use Rattle.site_wire.proofs.Due.{writing_by}
 use Rattle.site_wire.specs.Following.{IsOwnTo, SendsOwn, Polls}
 
 -- PARTS
 
--- one frame more
-exchanges_more : (sent : List Exchange) (exchange : Exchange) → exchanges (sent ++ exchange ∷ []) ≡ exchanges sent ++ each_exchanged exchange.frame.value exchange.answer.value
-unfolding exchanges
-exchanges_more [] exchange = append-nil (each_exchanged exchange.frame.value exchange.answer.value)
-exchanges_more (first ∷ sent) exchange =
-    ap (λ (later : List Exchanged). each_exchanged first.frame.value first.answer.value ++ later) (exchanges_more sent exchange)
-    ∙ sym (append_assoc (each_exchanged first.frame.value first.answer.value) (exchanges sent) (each_exchanged exchange.frame.value exchange.answer.value))
+-- what was exchanged for a datagram
+abbrev reported : Order → Option Answer → Exchanged
+reported order answer = exchanged (datagram_of order) (option_map found_of answer)
 
--- a frame of one datagram
-pub sent_once : (old new : List Exchange) (frame : List Pdu) (answer : Option Answer) → Notes old frame answer new → (d : Pdu) → frame ≡ d ∷ []
-    → Sends old new (exchanged d (option_map found_of answer) ∷ [])
-unfolding each_exchanged
-sent_once old new frame answer notes d one = record {
+-- one datagram more
+exchanges_more : (log : List Exchange) (exchange : Exchange)
+    → exchanges (log ++ exchange ∷ []) ≡ exchanges log ++ reported exchange.order.value exchange.answer.value ∷ []
+unfolding exchanges
+exchanges_more [] exchange = refl
+exchanges_more (first ∷ log) exchange =
+    ap (λ (later : List Exchanged). reported first.order.value first.answer.value ∷ later) (exchanges_more log exchange)
+
+pub sent_once : (old new : List Exchange) (order : Order) (answer : Option Answer) → Notes old order answer new
+    → Sends old new (exchanged (datagram_of order) (option_map found_of answer) ∷ [])
+sent_once old new order answer notes = record {
   goes_on = ap exchanges notes.noted ∙ exchanges_more old notes.exchange
-      ∙ ap (λ (f : List Pdu). exchanges old ++ each_exchanged f notes.exchange.answer.value) (notes.frame_is ∙ one)
-      ∙ ap (λ (a : Option Answer). exchanges old ++ each_exchanged (d ∷ []) a) notes.answer_is;
+      ∙ ap (λ (o : Order). exchanges old ++ reported o notes.exchange.answer.value ∷ []) notes.order_is
+      ∙ ap (λ (a : Option Answer). exchanges old ++ reported order a ∷ []) notes.answer_is;
 }
+
+-- the datagram, by another name
+pub sends_as : (old new : List Exchange) (d e : Pdu) (answer : Option Pdu) → d ≡ e → Sends old new (exchanged d answer ∷ []) → Sends old new (exchanged e answer ∷ [])
+sends_as old new d e answer is = subst (λ (p : Pdu). Sends old new (exchanged p answer ∷ [])) is
 
 pub nothing_sent : exchanges [] ≡ []
 unfolding exchanges
@@ -52,10 +60,10 @@ nothing_sent = refl
 pub sends_none : (sent : List Exchange) → Sends sent sent []
 sends_none sent = record { goes_on = sym (append-nil (exchanges sent)) }
 
--- the one behind the other
+-- the one after the other
 pub sends_then : (old mid new : List Exchange) (first second : List Exchanged) → Sends old mid first → Sends mid new second → Sends old new (first ++ second)
-sends_then old mid new first second before behind = record {
-  goes_on = behind.goes_on ∙ ap (λ (log : List Exchanged). log ++ second) before.goes_on ∙ append_assoc (exchanges old) first second;
+sends_then old mid new first second before afterwards = record {
+  goes_on = afterwards.goes_on ∙ ap (λ (log : List Exchanged). log ++ second) before.goes_on ∙ append_assoc (exchanges old) first second;
 }
 
 -- OF ITS OWN
@@ -75,14 +83,6 @@ clear_own slave half answer near = record {
   to = station_is slave 0x0502 near;
   own = inr (refl, clears (register_is slave 0x0502 near) refl);
 }
-
--- what the command to read a word and the next one has: its number, and what is put where they come to stand
-abbrev pub words_content : (word held : ℕ) → List ℕ
-words_content word held = to_le_bytes w16 0x0100 ++ to_le_bytes w32 word ++ to_le_bytes w16 held ++ to_le_bytes w16 held
-
--- command 001, with words of data behind it
-abbrev pub words_order : (slave word held : ℕ) → Pdu
-words_order slave word held = sent Fpwr 0 (address_of slave 0x0502) (words_content word held)
 
 pub words_own : (slave word held : ℕ) (half : SlaveHalf) (answer : Option Pdu) → slave < 64
     → IsOwnTo slave half (exchanged (words_order slave word held) answer)
@@ -106,7 +106,7 @@ module _ (slave : ℕ) (half : SlaveHalf) where
 
   pub both_own : (first second : List Exchanged) → All (IsOwnTo slave half) first → All (IsOwnTo slave half) second
       → All (IsOwnTo slave half) (first ++ second)
-  both_own first second before behind = All-append (IsOwnTo slave half) first second before behind
+  both_own first second before afterwards = All-append (IsOwnTo slave half) first second before afterwards
 
   -- nothing is sent
   pub own_none : (sent : List Exchange) → SendsOwn slave half sent sent
@@ -115,7 +115,7 @@ module _ (slave : ℕ) (half : SlaveHalf) where
   pub own_once : (old new : List Exchange) (call : Exchanged) → Sends old new (call ∷ []) → IsOwnTo slave half call → SendsOwn slave half old new
   own_once old new call sends own = record { calls = call ∷ []; sends = sends; own = one_own call own }
 
-  -- the one behind the other
+  -- the one after the other
   pub own_then : (old mid new : List Exchange) → SendsOwn slave half old mid → SendsOwn slave half mid new → SendsOwn slave half old new
   own_then old mid new first second = record {
     calls = first.calls ++ second.calls;
@@ -144,7 +144,7 @@ pub record WellBy (answer : Option Pdu) : Type 0 where
   pub well : shown_by (shown_status found) ≡ shown.Well
 
 -- one more poll
-pub polls_more : (slave : ℕ) (old mid new : List Exchange) (before after : Option Shown) (answer : Option Pdu) → Polls slave old mid before
+pub polls_more : (slave : ℕ) (old mid new : List Exchange) (before after : Option AccessState) (answer : Option Pdu) → Polls slave old mid before
     → Sends mid new (exchanged (poll_order slave) answer ∷ []) → (after ≡ Some shown.Well → WellBy answer) → Polls slave old new after
 polls_more slave old mid new before after answer polls sends well = record {
   calls = polls.calls ++ exchanged (poll_order slave) answer ∷ [];

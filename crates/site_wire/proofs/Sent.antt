@@ -19,7 +19,7 @@ board-send = search (crosses, sendable) depth 40
 
 module _ (W : RattleType) (wire : IsSend W) where
   line-send : IsSend (LiveLine.the_row W)
-  line-send = search (crosses, sendable) depth 40
+  line-send = search (send-History, crosses, sendable) depth 40
 
 module _ (a : NamedLft) (R W : RattleType) (rt-sync : IsSync R) (wire : IsSend W) where
   pub shared-send : IsSend (SharedLine.the_row a R W)

@@ -1,19 +1,19 @@
 -- What came back of a datagram, beside the answer of the shadow (ETG.1000.4, slave information interface).
-use Rattle.std.specs.Prelude.{◌≡◌, ℕ, ◌+◌, ◌/◌, ◌<◌, ◌≤◌, ◌==◌, nat_le, Bool, true, false, List, length, take, min}
-use Rattle.std.specs.Prelude.{◌∷◌, [], slice_index, slice_get}
+use Rattle.std.specs.Prelude.{◌≡◌, ℕ, ◌+◌, ◌/◌, ◌<◌, ◌≤◌, ◌==◌, ◌&&◌, nat_le, Bool, true, false, List, length, take, min}
+use Rattle.std.specs.Prelude.{slice_index, slice_get}
 use Rattle.std.specs.Prelude.{Option, Some, None, IsTrue, if◌then◌else◌}
 use Rattle.ecat_frame.specs.Frame.{Pdu}
 use Rattle.ecat_frame.specs.Command.{code_of}
 use Rattle.esc_model.specs.Bytes.{register_of}
 use Rattle.esc_model.specs.SlaveHalf.{SlaveHalf, is_busy}
-use Rattle.site_wire.specs.declared.device.Next.{Next}
-use Rattle.site_wire.specs.declared.device.Next.TheVariants as next
+use Rattle.site_wire.specs.declared.device.Reaction.{Reaction}
+use Rattle.site_wire.specs.declared.device.Reaction.TheVariants as next
 use Rattle.site_wire.specs.Due.{WritesControl}
 use Rattle.site_wire.specs.Answers.{compared, ReadAlike}
 use Rattle.site_wire.specs.Exchanges.{Agrees}
 use Rattle.site_wire.specs.declared.answers.Answer.{Answer}
-use Rattle.site_wire.specs.declared.answers.Shown.{Shown}
-use Rattle.site_wire.specs.declared.answers.Shown.TheVariants as shown
+use Rattle.site_wire.specs.declared.answers.AccessState.{AccessState}
+use Rattle.site_wire.specs.declared.answers.AccessState.TheVariants as shown
 use Rattle.site_wire.specs.declared.faults.Difference.{Difference}
 use Rattle.site_wire.specs.declared.faults.Difference.TheVariants as difference
 
@@ -33,13 +33,13 @@ pub record ShowsPair (found : Pdu) (pair : List ℕ) : Type 0 where
   pub content : found.content ≡ pair
 
 -- what the byte at 0x0503 shows of a slave: bit 7 is busy, bits 5 and 6 are the errors
-abbrev pub shown_by : Option ℕ → Shown
+abbrev pub shown_by : Option ℕ → AccessState
 shown_by None = shown.Nothing
 shown_by (Some status) = if nat_le 0x80 status then shown.Busy else if nat_le 0x20 status then shown.Failed else shown.Well
 
--- What is done behind an answer of a slave that writes a word, which shows this: a busy slave stays so; one that ended its command in error,
+-- What is done after an answer of a slave that writes a word, which shows this: a busy slave stays so; one that ended its command in error,
 -- or wasn't seen busy with it, is told it again; and a word that is shown as written is read back.
-abbrev pub next_by : Shown → Bool → Next
+abbrev pub next_by : AccessState → Bool → Reaction
 next_by shown.Nothing unconfirmed = next.Stays
 next_by shown.Busy unconfirmed = next.Stays
 next_by shown.Failed unconfirmed = next.Again
@@ -55,10 +55,31 @@ pub record IsAnswer (given : Pdu) (answer : Answer) : Type 0 where
   pub short : answer.length ≤ 16
   pub written : given.command ≡ 5 → (found_of answer).content ≡ given.content
 
--- This is the answer to the one datagram of a frame, and no slave counted it.
-pub record IsUncounted (frame : List Pdu) (answer : Answer) : Type 0 where
-  pub asked : Pdu
-  pub one : frame ≡ asked ∷ []
+-- the address of what came back at `found` of a datagram that was to go to `asked` and went to `sent`
+abbrev pub address_back : (asked sent found : ℕ) → ℕ
+address_back asked sent found = if found == sent then asked else if found == asked then sent else found
+
+-- It came back of a datagram that went to this address: the same command and index, at this address, with as many bytes.
+abbrev pub is_back : (asked : Pdu) → (sent : ℕ) → (found : Pdu) → Bool
+is_back asked sent found =
+    found.command == asked.command && found.index == asked.index && found.address == sent && length found.content == length asked.content
+
+-- what is told of `found`, which came back of a datagram that was to go to its own address and went to `sent`: what isn't its answer, as not taken
+abbrev pub answer_of : (asked : Pdu) → (sent : ℕ) → (found : Pdu) → Pdu
+answer_of asked sent found = record {
+  command = found.command;
+  index = found.index;
+  address = address_back asked.address sent found.address;
+  content = take (min (length found.content) 16) found.content;
+  counter = if is_back asked sent found then found.counter else 0;
+}
+
+-- an answer, of a slave that may have taken the datagram before
+abbrev pub marked : Answer → Answer
+marked answer = record answer { again = true }
+
+-- This is the answer to a datagram, and no slave counted it.
+pub record IsUncounted (asked : Pdu) (answer : Answer) : Type 0 where
   pub is_answer : IsAnswer asked answer
   pub counter : answer.counter ≡ 0
 

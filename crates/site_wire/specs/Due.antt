@@ -6,10 +6,10 @@ use Rattle.ecat_frame.specs.Frame.{Pdu}
 use Rattle.esc_model.specs.Bytes.{register_of, double_word_at}
 use Rattle.esc_model.specs.SlaveHalf.{SlaveHalf, Writing, is_busy}
 
--- a write to control and status (0x0502) or to a register behind it: code 5, FPWR
+-- a write to control and status (0x0502) or to a register after it: code 5, FPWR
 pub record WritesControl (d : Pdu) : Type 0 where
   pub write : d.command ≡ 5
-  pub behind : 0x0502 < register_of d.address + length d.content
+  pub afterwards : 0x0502 < register_of d.address + length d.content
 
 -- COMMANDS
 
@@ -43,10 +43,8 @@ pub data IsOwn (half : SlaveHalf) (d : Pdu) : Type 0 where
   writes : (word value : ℕ) → half.activity ≡ Writing word value → word < 2 ^ 16 → value < 2 ^ 16 → register_of d.address ≡ 0x0502
       → d.content ≡ to_le_bytes w16 0x0201 ++ to_le_bytes w32 word ++ to_le_bytes w16 value → IsOwn half d
 
--- The frame has one datagram. It may go to the slave of this half: its command is fit, and while the half is busy it writes to control and
--- status only what the device sends of its own.
-pub record IsDue (half : SlaveHalf) (frame : List Pdu) : Type 0 where
-  pub d : Pdu
-  pub one : frame ≡ d ∷ []
+-- The datagram may go to the slave of this half: its command is fit, and while the half is busy it writes to control and status only what the
+-- device sends of its own.
+pub record IsDue (half : SlaveHalf) (d : Pdu) : Type 0 where
   pub fits : IsFit half d
   pub quiet : IsTrue (is_busy half.activity) → WritesControl d → IsOwn half d

@@ -10,7 +10,8 @@ pub mod Known
 pub mod Orders
 pub mod Sent
 pub mod Parts
-pub mod Told
+pub mod Logged
+pub mod Reaching
 pub mod RealSlaves
 pub mod Journal
 pub mod Following

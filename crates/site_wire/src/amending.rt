@@ -1,20 +1,20 @@
 //! What a device sends of its own to a slave whose shadow writes a word: the command again, where the slave has not carried it out, and the
 //! read of the word, once the slave shows it as written.
-ghost use Rattle.std.specs.Prelude.{◌≡◌, ◌+◌, ◌%◌, ◌<◌, ◌≤◌, ◌∷◌, ◌++◌, [], Some, length};
+ghost use Rattle.std.specs.Prelude.{◌≡◌, ◌+◌, ◌%◌, ◌<◌, ◌++◌, Some, length};
 ghost use Rattle.std.specs.Int.{w16, w32, to_le_bytes};
-ghost use Rattle.ecat_frame.specs.Frame.{sent};
-ghost use Rattle.ecat_frame.specs.declared.command.Command.TheVariants.{Fprd, Fpwr};
-ghost use Rattle.esc_model.specs.Orders.{address_of};
+ghost use Rattle.esc_model.specs.Orders.{clear_order, write_order};
 ghost use Rattle.esc_model.specs.Bytes.{word_at};
 ghost use Rattle.esc_model.specs.SlaveHalf.{in_flight};
 ghost use Rattle.site_wire.specs.Answering.{found_of};
 ghost use Rattle.site_wire.specs.Following.{SendsOwn, Polls, TriesPair, ReadsBack};
+ghost use Rattle.site_wire.specs.Orders.{datagram_of, words_order};
 
-use crate::answers::{Answer, Shown, state_shown};
+use crate::answers::{AccessState, Answer, state_shown};
+use crate::order::Order;
 use crate::reach::Reach;
 use crate::sending::Sender;
-use ecat_frame::{Command, Frame, fp};
-use esc_model::{RomHalf, WordWrite, station_address};
+use ecat_frame::Command;
+use esc_model::{RomHalf, WordWrite};
 use esc_rom::POLLS;
 use rom_steps::{CONTENT, CONTROL, write_content};
 use std::rt::Clock;
@@ -29,27 +29,6 @@ enum Tried {
     Unseen,
 }
 
-/// A frame of one datagram for a slave.
-fn frame_for(slave: u16, command: Command, register: u16, content: &[u8]) -> Frame
-    requires slave { slave < 64 }
-    requires short { length content.now ≤ 16 }
-    ensures { result ≡ sent command 0 (address_of slave register) content.now ∷ [] }
-{
-    let mut frame = Frame::new();
-    match frame.push(command, 0, fp(station_address(slave), register), content) {
-        Ok(()) => frame,
-        Err(_) => unreachable!(),
-    }
-}
-
-/// Command 000, which clears the errors of a slave.
-fn clear_frame(slave: u16) -> Frame
-    requires { slave < 64 }
-    ensures { result ≡ sent Fpwr 0 (address_of slave 0x0502) (0 ∷ 0 ∷ []) ∷ [] }
-{
-    frame_for(slave, Command::Fpwr, CONTROL, &[0, 0])
-}
-
 /// The content of the datagram that reads a word and the next one, and puts `held` where they come to stand.
 fn read_content(word: u16, held: u16) -> [u8; 10]
     ensures { result ≡ to_le_bytes w16 0x0100 ++ to_le_bytes w32 word ++ to_le_bytes w16 held ++ to_le_bytes w16 held }
@@ -59,36 +38,29 @@ fn read_content(word: u16, held: u16) -> [u8; 10]
     [0x00, 0x01, a, b, c, d, low, high, low, high]
 }
 
-/// The command to read a word and the next one.
-fn read_frame(slave: u16, word: u16, held: u16) -> Frame
+/// The command to read a word and the next one, with `held` where they come to stand.
+fn read_order(slave: u16, word: u16, held: u16) -> Order
     requires { slave < 64 }
-    ensures { result ≡ sent Fpwr 0 (address_of slave 0x0502)
-        (to_le_bytes w16 0x0100 ++ to_le_bytes w32 word ++ to_le_bytes w16 held ++ to_le_bytes w16 held) ∷ [] }
+    ensures { datagram_of result ≡ words_order slave word held }
 {
-    frame_for(slave, Command::Fpwr, CONTROL, &read_content(word, held))
+    Order::to(slave, Command::Fpwr, CONTROL, &read_content(word, held))
 }
 
 /// The command to write a word.
-fn write_frame(slave: u16, write: WordWrite) -> Frame
+fn write_order(slave: u16, write: WordWrite) -> Order
     requires { slave < 64 }
-    ensures { result ≡ sent Fpwr 0 (address_of slave 0x0502)
-        (to_le_bytes w16 0x0201 ++ to_le_bytes w32 write.word ++ to_le_bytes w16 write.value) ∷ [] }
+    ensures { datagram_of result ≡ write_order slave write.word write.value }
 {
-    frame_for(
-        slave,
-        Command::Fpwr,
-        CONTROL,
-        &write_content(write.word, write.value),
-    )
+    let content = write_content(write.word, write.value);
+    Order::to(slave, Command::Fpwr, CONTROL, &content)
 }
 
 /// Clears the errors of a slave. None where the line has stopped.
-#[tactic(auto, using(crate::proofs::Due::clear_due, crate::proofs::ForEeprom::clear_eeprom))]
 fn clear<L: Reach>(line: &mut Sender<L>, slave: u16, half: &RomHalf) -> Option<Answer>
     requires { slave < 64 }
     ensures { SendsOwn slave half.now line.old.log.all line.new.log.all }
 {
-    line.pass(half, &clear_frame(slave))
+    line.pass(half, &Order::to(slave, Command::Fpwr, CONTROL, &[0, 0]))
 }
 
 /// Clears the errors of a slave, and tells it again to write the word in flight. Tells whether it took that. None where the line has stopped.
@@ -104,41 +76,39 @@ pub(crate) fn issue_again<L: Reach>(
     ensures { SendsOwn slave half.now line.old.log.all line.new.log.all }
 {
     let _cleared = clear(line, slave, half)?;
-    let answer = line.pass(half, &write_frame(slave, write))?;
+    let answer = line.pass(half, &write_order(slave, write))?;
     Some(answer.counter == 1)
 }
 
 /// Polls a slave until it shows that it is idle, and gives what it shows. `Nothing` where none of 10,000 polls sees that, or a hundred in a
 /// row aren't counted. None where the line has stopped.
-#[tactic(auto, using(crate::proofs::Due::read_due, crate::proofs::ForEeprom::poll_eeprom))]
 fn wait_idle<L: Reach, C: Clock>(
     line: &mut Sender<L>,
     clock: &C,
     slave: u16,
     half: &RomHalf,
-) -> Option<Shown>
+) -> Option<AccessState>
     requires { slave < 64 }
     ensures { Polls slave line.old.log.all line.new.log.all result }
 {
-    let poll = frame_for(slave, Command::Fprd, CONTROL, &[0, 0]);
+    let poll = Order::to(slave, Command::Fprd, CONTROL, &[0, 0]);
     let mut pace = Pace::new();
     let mut uncounted = 0u32;
     for _poll in 0..POLLS {
         match state_shown(&line.pass(half, &poll)?) {
-            Shown::Nothing => uncounted = uncounted.saturating_add(1),
-            Shown::Busy => uncounted = 0,
+            AccessState::Nothing => uncounted = uncounted.saturating_add(1),
+            AccessState::Busy => uncounted = 0,
             shown => return Some(shown),
         }
         if uncounted >= UNCOUNTED {
-            return Some(Shown::Nothing);
+            return Some(AccessState::Nothing);
         }
         pace.poll(clock);
     }
-    Some(Shown::Nothing)
+    Some(AccessState::Nothing)
 }
 
 /// Tries once to read a word and the next one. None where the line has stopped.
-#[tactic(auto, using(crate::proofs::Due::read_due, crate::proofs::ForEeprom::fetch_eeprom))]
 fn try_pair<L: Reach, C: Clock>(
     line: &mut Sender<L>,
     clock: &C,
@@ -151,15 +121,15 @@ fn try_pair<L: Reach, C: Clock>(
     requires inside { word + 1 < length half.now.words }
     ensures { TriesPair slave half.now word line.old.log.all line.new.log.all result }
 {
-    let taken = line.pass(half, &read_frame(slave, word, held))?;
+    let taken = line.pass(half, &read_order(slave, word, held))?;
     let shown = wait_idle(line, clock, slave, half)?;
-    if shown == Shown::Nothing {
+    if shown == AccessState::Nothing {
         return Some(Tried::Unseen);
     }
-    if taken.counter != 1 || shown != Shown::Well {
+    if taken.counter != 1 || shown != AccessState::Well {
         return Some(Tried::Refused);
     }
-    let fetch = frame_for(slave, Command::Fprd, CONTENT, &[0, 0, 0, 0]);
+    let fetch = Order::to(slave, Command::Fprd, CONTENT, &[0, 0, 0, 0]);
     let fetched = line.pass(half, &fetch)?;
     Some(match fetched.words_read() {
         Some(pair) => Tried::Read(pair),

@@ -2,14 +2,16 @@
 ghost use Rattle.std.specs.Prelude.{◌≡◌, ◌≢◌, ◌<◌, ◌/◌, ◌↔◌, length, IsTrue, IfSome, None, Some};
 ghost use Rattle.ecat_frame.specs.Frame.{pdu};
 ghost use Rattle.site_wire.specs.Answers.{compared, ReadAlike, shown_status};
-ghost use Rattle.site_wire.specs.Answering.{found_of, shown_by, ShowsPair, IsAnswer, difference_at, FirstDiffers, IsAlike, IsUnconfirmed};
+ghost use Rattle.site_wire.specs.Answering.{address_back, answer_of, found_of, is_back, marked, shown_by, ShowsPair, IsAnswer, difference_at, FirstDiffers, IsAlike};
+ghost use Rattle.site_wire.specs.Answering.{IsUnconfirmed};
+ghost use Rattle.site_wire.specs.Joining.{ReportedAt};
 ghost use Rattle.site_wire.specs.declared.answers.Comparison.TheVariants.{Alike, Unconfirmed};
 
 use crate::faults::Difference;
 use crate::fitting::waits_for_rest;
-use ecat_frame::{Command, Datagram};
+use ecat_frame::{Command, Datagram, Frame};
 use esc_model::RomHalf;
-use wire_frames::{Carried, FPRD, FPWR, Last, Returned, register_of};
+use wire_frames::{FPRD, FPWR, Last, register_of};
 
 /// The byte that says who has access to the EEPROM (ETG.1000.4, slave information interface).
 const ACCESS: usize = 0x0500;
@@ -35,36 +37,33 @@ pub struct Answer {
     /// The first of them.
     front: [u8; LONGEST],
     /// Whether the slave may have taken it before: the frame was sent more than once, or no slave counted it.
-    pub(crate) again: bool,
+    again: bool,
 }
 
 impl Answer {
-    /// The first datagram of a frame that came back. One that isn't the answer to this one counts as not taken.
-    pub(crate) fn of(asked: Datagram<'_>, returned: &Returned) -> Option<Answer> {
-        let found = returned.frame.datagrams().next()?;
-        Some(Answer::read(asked, returned.address, found, returned.again))
-    }
-
-    /// The datagram at this place of a frame that came back, in which this one went to `sent`. Another one counts as not taken.
+    /// The datagram at this place of a frame that came back, in which this one went to `sent`, and whether the frame was sent more than once. Another
+    /// datagram counts as not taken.
     pub(crate) fn at(
         asked: Datagram<'_>,
         sent: u32,
-        carried: &Carried,
+        frame: &Frame,
         place: usize,
-    ) -> Option<Answer> {
-        if place >= carried.frame.count() {
+        again: bool,
+    ) -> Option<Answer>
+        ensures { ReportedAt (pdu asked.entry) sent place frame.now again result }
+    {
+        if place >= frame.count() {
             return None;
         }
-        Some(Answer::read(asked, sent, carried.frame.datagram(place), carried.again))
+        Some(Answer::read(asked, sent, frame.datagram(place), again))
     }
 
     /// What came back as `found` of this datagram, which went to `sent`. One that isn't its answer counts as not taken.
-    fn read(asked: Datagram<'_>, sent: u32, found: Datagram<'_>, again: bool) -> Answer {
-        let address = address_back(asked.address, sent, found.address);
-        let is_to = asked.command.code() == found.command.code()
-            && asked.index == found.index
-            && asked.address == address
-            && asked.content.len() == found.content.len();
+    #[tactic(auto, using(crate::proofs::Ordered::read_is))]
+    fn read(asked: Datagram<'_>, sent: u32, found: Datagram<'_>, again: bool) -> Answer
+        ensures found { found_of result ≡ answer_of (pdu asked.entry) sent (pdu found.entry) }
+        ensures again { result.again ≡ again }
+    {
         let length = found.content.len();
         let mut front = [0u8; LONGEST];
         let count = length.min(LONGEST);
@@ -72,11 +71,21 @@ impl Answer {
         Answer {
             command: found.command,
             index: found.index,
-            address,
-            counter: if is_to { found.counter } else { 0 },
+            address: address_back(asked.address, sent, found.address),
+            counter: counter_back(asked, sent, found),
             length,
             front,
             again,
+        }
+    }
+
+    /// The same, of a slave that may have taken the datagram before.
+    pub(crate) fn marked(self) -> Answer
+        ensures { result ≡ marked self }
+    {
+        Answer {
+            again: true,
+            ..self
         }
     }
 
@@ -111,9 +120,29 @@ impl Answer {
     }
 }
 
+/// Whether `found` came back of this datagram, which went to `sent`.
+fn is_back(asked: Datagram<'_>, sent: u32, found: Datagram<'_>) -> bool
+    ensures { result ≡ is_back (pdu asked.entry) sent (pdu found.entry) }
+{
+    found.command.code() == asked.command.code()
+        && found.index == asked.index
+        && found.address == sent
+        && found.content.len() == asked.content.len()
+}
+
+/// How many slaves have counted this datagram, by `found`: 0 where that isn't its answer.
+fn counter_back(asked: Datagram<'_>, sent: u32, found: Datagram<'_>) -> u16
+    ensures { result ≡ (answer_of (pdu asked.entry) sent (pdu found.entry)).counter }
+{
+    if is_back(asked, sent, found) {
+        return found.counter;
+    }
+    return 0;
+}
+
 /// The address of an answer, where a datagram that was to go to `asked` went to `sent`: `asked` for `sent`, and another for any other one.
 fn address_back(asked: u32, sent: u32, found: u32) -> u32
-    ensures own { found ≡ sent → result ≡ asked }
+    ensures is { result ≡ address_back asked sent found }
     ensures other { found ≢ sent → result ≢ asked }
 {
     if found == sent {
@@ -127,7 +156,7 @@ fn address_back(asked: u32, sent: u32, found: u32) -> u32
 
 /// What an answer shows of a slave that may be busy.
 #[derive(Clone, Copy, PartialEq, Eq)]
-pub(crate) enum Shown {
+pub(crate) enum AccessState {
     /// Nothing of it.
     Nothing,
     Busy,
@@ -163,25 +192,25 @@ fn status_of(answer: &Answer) -> Option<u8>
 }
 
 /// What an answer shows of the slave.
-pub(crate) fn state_shown(answer: &Answer) -> Shown
+pub(crate) fn state_shown(answer: &Answer) -> AccessState
     ensures { result ≡ shown_by (shown_status (found_of answer.now)) }
 {
     match status_of(answer) {
         Some(status) => shown_of(status),
-        None => Shown::Nothing,
+        None => AccessState::Nothing,
     }
 }
 
 /// What the byte of control and status shows of the slave.
-fn shown_of(status: u8) -> Shown
+fn shown_of(status: u8) -> AccessState
     ensures { result ≡ shown_by (Some status) }
 {
     if status >= 0x80 {
-        Shown::Busy
+        AccessState::Busy
     } else if status >= 0x20 {
-        Shown::Failed
+        AccessState::Failed
     } else {
-        Shown::Well
+        AccessState::Well
     }
 }
 

@@ -7,13 +7,14 @@ ghost use Rattle.site_wire.specs.Due.{IsFit, WritesControl};
 ghost use Rattle.esc_model.specs.SlaveHalf.{in_flight, is_busy};
 ghost use Rattle.site_shadow.specs.declared.device.Resting.TheVariants as resting;
 ghost use Rattle.site_shadow.specs.declared.device.Passing.TheVariants.{Passes, Fails};
-ghost use Rattle.site_wire.specs.declared.answers.Shown.TheVariants as shown_as;
+ghost use Rattle.site_wire.specs.declared.answers.AccessState.TheVariants as shown_as;
 ghost use Rattle.site_wire.specs.Answers.{shown_status};
 ghost use Rattle.site_wire.specs.Answering.{found_of, shown_by, next_by, AgreesWith};
 ghost use Rattle.wire_frames.specs.Sending.{IsForEeprom};
 ghost use Rattle.site_wire.specs.Known.{IsKnown};
 ghost use Rattle.std.specs.List.{All};
 ghost use Rattle.std.specs.Option.{option_map};
+ghost use Rattle.site_wire.specs.Orders.{datagram_of};
 ghost use Rattle.site_wire.specs.Sent.{exchanged, Sends};
 ghost use Rattle.site_wire.specs.Following.{SendsNothing, ReadsBack, rests_with, FollowsUp, SendsFor, IsDueTo, CarriesFrame};
 ghost use Rattle.site_wire.specs.Parts.{SendsAsPart, WorksOn};
@@ -21,15 +22,16 @@ ghost use Rattle.esc_model.specs.Bytes.{station_of};
 ghost use Rattle.esc_model.specs.Orders.{station};
 
 use crate::amending::{issue_again, read_back};
-use crate::answers::{Answer, Comparison, Shown, compared_with, state_shown};
+use crate::answers::{AccessState, Answer, Comparison, compared_with, state_shown};
 use crate::faults::{Difference, StopReason};
 use crate::fitting::{is_fit, is_for_eeprom, is_ignored, is_known, only_datagram};
+use crate::order::Order;
 use crate::reach::{LiveLine, Reach, SharedLine};
 use crate::sending::{Exchange, Sender};
 use ecat_frame::{Datagram, Frame};
 use esc_model::{RomHalf, WordWrite, station_address};
 use sii_words::History;
-use site_file::{FileDevice, FileTold, RandomAccessFile};
+use site_file::{FileDevice, FileLog, RandomAccessFile};
 use site_shadow::{Device, Lends, LinePart, Passing, Pattern, Resting, ShadowSite};
 use std::rt::Clock;
 use std::sync::Wait;
@@ -131,9 +133,9 @@ impl<'f, R: Wait, W: Wire, F: RandomAccessFile, C: Clock> WireDevice<
     }
 }
 
-/// What is done behind an answer of a slave whose half writes a word.
+/// What is done after an answer of a slave whose half writes a word.
 #[derive(Clone, Copy)]
-enum Next {
+enum Reaction {
     /// The half stays busy.
     Stays,
     /// The slave is told the command again.
@@ -142,15 +144,15 @@ enum Next {
     ReadsBack,
 }
 
-/// What is done behind an answer that shows this of a slave: with whether it wasn't seen busy with its command yet.
-fn next_of(shown: Shown, is_unconfirmed: bool) -> Next
+/// What is done after an answer that shows this of a slave: with whether it wasn't seen busy with its command yet.
+fn next_of(shown: AccessState, is_unconfirmed: bool) -> Reaction
     ensures { result ≡ next_by shown is_unconfirmed }
 {
     match shown {
-        Shown::Nothing | Shown::Busy => Next::Stays,
-        Shown::Failed => Next::Again,
-        Shown::Well if is_unconfirmed => Next::Again,
-        Shown::Well => Next::ReadsBack,
+        AccessState::Nothing | AccessState::Busy => Reaction::Stays,
+        AccessState::Failed => Reaction::Again,
+        AccessState::Well if is_unconfirmed => Reaction::Again,
+        AccessState::Well => Reaction::ReadsBack,
     }
 }
 
@@ -236,7 +238,7 @@ impl<'f, L: Reach, F: RandomAccessFile, C: Clock> WireDevice<'f, L, F, C> {
     }
 
     /// The site stops where the slave's answer is another than the shadow's.
-    fn judge(&mut self, slave: usize, half: &RomHalf, answer: &Frame)
+    fn validate(&mut self, slave: usize, half: &RomHalf, answer: &Frame)
         ensures agrees { self.new.is_over ≡ false → IfSome self.old.returned (λ found. AgreesWith half.now answer.now found) }
         ensures quiet { SendsNothing self.old self.new }
         ensures journal { self.new.journal ≡ self.old.journal }
@@ -284,16 +286,15 @@ impl<'f, L: Reach, F: RandomAccessFile, C: Clock> WireDevice<'f, L, F, C> {
         match fit_datagram(number, half, frame) {
             Some(sent) if is_known(half, sent) => self.resting = Resting::Well,
             Some(sent) if is_ignored(half, sent) => {}
-            Some(sent) => self.send(number, half, sent, frame),
+            Some(sent) => self.send(number, half, sent),
             None => self.stop(StopReason::NotOneDatagram { slave }, None),
         }
     }
 
-    /// Sends a frame of one datagram that the half takes. Where the half is busy, a pause comes first, and then a word in flight ends as the answer
-    /// shows.
-    fn send(&mut self, slave: u16, half: &RomHalf, sent: Datagram<'_>, frame: &Frame)
+    /// Sends a datagram that the half takes. Where the half is busy, a pause comes first, and then a word in flight ends as the answer shows.
+    fn send(&mut self, slave: u16, half: &RomHalf, sent: Datagram<'_>)
         requires slave { slave < 64 }
-        requires frame { frame.now ≡ pdu sent ∷ [] }
+        requires fresh { sent.counter ≡ 0 }
         requires fits { IsFit half.now (pdu sent) }
         requires eeprom { IsForEeprom (pdu sent) }
         requires quiet { IsTrue (is_busy half.now.activity) → ¬ WritesControl (pdu sent) }
@@ -304,7 +305,7 @@ impl<'f, L: Reach, F: RandomAccessFile, C: Clock> WireDevice<'f, L, F, C> {
         ensures journal { self.new.journal ≡ self.old.journal }
     {
         self.prepare(usize::from(slave), half);
-        self.pass(half, sent, frame);
+        self.pass(half, &Order::of(sent));
         let Some(write) = half.in_flight() else {
             return;
         };
@@ -329,25 +330,22 @@ impl<'f, L: Reach, F: RandomAccessFile, C: Clock> WireDevice<'f, L, F, C> {
         }
     }
 
-    /// Sends a frame of one datagram that the half takes.
-    #[tactic(auto, using(crate::proofs::Due::sent_due, crate::proofs::ForEeprom::all_of_one))]
-    fn pass(&mut self, half: &RomHalf, sent: Datagram<'_>, frame: &Frame)
-        requires frame { frame.now ≡ pdu sent ∷ [] }
-        requires fits { IsFit half.now (pdu sent) }
-        requires eeprom { IsForEeprom (pdu sent) }
-        requires quiet { IsTrue (is_busy half.now.activity) → ¬ WritesControl (pdu sent) }
-        requires news { ¬ IsKnown half.now (pdu sent) }
+    /// Sends a datagram that the half takes.
+    #[tactic(auto, using(crate::proofs::Due::sent_due))]
+    fn pass(&mut self, half: &RomHalf, order: &Order)
+        requires fits { IsFit half.now (datagram_of order.now) }
+        requires quiet { IsTrue (is_busy half.now.activity) → ¬ WritesControl (datagram_of order.now) }
         ensures rests { self.new.resting ≡ self.old.resting }
         ensures sends { Sends self.old.sender.log.all self.new.sender.log.all
-            (exchanged (pdu sent.entry) (option_map found_of self.new.returned) ∷ []) }
+            (exchanged (datagram_of order.now) (option_map found_of self.new.returned) ∷ []) }
         ensures over { self.new.is_over ≡ false → IsSome self.new.returned }
         ensures journal { self.new.journal ≡ self.old.journal }
     {
-        self.returned = self.sender.pass(half, frame);
+        self.returned = self.sender.pass(half, order);
         self.is_over = self.returned.is_none();
     }
 
-    /// Does what is to be done behind this answer of a slave whose half writes a word.
+    /// Does what is to be done after this answer of a slave whose half writes a word.
     fn follow(&mut self, slave: u16, half: &RomHalf, write: WordWrite, answer: Answer)
         requires slave { slave < 64 }
         requires flying { in_flight half.now.activity ≡ Some write }
@@ -360,13 +358,13 @@ impl<'f, L: Reach, F: RandomAccessFile, C: Clock> WireDevice<'f, L, F, C> {
         let is_unconfirmed = self.is_unconfirmed[usize::from(slave)];
         let shown = state_shown(&answer);
         match next_of(shown, is_unconfirmed) {
-            Next::Stays => {
-                if shown == Shown::Busy {
+            Reaction::Stays => {
+                if shown == AccessState::Busy {
                     self.set_unconfirmed(usize::from(slave), false);
                 }
             }
-            Next::Again => self.try_again(slave, half, write, answer),
-            Next::ReadsBack => self.confirm(slave, half, write, answer),
+            Reaction::Again => self.try_again(slave, half, write, answer),
+            Reaction::ReadsBack => self.confirm(slave, half, write, answer),
         }
     }
 
@@ -496,8 +494,8 @@ fn are_bytes(bytes: &[u8])
     ensures { All (λ (byte : ℕ). byte < 256) bytes.now }
 {}
 
-/// The datagram of a frame that has just one, if that is for registers of the EEPROM of the slave at this place, and its command is one for this
-/// half.
+/// The datagram of a frame that has just one, if no slave has counted it, it is for registers of the EEPROM of the slave at this place, and its
+/// command is one for this half.
 #[tactic(auto, using(crate::proofs::DueTo::due_to))]
 fn fit_datagram<'a>(slave: u16, half: &RomHalf, frame: &'a Frame) -> Option<Datagram<'a>>
     requires { slave < 64 }
@@ -506,7 +504,7 @@ fn fit_datagram<'a>(slave: u16, half: &RomHalf, frame: &'a Frame) -> Option<Data
     let datagram = only_datagram(frame)?;
     are_bytes(datagram.content);
     let is_to = datagram.address % 65536 == u32::from(station_address(slave));
-    if is_to && is_for_eeprom(datagram) && is_fit(half, datagram) {
+    if is_to && datagram.counter == 0 && is_for_eeprom(datagram) && is_fit(half, datagram) {
         Some(datagram)
     } else {
         None
@@ -569,21 +567,20 @@ impl<'f, L: Reach, F: RandomAccessFile, C: Clock> Device for WireDevice<'f, L, F
         self.end_call(passing)
     }
 
-    /// Lets the frame pass, which `rest` sends. One that isn't a datagram for the EEPROM of this slave, and fit for its half, stops the site.
-    fn exchange(&mut self, slave: usize, half: &RomHalf, frame: &Frame) -> Passing
+    /// Lets a frame of one datagram for a slave of this part pass. `rest` sends it, or stops the site where it isn't fit for the half. Any other stops
+    /// the site.
+    fn exchange(&mut self, slave: usize, _half: &RomHalf, frame: &Frame) -> Passing
         ensures journal { self.new.journal ≡ self.old.journal }
         ensures follows { ExchangeKeeps WireFollows self.old result self.new }
     {
         if self.is_over {
             return Passing::Stops(LEFT);
         }
-        match number_of(self.journal.part(), slave) {
-            Some(number) if fit_datagram(number, half, frame).is_some() => Passing::Passes,
-            _ => {
-                self.stop(StopReason::NotOneDatagram { slave }, None);
-                Passing::Stops(LEFT)
-            }
+        if frame.count() == 1 && number_of(self.journal.part(), slave).is_some() {
+            return Passing::Passes;
         }
+        self.stop(StopReason::NotOneDatagram { slave }, None);
+        Passing::Stops(LEFT)
     }
 
     /// Sends the frame, unless its datagram tells nothing new, and the half rests and answers by itself; or the half is busy and takes nothing
@@ -620,7 +617,7 @@ impl<'f, L: Reach, F: RandomAccessFile, C: Clock> Device for WireDevice<'f, L, F
         if self.is_over {
             return Some(LEFT);
         }
-        self.judge(slave, half, answer);
+        self.validate(slave, half, answer);
         if self.is_over {
             return Some(LEFT);
         }
@@ -647,9 +644,9 @@ impl<'f, L: Reach, F: RandomAccessFile, C: Clock> Device for WireDevice<'f, L, F
 
 /// What a device on a wire tells of its calls.
 #[derive(Drop)]
-pub struct WireTold {
+pub struct WireLog {
     /// What was asked of the journal's file, and of which part the device was.
-    pub journal: FileTold,
+    pub journal: FileLog,
     /// All that was sent to the slaves, in order, and what came back.
     pub sent: History<Exchange>,
 }
@@ -657,9 +654,9 @@ pub struct WireTold {
 impl<'f, L: Reach + Copy + Drop, F: RandomAccessFile + Drop, C: Clock> Lends
     for WireDevice<'f, L, F, C> {
     ghost use Rattle.site_file.specs.Owned.{PutsBack, Takes};
-    ghost use Rattle.site_wire.specs.Told.{TellsWire};
+    ghost use Rattle.site_wire.specs.Logged.{TellsWire};
 
-    type Told = WireTold;
+    type Logged = WireLog;
 
     ghost tells = { TellsWire };
 
@@ -684,7 +681,7 @@ impl<'f, L: Reach + Copy + Drop, F: RandomAccessFile + Drop, C: Clock> Lends
         }
     }
 
-    fn take_back(&mut self, lent: WireDevice<'f, L, F, C>) -> WireTold
+    fn take_back(&mut self, lent: WireDevice<'f, L, F, C>) -> WireLog
         ensures tells { TellsWire lent.entry result }
         ensures files { PutsBack self.old.journal.held lent.entry.journal.held self.new.journal.held }
         ensures over { self.new.is_over ≡ (self.old.is_over || lent.entry.is_over) }
@@ -697,19 +694,19 @@ impl<'f, L: Reach + Copy + Drop, F: RandomAccessFile + Drop, C: Clock> Lends
             ..
         } = lent;
         self.is_over = self.is_over || is_over;
-        WireTold {
+        WireLog {
             journal: self.journal.take_back(journal),
             sent: sender.into_sent(),
         }
     }
 
-    fn tell(&mut self) -> WireTold
+    fn tell(&mut self) -> WireLog
         ensures tells { TellsWire self.old result }
         ensures files { self.new.journal.held ≡ self.old.journal.held }
         ensures over { self.new.is_over ≡ self.old.is_over }
         ensures sent { self.new.sender.log.all ≡ [] }
     {
-        WireTold {
+        WireLog {
             journal: self.journal.tell(),
             sent: self.sender.tell(),
         }

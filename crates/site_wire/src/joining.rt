@@ -1,15 +1,15 @@
 //! What the devices of a shared line have to send. One frame takes all that waits.
-ghost use Rattle.std.specs.Prelude.{◌≡◌, ◌≢◌, ◌↔◌, ◌⊎◌, ℕ, ◌<◌, true, false, IsTrue};
+ghost use Rattle.std.specs.Prelude.{◌≡◌, ◌≢◌, ◌↔◌, ℕ, ◌<◌, true, false, replicate, IsTrue};
 ghost use Rattle.std.specs.List.{All};
-ghost use Rattle.ecat_frame.specs.Frame.{pdu};
-ghost use Rattle.site_wire.specs.declared.joining.Stage.TheVariants.{Free};
-ghost use Rattle.site_wire.specs.Joining.{ComesToRest, Keeps, Takes, Waited, WaitsNoMore, answer_in, is_at_end, stage_of};
+ghost use Rattle.site_wire.specs.declared.joining.Stage.TheVariants.{Vacant, Waits};
+ghost use Rattle.site_wire.specs.Orders.{datagram_of};
+ghost use Rattle.site_wire.specs.Joining.{Collects, ComesToRest, ReportedOf, Waited, WaitsNoMore, answer_in, is_at_end, stage_of};
 ghost use Rattle.wire_frames.specs.Room.{Fits};
-ghost use Rattle.wire_frames.specs.Sending.{IsForEeprom, OnlyEeprom};
+ghost use Rattle.wire_frames.specs.Sending.{OnlyEeprom};
 
 use crate::answers::Answer;
 use crate::order::Order;
-use ecat_frame::{Datagram, Frame};
+use ecat_frame::Frame;
 use wire_frames::{Carried, Room, Stations};
 
 /// How many slaves a line has at most.
@@ -19,13 +19,30 @@ const SLAVES: usize = 64;
 #[derive(Clone, Copy)]
 enum Stage {
     /// There is none.
-    Free,
+    Vacant,
     /// It waits for a frame.
     Waits(Order),
     /// It is the one at this place of a frame under way, in which it went to this address.
     Sent(Order, u32, usize),
     /// Its frame is back, with this answer. None where it isn't.
     Answered(Option<Answer>),
+}
+
+/// What came back of a datagram that went to this address at this place of a frame. None where the frame didn't come back.
+fn reported_of(
+    order: &Order,
+    address: u32,
+    place: usize,
+    carried: &Option<Carried>,
+) -> Option<Answer>
+    ensures { ReportedOf (datagram_of order.now) address place carried.now result }
+{
+    match carried {
+        Some(back) => {
+            return Answer::at(order.datagram(), address, &back.frame, place, back.again);
+        }
+        None => return None,
+    }
 }
 
 /// What the devices of a line have to send, one datagram for each slave.
@@ -42,26 +59,30 @@ pub(crate) struct Board {
 
 impl Board {
     /// A board on which nothing stands, for a line with these station addresses, on which a frame may hold so much.
-    pub(crate) fn new(stations: Stations, room: Room) -> Board {
+    pub(crate) fn new(stations: Stations, room: Room) -> Board
+        ensures stations { result.stations ≡ stations }
+        ensures room { result.room ≡ room }
+        ensures vacant { result.stages ≡ replicate 64 Vacant }
+    {
         Board {
-            stages: [Stage::Free; SLAVES],
+            stages: [Stage::Vacant; SLAVES],
             stations,
             room,
             is_sending: false,
         }
     }
 
-    /// Puts down a datagram for the EEPROM of this slave. Returns whether there was none yet.
-    pub(crate) fn put(&mut self, slave: usize, asked: Datagram<'_>) -> bool
-        requires slave { slave < 64 }
-        requires eeprom { IsForEeprom (pdu asked) }
-        ensures free { IsTrue result ↔ (stage_of self.old.stages slave ≡ Free) }
-        ensures put { IsTrue result → Keeps (pdu asked.entry) (stage_of self.new.stages slave) }
+    /// Puts down a datagram of this slave's device. Returns whether there was none yet.
+    pub(crate) fn put(&mut self, slave: usize, order: Order) -> bool
+        requires { slave < 64 }
+        ensures vacant { IsTrue result ↔ (stage_of self.old.stages slave ≡ Vacant) }
+        ensures put { IsTrue result → stage_of self.new.stages slave ≡ Waits order }
         ensures others { (other : ℕ) → other ≢ slave → stage_of self.new.stages other ≡ stage_of self.old.stages other }
+        ensures stations { self.new.stations ≡ self.old.stations }
     {
         match self.stages[slave] {
-            Stage::Free => {
-                self.stages[slave] = Stage::Waits(Order::of(asked));
+            Stage::Vacant => {
+                self.stages[slave] = Stage::Waits(order);
                 true
             }
             _ => false,
@@ -72,11 +93,12 @@ impl Board {
     pub(crate) fn take(&mut self, slave: usize) -> Option<Answer>
         requires { slave < 64 }
         ensures answer { result ≡ answer_in (stage_of self.old.stages slave) }
-        ensures free { stage_of self.new.stages slave ≡ Free }
+        ensures vacant { stage_of self.new.stages slave ≡ Vacant }
         ensures others { (other : ℕ) → other ≢ slave → stage_of self.new.stages other ≡ stage_of self.old.stages other }
+        ensures stations { self.new.stations ≡ self.old.stations }
     {
         let stage = self.stages[slave];
-        self.stages[slave] = Stage::Free;
+        self.stages[slave] = Stage::Vacant;
         match stage {
             Stage::Answered(answer) => answer,
             _ => None,
@@ -99,12 +121,13 @@ impl Board {
         matches!(self.stages[slave], Stage::Answered(_))
     }
 
-    /// A frame of what waits, as far as there is room, of the slaves from this one on, as if slave 0 came behind the last one. It is under way.
+    /// A frame of what waits, as far as there is room, of the slaves from this one on, as if slave 0 came after the last one. It is under way.
     pub(crate) fn collect(&mut self, first: usize) -> Frame
         ensures only { OnlyEeprom result }
-        ensures waiting { All (Waited self.old.stages) result }
+        ensures waiting { All (Waited self.old.stations.by_slave self.old.stages) result }
         ensures fits { Fits self.old.room result }
         ensures sending { self.new.is_sending ≡ true }
+        ensures stations { self.new.stations ≡ self.old.stations }
     {
         let mut frame = Frame::new();
         for turn in 0..SLAVES {
@@ -123,6 +146,7 @@ impl Board {
     }
 
     /// Puts the datagram of this slave into the frame, if it waits and there is room.
+    #[tactic(auto, using(crate::proofs::Boards::leaves_it))]
     fn collect_one(&mut self, slave: usize, frame: &mut Frame)
         requires slave { slave < 64 }
         requires only { OnlyEeprom frame.old }
@@ -130,7 +154,8 @@ impl Board {
         ensures only { OnlyEeprom frame.new }
         ensures fits { Fits self.old.room frame.new }
         ensures same { self.new.room ≡ self.old.room }
-        ensures took { (frame.new ≡ frame.old) ⊎ Takes self.old.stages frame.old frame.new }
+        ensures stations { self.new.stations ≡ self.old.stations }
+        ensures took { Collects self.old.stations.by_slave slave self.old.stages self.new.stages frame.old frame.new }
         ensures fewer { (other : ℕ) → WaitsNoMore (stage_of self.old.stages other) (stage_of self.new.stages other) }
     {
         if let Stage::Waits(order) = self.stage(slave) {
@@ -148,17 +173,30 @@ impl Board {
     /// Each datagram of the frame under way has its answer in the one that came back, if it did.
     pub(crate) fn answer(&mut self, carried: &Option<Carried>)
         ensures sending { self.new.is_sending ≡ false }
-        ensures rest { (slave : ℕ) → slave < 64 → ComesToRest (stage_of self.old.stages slave) (stage_of self.new.stages slave) }
+        ensures rest { (slave : ℕ) → slave < 64 → ComesToRest carried.now (stage_of self.old.stages slave) (stage_of self.new.stages slave) }
+        ensures stations { self.new.stations ≡ self.old.stations }
     {
         self.is_sending = false;
         for slave in 0..SLAVES {
-            if let Stage::Sent(order, address, place) = self.stages[slave] {
-                let answer = match carried {
-                    Some(carried) => Answer::at(order.datagram(), address, carried, place),
-                    None => None,
-                };
+            self.answer_one(slave, carried);
+        }
+    }
+
+    /// The same of the datagram of this slave.
+    #[tactic(auto, using(crate::proofs::Boards::comes_to, crate::proofs::Boards::stays_at))]
+    fn answer_one(&mut self, slave: usize, carried: &Option<Carried>)
+        requires { slave < 64 }
+        ensures sending { self.new.is_sending ≡ self.old.is_sending }
+        ensures rest { ComesToRest carried.now (stage_of self.old.stages slave) (stage_of self.new.stages slave) }
+        ensures others { (other : ℕ) → other ≢ slave → stage_of self.new.stages other ≡ stage_of self.old.stages other }
+        ensures stations { self.new.stations ≡ self.old.stations }
+    {
+        match self.stages[slave] {
+            Stage::Sent(order, address, place) => {
+                let answer = reported_of(&order, address, place, carried);
                 self.stages[slave] = Stage::Answered(answer);
             }
+            Stage::Vacant | Stage::Waits(_) | Stage::Answered(_) => {}
         }
     }
 }

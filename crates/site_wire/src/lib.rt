@@ -15,12 +15,13 @@ mod parts;
 mod reach;
 mod sending;
 
-pub use device::{WireDevice, WireSite, WireTold};
+pub use device::{WireDevice, WireLog, WireSite};
 pub use faults::{Difference, StopReason};
 pub use laws::{
     agreed_is_possible, amending_is_possible, defined_slave_serves, journal_follows,
     possible_leaves_no_more, stop_leaves_no_more,
 };
+pub use order::Order;
 pub use parts::TellsPart;
 pub use reach::{LiveLine, LockedLine, Reach, SharedLine};
 pub use sending::Exchange;

@@ -1,15 +1,15 @@
 //! How a device reaches the slaves of a wire.
-ghost use Rattle.std.specs.List.{All};
+ghost use Rattle.std.specs.Prelude.{◌≡◌, ◌<◌, Some, None, IfSome, IsSome, IsTrue};
+ghost use Rattle.wire_frames.specs.Sending.{OnlyEeprom};
 ghost use Rattle.site_wire.specs.Due.{IsDue};
-ghost use Rattle.std.specs.Prelude.{◌<◌, IsTrue};
-ghost use Rattle.ecat_frame.specs.Frame.{pdu};
-ghost use Rattle.wire_frames.specs.Sending.{IsForEeprom, OnlyEeprom};
+ghost use Rattle.site_wire.specs.Orders.{datagram_of};
+ghost use Rattle.site_wire.specs.Reaching.{PassesAll};
 
 use crate::answers::Answer;
 use crate::faults::StopReason;
-use crate::fitting::only_datagram;
 use crate::joining::Board;
-use ecat_frame::{Datagram, Frame};
+use crate::order::Order;
+use ecat_frame::Frame;
 use esc_model::{FIRST_STATION, RomHalf};
 use std::alloc::AllocError;
 use std::sync::{Condvar, Mutex, Wait};
@@ -17,13 +17,20 @@ use wire_frames::{Carried, Last, NumberedWire, Sighting, Wire, sight};
 
 /// A wire on which a line was brought up, as the devices reach it that work on its slaves.
 pub trait Reach {
-    /// Sends a frame to the slave of this half until it comes back, three times at most. It reads or writes registers of the EEPROM. A command
-    /// names words that the half has. While the half is busy, of what writes to control and status only that is sent which clears errors, reads
-    /// words, or issues the word in flight again. None where it doesn't come back, and the line stops then; or where it has stopped, and nothing
-    /// is sent.
-    fn pass(&mut self, half: &RomHalf, frame: &Frame) -> Option<Answer>
-        requires due { IsDue half.now frame.now }
-        requires eeprom { All IsForEeprom frame.now };
+    ghost use Rattle.ecat_frame.specs.Frame.{Pdu};
+    ghost use Rattle.std.specs.Prelude.{Option};
+    ghost use Rattle.site_wire.specs.declared.answers.Answer.{Answer};
+
+    /// A relation of the implementor's choice, which holds from before each passing of a datagram to after it, with what is told: none, unless it
+    /// says so. What is said of a device holds for any choice, so also for the one that holds only from before a passing to after it.
+    ghost passes: { Self → Self → Pdu → Option Answer → Type 0 } = { λ _ _ _ _. Unit {0} };
+
+    /// Sends a datagram to the slave of this half until it comes back, three times at most. A command names words that the half has. While the half
+    /// is busy, of what writes to control and status only that is sent which clears errors, reads words, or issues the word in flight again. None
+    /// where it doesn't come back, and the line stops then; or where it has stopped, and nothing is sent.
+    fn pass(&mut self, half: &RomHalf, order: &Order) -> Option<Answer>
+        requires { IsDue half.now (datagram_of order.now) }
+        ensures { passes self.old self.new (datagram_of order.now) result };
 
     /// Why the line has stopped, if it has.
     fn reason(&self) -> Option<StopReason>;
@@ -69,29 +76,37 @@ impl<W: Wire> LiveLine<W> {
     /// then, with what is said about the slave that sent it; or where it has stopped, and nothing is sent.
     fn pass_all(&mut self, frame: Frame, about: (u16, Last)) -> Option<Carried>
         requires { OnlyEeprom frame }
+        ensures out { PassesAll W.gives W.takes self.old self.new frame result }
+        ensures stations { self.new.wire.stations ≡ self.old.wire.stations }
     {
         if self.reason.is_some() {
             return None;
         }
-        let carried = self.wire.pass_all(frame);
-        if carried.is_none() {
-            self.stop(StopReason::Silent, Some(about));
+        match self.wire.pass_all(frame) {
+            Some(carried) => return Some(carried),
+            None => {
+                self.stop(StopReason::Silent, Some(about));
+                return None;
+            }
         }
-        carried
     }
 }
 
 impl<W: Wire> Reach for LiveLine<W> {
-    fn pass(&mut self, _half: &RomHalf, frame: &Frame) -> Option<Answer> {
+    ghost use Rattle.site_wire.specs.Reaching.{LooksFor, PassesOn};
+
+    ghost passes = { PassesOn W.gives W.takes };
+
+    fn pass(&mut self, _half: &RomHalf, order: &Order) -> Option<Answer> {
         if self.reason.is_some() {
             return None;
         }
-        let asked = only_datagram(frame)?;
+        let asked = order.datagram();
         let Some(returned) = self.wire.pass(asked) else {
-            self.stop(StopReason::Silent, Some(unanswered(asked)));
+            self.stop(StopReason::Silent, Some(unanswered(order)));
             return None;
         };
-        Answer::of(asked, &returned)
+        Answer::at(asked, returned.address, &returned.frame, 0, returned.again)
     }
 
     fn reason(&self) -> Option<StopReason> {
@@ -102,7 +117,13 @@ impl<W: Wire> Reach for LiveLine<W> {
         self.seen
     }
 
-    fn stop(&mut self, reason: StopReason, about: Option<(u16, Last)>) {
+    fn stop(&mut self, reason: StopReason, about: Option<(u16, Last)>)
+        ensures stays { IsSome self.old.reason → self.new ≡ self.old }
+        ensures reason { self.old.reason ≡ None → self.new.reason ≡ Some reason }
+        ensures looks { self.old.reason ≡ None → IfSome about (LooksFor W.takes self.old.wire self.new.wire) }
+        ensures quiet { about ≡ None → self.new.wire ≡ self.old.wire }
+        ensures stations { self.new.wire.stations ≡ self.old.wire.stations }
+    {
         if self.reason.is_some() {
             return;
         }
@@ -114,11 +135,11 @@ impl<W: Wire> Reach for LiveLine<W> {
 }
 
 /// The slave to which a datagram went that didn't come back.
-fn unanswered(sent: Datagram<'_>) -> (u16, Last) {
-    let station = (sent.address % 65536) as u16;
+fn unanswered(order: &Order) -> (u16, Last) {
+    let station = (order.address % 65536) as u16;
     let last = Last {
-        command: sent.command,
-        register: (sent.address / 65536) as u16,
+        command: order.command(),
+        register: order.register(),
         counter: None,
         status: None,
     };
@@ -196,22 +217,13 @@ impl<'a, R: Wait, W> Clone for SharedLine<'a, R, W> {
 
 impl<'a, R: Wait, W: Wire> SharedLine<'a, R, W> {
     /// Puts down the datagram of this slave, if a line may have it. Returns whether it stands there now.
-    fn puts(&self, slave: usize, asked: Datagram<'_>) -> bool
-        requires { IsForEeprom (pdu asked) }
+    fn puts(&self, slave: usize, order: &Order) -> bool
         ensures { IsTrue result → slave < 64 }
     {
         if slave >= 64 {
             return false;
         }
-        self.board.lock(self.rt).put(slave, asked)
-    }
-
-    /// Sends a frame for the slave of this half with no other's datagram in it.
-    fn pass_alone(&self, half: &RomHalf, frame: &Frame) -> Option<Answer>
-        requires due { IsDue half.now frame.now }
-        requires eeprom { All IsForEeprom frame.now }
-    {
-        self.lock.lock(self.rt).pass(half, frame)
+        self.board.lock(self.rt).put(slave, *order)
     }
 
     /// The answer to the datagram of this slave, which was put down: it comes with another one's frame, or a frame of all that waits is sent.
@@ -243,14 +255,13 @@ impl<'a, R: Wait, W: Wire> SharedLine<'a, R, W> {
 }
 
 impl<'a, R: Wait, W: Wire> Reach for SharedLine<'a, R, W> {
-    fn pass(&mut self, half: &RomHalf, frame: &Frame) -> Option<Answer> {
-        let asked = only_datagram(frame)?;
-        let about = unanswered(asked);
+    fn pass(&mut self, half: &RomHalf, order: &Order) -> Option<Answer> {
+        let about = unanswered(order);
         let slave = usize::from(about.0);
-        if self.puts(slave, asked) {
+        if self.puts(slave, order) {
             return self.join(slave, about);
         }
-        self.pass_alone(half, frame)
+        self.lock.lock(self.rt).pass(half, order)
     }
 
     fn reason(&self) -> Option<StopReason> {

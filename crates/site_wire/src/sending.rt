@@ -1,30 +1,28 @@
-// What a device sends to the slaves of its line. Each datagram is noted: the contract of `Sender::pass` says what was sent and what came back, and
-// in which order. That a datagram which is noted is the one that is sent is read from that function, and that the answer is the one that came, of
-// this datagram, from `LiveLine::pass`, `SharedLine::pass` and `Answer::read`.
-ghost use Rattle.std.specs.Prelude.{◌≡◌, ◌⊎◌, ◌∷◌, [], true, length, IfSome, IsSomeAnd};
-ghost use Rattle.std.specs.List.{All};
+// What a device sends to the slaves of its line. Each datagram is noted: the contract of `Sender::pass` says what was sent and what came back, in
+// which order, and how often the line passed it. What goes out over a wire for that is said by `LiveLine::pass`.
+ghost use Rattle.std.specs.Prelude.{◌≡◌, ◌∷◌, [], true, false, length};
 ghost use Rattle.std.specs.Option.{option_map};
-ghost use Rattle.ecat_frame.specs.Frame.{Pdu};
-ghost use Rattle.wire_frames.specs.Sending.{IsForEeprom};
-ghost use Rattle.site_wire.specs.Due.{IsDue};
+ghost use Rattle.site_wire.specs.Due.{IsDue, begins_work};
 ghost use Rattle.site_wire.specs.Answering.{found_of, IsUncounted};
-ghost use Rattle.site_wire.specs.declared.sending.Resend.TheVariants.{Never};
+ghost use Rattle.site_wire.specs.Orders.{datagram_of};
+ghost use Rattle.site_wire.specs.Reaching.{Asks, MayAsk};
+ghost use Rattle.site_wire.specs.declared.sending.Resend.TheVariants.{Never, AtOnce, AfterPolls};
 ghost use Rattle.site_wire.specs.Sent.{exchanged, Notes, Sends};
 
 use crate::answers::{Answer, is_answer};
-use crate::fitting::{begins_work, only_datagram};
+use crate::fitting::begins_work;
+use crate::order::Order;
 use crate::reach::Reach;
-use ecat_frame::Frame;
 use esc_model::RomHalf;
 use sii_words::History;
 use std::mem;
 use std::snapshot::Snapshot;
 
-/// A frame of one datagram that was sent until it came back, three times at most, and again where no slave counted it, and what came back last, if
-/// anything did. In contracts alone: it takes no memory.
+/// A datagram that was sent until it came back, three times at most, and again where no slave counted it, and what came back last, if anything did.
+/// In contracts alone: it takes no memory.
 #[derive(Drop)]
 pub struct Exchange {
-    frame: Snapshot<Frame>,
+    order: Snapshot<Order>,
     answer: Snapshot<Option<Answer>>,
 }
 
@@ -64,13 +62,13 @@ impl SentLog {
         self.is_empty
     }
 
-    /// Notes that this frame was sent, and what came back.
-    fn note(&mut self, frame: &Frame, answer: &Option<Answer>)
-        ensures { Notes self.old.all frame.now answer.now self.new.all }
+    /// Notes that this datagram was sent, and what came back.
+    fn note(&mut self, order: &Order, answer: &Option<Answer>)
+        ensures { Notes self.old.all order.now answer.now self.new.all }
     {
         self.is_empty = false;
         let exchange = Exchange {
-            frame: Snapshot::of(frame),
+            order: Snapshot::of(order),
             answer: Snapshot::of(answer),
         };
         self.all.note(&exchange);
@@ -107,7 +105,7 @@ impl<L> Sender<L> {
 
     /// All that was sent. It is then as one that has sent nothing yet.
     pub(crate) fn tell(&mut self) -> History<Exchange>
-        ensures told { result ≡ self.old.log.all }
+        ensures reported { result ≡ self.old.log.all }
         ensures sent { self.new.log.all ≡ [] }
     {
         let log = mem::replace(&mut self.log, SentLog::new());
@@ -137,53 +135,53 @@ enum Resend {
 }
 
 impl Resend {
-    /// Whether the one datagram of a frame is sent again, where this came back.
-    fn of(frame: &Frame, answer: &Answer) -> Resend
-        ensures { (result ≡ Never) ⊎ IsUncounted frame.now answer.now }
+    /// Whether this datagram is sent again, where this came back.
+    fn of(order: &Order, answer: &Answer) -> Resend
+        ensures never { result ≡ Never → ¬ IsUncounted (datagram_of order.now) answer.now }
+        ensures at_once { result ≡ AtOnce → (IsUncounted (datagram_of order.now) answer.now) × (begins_work (datagram_of order.now) ≡ false) }
+        ensures polls { result ≡ AfterPolls → (IsUncounted (datagram_of order.now) answer.now) × (begins_work (datagram_of order.now) ≡ true) }
     {
-        match only_datagram(frame) {
-            Some(asked) if answer.counter == 0 && is_answer(asked, answer) => {
-                if begins_work(asked) {
-                    Resend::AfterPolls
-                } else {
-                    Resend::AtOnce
-                }
-            }
-            _ => Resend::Never,
+        let asked = order.datagram();
+        if answer.counter != 0 || !is_answer(asked, answer) {
+            return Resend::Never;
+        }
+        if begins_work(asked) {
+            Resend::AfterPolls
+        } else {
+            Resend::AtOnce
         }
     }
 }
 
 impl<L: Reach> Sender<L> {
-    /// What came back of this frame, or what comes back as it is sent again.
-    fn counted(&mut self, half: &RomHalf, frame: &Frame, answer: Option<Answer>) -> Option<Answer>
-        requires due { IsDue half.now frame.now }
-        requires eeprom { All IsForEeprom frame.now }
+    /// What came back of this datagram, or what comes back as it is sent again.
+    #[tactic(auto, using(crate::proofs::Asking::may_none, crate::proofs::Asking::may_never))]
+    fn counted(&mut self, half: &RomHalf, order: &Order, answer: Option<Answer>) -> Option<Answer>
+        requires { IsDue half.now (datagram_of order.now) }
         ensures log { self.new.log ≡ self.old.log }
-        ensures same { (result ≡ answer) ⊎ IsSomeAnd answer (IsUncounted frame.now) }
-        ensures again { (result ≡ answer) ⊎ IfSome result (λ found. found.again ≡ true) }
+        ensures asks { MayAsk L.passes (datagram_of order.now) self.old.line self.new.line answer result }
     {
-        let mut found = answer?;
-        match Resend::of(frame, &found) {
-            Resend::Never => return answer,
-            Resend::AtOnce => found = self.line.pass(half, frame)?,
-            Resend::AfterPolls => {}
+        let found = answer?;
+        match Resend::of(order, &found) {
+            Resend::Never => return Some(found),
+            Resend::AtOnce => {
+                let next = self.line.pass(half, order)?;
+                return Some(next.marked());
+            }
+            Resend::AfterPolls => return Some(found.marked()),
         }
-        found.again = true;
-        Some(found)
     }
 
-    /// Sends a frame of one datagram, as `Reach::pass` does; where no slave counts it, three times at most, but once if it begins work.
-    pub(crate) fn pass(&mut self, half: &RomHalf, frame: &Frame) -> Option<Answer>
-        requires due { IsDue half.now frame.now }
-        requires eeprom { All IsForEeprom frame.now }
-        ensures { (d : Pdu) → frame.now ≡ d ∷ []
-            → Sends self.old.log.all self.new.log.all (exchanged d (option_map found_of result) ∷ []) }
+    /// Sends a datagram, as `Reach::pass` does; where no slave counts it, three times at most, but once if it begins work.
+    pub(crate) fn pass(&mut self, half: &RomHalf, order: &Order) -> Option<Answer>
+        requires { IsDue half.now (datagram_of order.now) }
+        ensures sends { Sends self.old.log.all self.new.log.all (exchanged (datagram_of order.now) (option_map found_of result) ∷ []) }
+        ensures asks { Asks L.passes (datagram_of order.now) self.old.line self.new.line result }
     {
-        let first = self.line.pass(half, frame);
-        let second = self.counted(half, frame, first);
-        let answer = self.counted(half, frame, second);
-        self.log.note(frame, &answer);
+        let first = self.line.pass(half, order);
+        let second = self.counted(half, order, first);
+        let answer = self.counted(half, order, second);
+        self.log.note(order, &answer);
         answer
     }
 }

@@ -37,8 +37,12 @@ pub fn open_files<D: Device, S: Store>(
     Ok(OpenFiles { journal, images })
 }
 
-/// Opens the files `names` with these contents, in order.
-fn open_images<S: Store>(
+/// Opens the files `names` with these contents, in order, each as `Store::open` says.
+///
+/// # Errors
+///
+/// As for `open_files`.
+pub fn open_images<S: Store>(
     alloc: Global,
     names: &[String],
     contents: &[Vec<u8>],

@@ -66,6 +66,8 @@ pub enum Code {
     Held = 111,
     OtherSize = 112,
     StationAddress = 113,
+    OtherDevice = 114,
+    OtherWords = 115,
 }
 
 /// The entry of a code in the table.
@@ -78,7 +80,7 @@ pub struct CodeEntry {
 }
 
 /// All codes, in the order of their numbers.
-pub const CODES: [Code; 58] = [
+pub const CODES: [Code; 60] = [
     Code::OddLength,
     Code::BadSize,
     Code::RunsOut,
@@ -137,6 +139,8 @@ pub const CODES: [Code; 58] = [
     Code::Held,
     Code::OtherSize,
     Code::StationAddress,
+    Code::OtherDevice,
+    Code::OtherWords,
 ];
 
 /// Law: each code stands in the table `CODES`.
@@ -226,7 +230,9 @@ impl Code {
             Code::Running => &wire_explanations::RUNNING,
             Code::Held => &wire_explanations::HELD,
             Code::OtherSize => &wire_explanations::OTHER_SIZE,
-            _ => &wire_explanations::STATION_ADDRESS,
+            Code::StationAddress => &wire_explanations::STATION_ADDRESS,
+            Code::OtherDevice => &wire_explanations::OTHER_DEVICE,
+            _ => &wire_explanations::OTHER_WORDS,
         }
     }
 }

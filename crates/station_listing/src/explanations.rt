@@ -35,8 +35,8 @@ pub(crate) const NO_ROOM: CodeEntry = CodeEntry {
 
 pub(crate) const NO_SLAVE: CodeEntry = CodeEntry {
     name: "NoSlave",
-    explanation: "The line has no such slave. Slaves count from 0, in the order of the line file. Correct the slave's number in the \
-        script.",
+    explanation: "The line has no such slave, or several that are like this. Slaves count from 0, in the order of the line and of the \
+        line file. Correct the slave's number in the script or in the call; scan lists the slaves on a wire.",
 };
 
 pub(crate) const SAME_SLAVE: CodeEntry = CodeEntry {
@@ -240,9 +240,9 @@ pub(crate) const BAD_SCRIPT: CodeEntry = CodeEntry {
 
 pub(crate) const EXISTS: CodeEntry = CodeEntry {
     name: "Exists",
-    explanation: "A file is there already where a new one is to be made, and what it holds would be lost: the journal of init, a file \
-        of a backup, or in place of a capture a file that is none. Of a journal recover the line first. Name another file, or remove \
-        this one if nothing of it is needed.",
+    explanation: "A file is there already where a new one is to be made, and what it holds would be lost: the journal of init, a journal, \
+        line file or image of a backup, the image that read writes, or in place of a capture a file that is none. Where it is the \
+        journal of a call that was cut, recover finishes that first. Else name another file, or move this one away.",
 };
 
 pub(crate) const BUSY: CodeEntry = CodeEntry {

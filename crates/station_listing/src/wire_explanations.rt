@@ -94,3 +94,19 @@ pub(crate) const STATION_ADDRESS: CodeEntry = CodeEntry {
         slave with this number has 0, or that of an earlier one. Have the master give each slave an address before it starts the \
         station. Without a master leave --beside out. Nothing was written.",
 };
+
+pub(crate) const OTHER_DEVICE: CodeEntry = CodeEntry {
+    name: "OtherDevice",
+    explanation: "An image is that of another device than the slave. Its vendor or product differs from those of the slave with this \
+        number, or it has fewer words than its EEPROM. Look at both with show, and name the right slave or the right image. If the \
+        slave is to become this device, say --any-device. Nothing was written.",
+};
+
+pub(crate) const OTHER_WORDS: CodeEntry = CodeEntry {
+    name: "OtherWords",
+    explanation: "A slave has other words than its image file. Words that a recovery writes don't count. The slave with this number isn't \
+        the one that it was, or was changed by another tool, or its image file was edited; in brackets are how many words differ, and the \
+        first of them. With --verbose a second line says what it usually is. Plug the cables as they were, or say for the slave which is \
+        right: --found takes its words into the image file, --file writes those of the image file, and --exchanged gives a new slave of \
+        the same type what its place had. Nothing was written.",
+};

@@ -4,6 +4,7 @@ ghost use Rattle.station_files.specs.Faults.{IsOfStream};
 ghost use Rattle.station_files.specs.ImageText.{RefusesInput, text_of};
 ghost use Rattle.station_rows.specs.Show.{IsStatusOf, ShowsImage, ShowsStatus};
 
+use crate::head::put_head;
 use crate::image::put_image;
 use crate::items::{ItemListing, list_items, put_items};
 use crate::rows::{Form, Rows};
@@ -15,7 +16,7 @@ use std::io::{Read, Write};
 
 /// What is shown of which image.
 #[derive(Clone, Copy)]
-pub struct Shown<'a> {
+pub struct ShowOptions<'a> {
     /// Whether the image is hexadecimal text.
     pub hex: bool,
     /// Whether each item is printed too.
@@ -26,7 +27,7 @@ pub struct Shown<'a> {
     pub file: Option<&'a str>,
 }
 
-/// Reads an EEPROM image and prints its listing, and its items behind it if they are asked for. The status is `Done` where the check byte is
+/// Reads an EEPROM image and prints its listing, and its items after it if they are asked for. The status is `Done` where the check byte is
 /// right and the chain and all contents can be read, and `File` otherwise.
 ///
 /// # Errors
@@ -35,7 +36,7 @@ pub struct Shown<'a> {
 /// before the listing is complete.
 pub fn show_image<R: Read, S: Store, W: Write>(
     alloc: Global,
-    shown: Shown<'_>,
+    shown: ShowOptions<'_>,
     input: &mut R,
     store: &mut S,
     output: &mut W,
@@ -51,7 +52,7 @@ pub fn show_image<R: Read, S: Store, W: Write>(
     print_image(alloc, shown.all, shown.form, &image, output)
 }
 
-/// Prints the listing of an image, with `all` its items behind it, and returns the status.
+/// Prints the listing of an image, with `all` its items after it, and returns the status.
 fn print_image<W: Write>(
     alloc: Global,
     all: bool,
@@ -64,7 +65,7 @@ fn print_image<W: Write>(
 {
     let listing = list_image(alloc, image)?;
     let items = items_of(alloc, all, image)?;
-    let rows = rows_of(alloc, form, &listing, items.as_ref())?;
+    let rows = rows_of(alloc, form, &listing, items.as_ref(), image)?;
     rows.write(output)?;
     Ok(status_of(&listing))
 }
@@ -79,17 +80,19 @@ fn items_of(alloc: Global, all: bool, image: &ImageFile) -> Result<Option<ItemLi
     Ok(None)
 }
 
-/// The rows of what is listed.
+/// The rows of what is listed, and after the items those of the first words of the image.
 fn rows_of(
     alloc: Global,
     form: Form,
     listing: &Listing,
     items: Option<&ItemListing>,
+    image: &ImageFile,
 ) -> Result<Rows, AllocError> {
     let mut rows = Rows::new(alloc, form);
     put_image(&mut rows, listing)?;
     if let Some(items) = items {
         put_items(&mut rows, items)?;
+        put_head(&mut rows, image.as_slice())?;
     }
     Ok(rows)
 }

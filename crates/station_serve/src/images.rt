@@ -1,10 +1,17 @@
 //! The subcommands that read EEPROM images: `show`, `alias` and `diff`.
 
+ghost use Rattle.std.specs.Prelude.{◌≡◌, OnOk};
+ghost use Rattle.station_files.specs.Files.{ChangesOnly};
+ghost use Rattle.station_serve.specs.Images.{RenamesFile};
+
 use crate::arguments::{JSON, form_of};
 use crate::request::Task;
-use command_line::{Argument, Given, Kind, Subcommand, is_digits};
+use command_line::{Argument, Kind, ParsedArguments, Subcommand, small_in};
 use line_changes::Compared;
-use station_rows::Shown;
+use station_files::{Failure, Fault, Store, set_alias};
+use station_rows::ShowOptions;
+use std::alloc::Global;
+use std::io::Read;
 
 /// The help text on what `show` prints, and on its exit status.
 const SHOW_ANSWERS: &str = "Answers:
@@ -27,6 +34,13 @@ With --all each item follows, on a line:
   txpdo 0x1a00 entries 1 sm 0 sync 0 flags 0x0000 name 5 \"Channel 1\"
   txpdo 0x1a00 entry 1 object 0x6000:01 type 0x01 bits 1 flags 0x0000 name 6 \"Input\"
                                  and so rxpdo
+  pdi control 0x0404 configuration 0x0000 second 0x0000 impulse 0
+                                 the PDI's control and configurations, and the length
+                                 of the sync impulse, in 10 nanoseconds
+  mailbox standard out 0x1000 128 in 0x1080 128
+                                 address and length for each way, and so bootstrap
+  protocols 0x000c coe foe       those of the mailboxes, also aoe, eoe, soe and voe
+  eeprom words 1024 version 1    the size and the version that words 0x3e and 0x3f say
 Nothing is printed of the items of other categories, or of one that is bad.
 
 Exit status: 0 all is in order, 2 wrong usage, 3 a file or its form, or the check byte
@@ -72,10 +86,10 @@ const FILE: Argument = Argument {
     long_help: "",
 };
 
-const ALL: Argument = Argument {
+pub(crate) const ALL: Argument = Argument {
     id: "all",
     kind: Kind::Flag,
-    help: "Prints each string, FMMU, sync manager and PDO too, with their names",
+    help: "Prints each string, FMMU, sync manager and PDO too, with their names, and what the first words say",
     long_help: "",
 };
 
@@ -97,8 +111,15 @@ const HEX_BOTH_WAYS: Argument = Argument {
 
 const VALUE: Argument = Argument {
     id: "VALUE",
-    kind: Kind::SmallWord,
-    help: "The new alias, 0 to 65535",
+    kind: Kind::Word,
+    help: "The new alias, 0 to 65535, or in hexadecimal, 0x0 to 0xffff",
+    long_help: "",
+};
+
+const IN_PLACE: Argument = Argument {
+    id: "inplace",
+    kind: Kind::ShortFlag('i'),
+    help: "Puts the new image in FILE's place, as a whole, and prints nothing",
     long_help: "",
 };
 
@@ -136,10 +157,10 @@ const ALIAS: Subcommand = Subcommand {
     name: "alias",
     about: "Sets the configured station alias of an EEPROM image, and the check byte that goes with it",
     long_about: "Reads the image of a slave's EEPROM from FILE, or from standard input, sets the configured station alias and the check byte \
-        that goes with it, and writes the image to standard output. FILE stays as it is. An image has 64 to 4096 words, low byte first.",
-    after_help: "Example:\n  sii_station alias 1001 slave.bin > renamed.bin\n  sii_station alias 1001 < slave.bin > renamed.bin",
+        that goes with it, and writes the image to standard output, or with -i in FILE's place. An image has 64 to 4096 words, low byte first.",
+    after_help: "Examples:\n  sii_station alias 1001 -i slave.bin\n  sii_station alias 0x3e9 slave.bin > renamed.bin",
     after_long_help: "",
-    arguments: &[VALUE, FILE, HEX_BOTH_WAYS],
+    arguments: &[VALUE, FILE, IN_PLACE, HEX_BOTH_WAYS],
 };
 
 pub(crate) fn alias_row() -> Subcommand {
@@ -162,8 +183,8 @@ pub(crate) fn diff_row() -> Subcommand {
 }
 
 /// The task of `show`.
-pub(crate) fn show_task<'a>(given: &Given<'a>) -> Task<'a> {
-    Task::Show(Shown {
+pub(crate) fn show_task<'a>(given: &ParsedArguments<'a>) -> Task<'a> {
+    Task::Show(ShowOptions {
         hex: given.has("hex"),
         all: given.has("all"),
         form: form_of(given),
@@ -171,21 +192,45 @@ pub(crate) fn show_task<'a>(given: &Given<'a>) -> Task<'a> {
     })
 }
 
-/// The task of `alias`. The value may have digits only.
-pub(crate) fn alias_task<'a>(given: &Given<'a>) -> Result<Task<'a>, &'static str> {
-    let text = given.word("VALUE");
-    match text.parse::<u16>() {
-        Ok(value) if is_digits(text) => Ok(Task::Alias {
-            value,
-            hex: given.has("hex"),
-            file: file_of(given, "FILE"),
-        }),
-        _ => Err("VALUE is a number in digits, 0 to 65535"),
+/// The task of `alias`. Only a file has a place in which the new image can be put.
+pub(crate) fn alias_task<'a>(given: &ParsedArguments<'a>) -> Result<Task<'a>, &'static str> {
+    let value = small_in(given.word("VALUE")).ok_or("VALUE is a number, 0 to 65535")?;
+    let hex = given.has("hex");
+    match (file_of(given, "FILE"), given.has("inplace")) {
+        (Some(name), true) => Ok(Task::AliasInPlace { value, hex, name }),
+        (None, true) => Err("--inplace wants FILE"),
+        (file, false) => Ok(Task::Alias { value, hex, file }),
+    }
+}
+
+/// Sets the configured station alias of the image in the file of this name, as `set_alias` does, and replaces the file by one with the new image,
+/// as a whole.
+///
+/// # Errors
+///
+/// As for `set_alias`; then `File` or `Memory`, as the store answers.
+#[tactic(auto, using(crate::proofs::InPlace::renames_file))]
+pub(crate) fn alias_in_place<R: Read, S: Store>(
+    alloc: Global,
+    value: u16,
+    hex: bool,
+    name: &str,
+    input: &mut R,
+    store: &mut S,
+) -> Result<(), Failure>
+    ensures renamed { OnOk result (RenamesFile hex value (S.files store.old) (S.files store.new) name.now) }
+    ensures others { ChangesOnly (S.files store.old) (S.files store.new) name.now }
+{
+    let mut text = Vec::new(alloc);
+    set_alias(alloc, value, hex, Some(name), input, store, &mut text)?;
+    match store.write(name, &text) {
+        Ok(()) => Ok(()),
+        Err(error) => Err(Failure::Fault(Fault::from(error))),
     }
 }
 
 /// The task of `diff`. Only one of the images can be read from standard input.
-pub(crate) fn diff_task<'a>(given: &Given<'a>) -> Result<Task<'a>, &'static str> {
+pub(crate) fn diff_task<'a>(given: &ParsedArguments<'a>) -> Result<Task<'a>, &'static str> {
     let old = file_of(given, "A");
     let new = file_of(given, "B");
     if old.is_none() && new.is_none() {
@@ -200,7 +245,7 @@ pub(crate) fn diff_task<'a>(given: &Given<'a>) -> Result<Task<'a>, &'static str>
 }
 
 /// The name of a file; `None` where it is left out, or `-`, and standard input is meant.
-fn file_of<'a>(given: &Given<'a>, argument: &str) -> Option<&'a str> {
+fn file_of<'a>(given: &ParsedArguments<'a>, argument: &str) -> Option<&'a str> {
     match given.text(argument) {
         Some("-") | None => None,
         found => found,

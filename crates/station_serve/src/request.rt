@@ -6,12 +6,12 @@ use crate::line_listings::{journal_row, layout_row, plan_row};
 use crate::line_work::{RunTask, init_row, recover_row, run_row, run_task};
 use crate::pages::{MANUAL_HEAD, code_asked, completions_row, explain_row, man_row, shell_of};
 use command_line::{
-    Argument, Given, Program, Shell, Subcommand, Unread, completion_script, manual_page,
+    Argument, ParsedArguments, Program, Shell, Subcommand, Unread, completion_script, manual_page,
     read_typed, read_words, refuse,
 };
 use line_changes::Compared;
 use station_listing::Code;
-use station_rows::{Form, Shown};
+use station_rows::{Form, ShowOptions};
 use std::alloc::{AllocError, Global};
 
 /// What a command line asks for: a subcommand with its arguments.
@@ -26,8 +26,17 @@ pub enum Task<'a> {
         /// The name of the image's file; `None` for standard input.
         file: Option<&'a str>,
     },
+    /// Sets the configured station alias of an image in its file.
+    AliasInPlace {
+        /// The new alias.
+        value: u16,
+        /// Whether the file is hexadecimal text.
+        hex: bool,
+        /// The name of the file.
+        name: &'a str,
+    },
     /// Prints the listing of an image.
-    Show(Shown<'a>),
+    Show(ShowOptions<'a>),
     /// Prints what two images differ in.
     Diff(Compared<'a>),
     /// Makes an empty journal for a line.
@@ -94,7 +103,7 @@ impl<'a> Task<'a> {
 
 /// A command line that was read.
 #[derive(Drop)]
-pub struct Request<'a> {
+pub(crate) struct Request<'a> {
     /// The subcommand with its arguments.
     pub task: Task<'a>,
     /// The text of the script `TYPED`, where commands are typed in place of a script file.
@@ -164,16 +173,16 @@ pub(crate) fn read_arguments<'a>(
     match task_of(&given) {
         Ok(task) => Ok(Request {
             task,
-            typed: read_typed(alloc, program, words, &given)?,
+            typed: read_typed(alloc, program, &given)?,
             is_verbose: given.has("verbose"),
             is_quiet: given.has("quiet"),
         }),
-        Err(text) => Err(refuse(alloc, program, words, text)),
+        Err(text) => Err(refuse(alloc, program, given.subcommand, text)),
     }
 }
 
 /// The task of the subcommand that was given, or why its words are refused.
-fn task_of<'a>(given: &Given<'a>) -> Result<Task<'a>, &'static str> {
+fn task_of<'a>(given: &ParsedArguments<'a>) -> Result<Task<'a>, &'static str> {
     let line = given.word("LINE");
     let form = form_of(given);
     let task = match given.subcommand {

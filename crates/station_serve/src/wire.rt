@@ -3,11 +3,19 @@
 mod arguments;
 mod backups;
 mod capture;
+mod changing;
+mod mends;
+mod one_slave;
 mod rows;
 mod serving;
 mod shared_arguments;
 mod sizes;
+mod slave_rows;
+mod which;
 
-pub use arguments::{Arguments, Task, Tenure, read_arguments};
+pub use arguments::{Arguments, Reading, Task, Tenure, read_arguments};
 pub use backups::back_up_to;
+pub use changing::{Change, New};
+pub use one_slave::{Look, Purpose};
 pub use serving::{Connection, Screen, refuse_text, serve_on_wire};
+pub use which::Which;

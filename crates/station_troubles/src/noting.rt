@@ -36,7 +36,7 @@ pub(crate) struct Note {
 /// Why a call on a file failed.
 #[derive(Clone, Copy, Debug, Error)]
 enum Why {
-    #[error("there is no such file")]
+    #[error("there is no such file; a name is relative to the current folder")]
     Absent,
     #[error("it isn't there, or can't be opened")]
     Unopened,

@@ -52,6 +52,16 @@ impl<R: Files<File = File>> FileStore<'_, R> {
         self.sync_once(place.path.as_str())
     }
 
+    /// The file of this name, if it is one that this store has put in its place. Its lock is this store's, so no other opening of the file gets it.
+    fn written(&self, name: &str) -> io::Result<Option<File>> {
+        for file in &self.replaced {
+            if is_in_place(self.files, file, name)? {
+                return Ok(Some(file.try_clone()?));
+            }
+        }
+        Ok(None)
+    }
+
     /// Syncs the folder of this file, unless it was synced before.
     fn sync_once(&mut self, name: &str) -> io::Result<()> {
         let folder = folder_of(name);
@@ -73,7 +83,7 @@ impl<R: Files<File = File>> Store for FileStore<'_, R> {
 
     fn read(&mut self, alloc: Global, name: &str) -> io::Result<Option<Vec<u8>>> {
         match File::open(self.files, name) {
-            Ok(file) => read_whole(alloc, file).map(Some),
+            Ok(file) => read_entire(alloc, file).map(Some),
             Err(error) if error.kind() == io::ErrorKind::NotFound => Ok(None),
             Err(error) => Err(error),
         }
@@ -150,8 +160,12 @@ impl<R: Files<File = File>> Store for FileStore<'_, R> {
         if !matches!(self.look(name), Ok(Entry::File { .. })) {
             return Ok(None);
         }
-        let Ok(file) = File::open(self.files, name) else {
-            return Ok(None);
+        let file = match self.written(name)? {
+            Some(file) => file,
+            None => match File::open(self.files, name) {
+                Ok(file) => file,
+                Err(_) => return Ok(None),
+            },
         };
         take_lock(&file)?;
         if !is_in_place(self.files, &file, name)? {
@@ -172,7 +186,7 @@ fn take_lock(file: &File) -> Result<(), LockFault> {
 }
 
 /// Reads a file to its end. Takes memory for as many bytes as the system says that it has, and no more than a text has.
-fn read_whole(alloc: Global, mut file: File) -> io::Result<Vec<u8>> {
+fn read_entire(alloc: Global, mut file: File) -> io::Result<Vec<u8>> {
     let length = file.metadata()?.len();
     read_about(alloc, length.min(MOST_OF_TEXT) as usize, &mut file)
 }

@@ -4,10 +4,12 @@ ghost use Rattle.wire_faults.specs.Faults.{IsOfStream};
 ghost use Rattle.wire_faults.specs.declared.faults.WireFault.TheVariants as wire;
 
 use site_wire::StopReason;
+use slave_match::{Difference, Reason};
 use station_files::{ExitStatus, Fault};
 use station_listing::Code;
 use std::alloc::{AllocError, AllocFailed};
 use std::{fmt, io};
+use thiserror::Error;
 use wire_frames::{LineFault, Sighting, SlaveFault};
 
 /// Why a subcommand on a wire failed.
@@ -43,8 +45,35 @@ pub enum WireFault {
         slave: usize,
         words: u32,
     },
+    /// So many of the slaves of the line are as one is asked for, and it has to be one.
+    NotOne {
+        found: usize,
+        slaves: usize,
+    },
+    /// An image is that of another device than this slave, or has fewer words.
+    OtherDevice {
+        slave: usize,
+        why: DeviceDiffers,
+    },
+    /// This slave has other words than its image file, outside of those that a recovery writes; what that usually is.
+    OtherWords {
+        slave: usize,
+        difference: Difference,
+        reason: Reason,
+    },
     /// A file, a stream or memory failed, or a file has a wrong form.
     Station(Fault),
+}
+
+/// What tells an image from that of a slave: the number of the slave, and then the one of the image.
+#[derive(Clone, Copy, Debug, Error)]
+pub enum DeviceDiffers {
+    #[error("vendor 0x{0:08x}, and the image 0x{1:08x}")]
+    Vendor(u32, u32),
+    #[error("product 0x{0:08x}, and the image 0x{1:08x}")]
+    Product(u32, u32),
+    #[error("{0} words, and the image {1}")]
+    Words(usize, usize),
 }
 
 /// How a fault is printed.
@@ -52,7 +81,7 @@ pub enum WireFault {
 enum Printed {
     /// As this fault of the station.
     Station(Fault),
-    /// As one that the station doesn't have: its code, and the number behind it.
+    /// As one that the station doesn't have: its code, and the number after it.
     Wire(Code, Option<usize>),
 }
 
@@ -110,6 +139,9 @@ impl WireFault {
             WireFault::Running { slave } => (Code::Running, slave),
             WireFault::Held { slave } => (Code::Held, slave),
             WireFault::OtherSize { command, .. } => (Code::OtherSize, command),
+            WireFault::OtherDevice { slave, .. } => (Code::OtherDevice, slave),
+            WireFault::NotOne { .. } => return Printed::Wire(Code::NoSlave, None),
+            WireFault::OtherWords { slave, .. } => (Code::OtherWords, slave),
         };
         Printed::Wire(code, Some(number))
     }
@@ -122,14 +154,20 @@ impl WireFault {
         }
     }
 
-    /// The exit status for this fault: that of the station's fault, 3 where a file is another line's or isn't for this line, and 4 for any
-    /// other.
+    /// The exit status for this fault: that of the station's fault, 1 where no slave, or several, are meant, 3 where a file is another line's or
+    /// isn't for this line, and 4 for any other.
     pub fn status(self) -> ExitStatus {
         match self.printed() {
             Printed::Station(fault) => fault.status(),
-            Printed::Wire(Code::OtherCount | Code::OtherSize | Code::SmallerChip, _) => {
-                ExitStatus::File
-            }
+            Printed::Wire(Code::NoSlave, _) => ExitStatus::Refused,
+            Printed::Wire(
+                Code::OtherCount
+                | Code::OtherSize
+                | Code::SmallerChip
+                | Code::OtherDevice
+                | Code::OtherWords,
+                _,
+            ) => ExitStatus::File,
             Printed::Wire(..) => ExitStatus::Device,
         }
     }
@@ -146,6 +184,10 @@ impl fmt::Display for WireFault {
                     ..
                 },
             ) => write!(f, "fault {code} {slave} ({what})"),
+            (Printed::Wire(code, _), WireFault::NotOne { .. }) => write!(f, "refused {code}"),
+            (Printed::Wire(code, Some(slave)), WireFault::OtherWords { difference, .. }) => {
+                write!(f, "fault {code} {slave} ({difference})")
+            }
             (Printed::Wire(code, Some(number)), _) => write!(f, "fault {code} {number}"),
             (Printed::Wire(code, None), _) => write!(f, "fault {code}"),
         }

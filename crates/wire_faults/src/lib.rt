@@ -4,4 +4,4 @@
 mod faults;
 mod telling;
 
-pub use faults::{WireFault, why_ended};
+pub use faults::{DeviceDiffers, WireFault, why_ended};

@@ -3,31 +3,32 @@
 use crate::faults::WireFault;
 use esc_rom::TRIES;
 use site_wire::StopReason;
+use slave_match::Reason;
 use station_files::Fault;
 use std::io;
 use std::io::Write;
-use wire_frames::{Cause, LineFault, Sighting, SlaveFault};
+use wire_frames::{LineFault, Sighting, SlaveFault, SlaveTrouble};
 
 /// What to do about what is the matter with a slave.
-fn remedy_of(cause: Cause) -> &'static str {
+fn remedy_of(cause: SlaveTrouble) -> &'static str {
     match cause {
-        Cause::Silence => {
+        SlaveTrouble::Silence => {
             "the cable of the interface, or a slave's power, failed: put it right, and recover the line"
         }
-        Cause::Shared => {
+        SlaveTrouble::Shared => {
             "another master is on the line, or slaves keep their addresses: end it, switch the slaves off and on, and recover the line"
         }
-        Cause::CableOrPower => {
+        SlaveTrouble::CableOrPower => {
             "a cable is pulled, or a slave has no power: put it right, and recover the line"
         }
-        Cause::Restarted =>
+        SlaveTrouble::Restarted =>
             "it lost its power for a moment: look at its supply, and recover the line",
-        Cause::StuckBusy =>
+        SlaveTrouble::StuckBusy =>
             "its EEPROM or its processor hangs: switch it off and on, and recover the line",
-        Cause::NoAcknowledge => {
+        SlaveTrouble::NoAcknowledge => {
             "its EEPROM is missing, is worked on by its own processor, or still writes: look at its board, and recover the line"
         }
-        Cause::Ignores =>
+        SlaveTrouble::Ignores =>
             "it may be held by its own processor or by another master: end it, and recover the line",
     }
 }
@@ -147,6 +148,33 @@ fn tell_stop<E: Write>(
     }
 }
 
+/// Tells what it usually is that a slave has other words than its image file, and what to do.
+fn tell_reason<E: Write>(slave: usize, reason: Reason, faults: &mut E) -> io::Result<()> {
+    write!(faults, "slave {slave} ")?;
+    match reason {
+        Reason::Elsewhere(place) => writeln!(
+            faults,
+            "has the identity of slave {place} of the line: cables are plugged elsewhere: plug them as they were; else say --found {slave} or --file {slave}"
+        ),
+        Reason::SameType => writeln!(
+            faults,
+            "was exchanged for one of the same vendor and product: say --exchanged {slave} to give it what its place had, or --found {slave} to take what it has"
+        ),
+        Reason::OtherType => writeln!(
+            faults,
+            "was exchanged for one of another type: put back the one that it was, or say --found {slave} to take what it has"
+        ),
+        Reason::Torn => writeln!(
+            faults,
+            "has them in the page of a word that a power cut met: say --file {slave} to write what its image file has"
+        ),
+        Reason::Changed => writeln!(
+            faults,
+            "was changed by another tool, or its image file was edited: say --found {slave} to take what it has, or --file {slave} to write what its image file has"
+        ),
+    }
+}
+
 impl WireFault {
     /// Prints what there is to tell of the fault beside its code, on a line of its own; nothing where there is nothing more than `explain` says.
     ///
@@ -178,6 +206,19 @@ impl WireFault {
                 faults,
                 "command {command} makes word 0x3e of slave {slave} say {words} words, and its EEPROM has others: correct it, or say --resize"
             ),
+            WireFault::NotOne { found: 0, slaves } => writeln!(
+                faults,
+                "none of the {slaves} slaves of the line is like this: scan lists them"
+            ),
+            WireFault::NotOne { found, slaves } => writeln!(
+                faults,
+                "{found} of the {slaves} slaves of the line are like this: name one by its place, which scan lists"
+            ),
+            WireFault::OtherDevice { slave, why } => writeln!(
+                faults,
+                "slave {slave} has {why}: name the right slave or image, or say --any-device"
+            ),
+            WireFault::OtherWords { slave, reason, .. } => tell_reason(slave, reason, faults),
             WireFault::Station(Fault::SlaveDead { slave }) => writeln!(
                 faults,
                 "slave {slave}: it stays busy, or its EEPROM doesn't acknowledge: switch it off and on, and recover the line"

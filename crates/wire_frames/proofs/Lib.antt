@@ -1,3 +1,4 @@
-mod Apart
+mod Separate
+pub mod Out
 pub mod Sending
 pub mod Fitting

@@ -25,12 +25,19 @@ pub record Answered (Gives : List ℕ → Type 0) (from command register : ℕ) 
   pub content_is : answer.content ≡ content
   pub counter : answer.counter ≡ 1
 
+-- The datagram isn't for a station address (4 FPRD, 5 FPWR), or for none of 0x1001 to 0x1040, by which slaves are meant.
+pub data MeansNone (asked : Pdu) : Type 0 where
+  other : asked.command ≢ 4 → asked.command ≢ 5 → MeansNone asked
+  before : station_of asked.address < 0x1001 → MeansNone asked
+  after : 0x1041 ≤ station_of asked.address → MeansNone asked
+
 -- A datagram that was to go to `asked.address` goes to this address. A slave that is meant by the station address 0x1001 plus its number is
--- reached by its own one.
+-- reached by its own one, and what means none goes where it was to go.
 pub record Reaches (stations : List ℕ) (asked : Pdu) (address : ℕ) : Type 0 where
   pub register_is : register_of address ≡ register_of asked.address
   pub station_is : (slave : ℕ) → slave < 64 → (asked.command ≡ 4) ⊎ (asked.command ≡ 5) → station_of asked.address ≡ station slave
       → station_of address ≡ slice_index stations slave
+  pub other_is : MeansNone asked → address ≡ asked.address
 
 -- A datagram that came back answers one that went to this address: what was written comes back as it was.
 pub record IsReplyTo (asked : Pdu) (address : ℕ) (answer : Pdu) : Type 0 where
@@ -81,6 +88,6 @@ abbrev pub Unheard : (Gives : List ℕ → Type 0) → (stations : List ℕ) →
 Unheard Gives stations asked reply = reply.counter ≢ 1 → Unanswered Gives stations asked
 
 -- the same of a read or a write of this register of the slave with this station address
-abbrev pub Told : (Gives : List ℕ → Type 0) → (from command register : ℕ) → List ℕ → Reply → Type 0
-Told Gives from command register content reply = reply.counter ≡ 1 → (command ≡ 4 → length content ≤ 14)
+abbrev pub Reported : (Gives : List ℕ → Type 0) → (from command register : ℕ) → List ℕ → Reply → Type 0
+Reported Gives from command register content reply = reply.counter ≡ 1 → (command ≡ 4 → length content ≤ 14)
     → Answered Gives from command register (back_of command content reply.content)

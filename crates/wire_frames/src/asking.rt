@@ -1,8 +1,9 @@
 //! Datagrams that are sent one by one, and their replies.
-ghost use Rattle.std.specs.Prelude.{◌≡◌, ◌≢◌, ◌↔◌, ◌≤◌, true, length, take, None, IfSome, IsTrue};
+ghost use Rattle.std.specs.Prelude.{◌≡◌, ◌≢◌, ◌↔◌, ◌≤◌, true, length, take, None, is_some, IfSome, IsTrue};
 ghost use Rattle.std.specs.Int.{w16, to_le_bytes};
 ghost use Rattle.ecat_frame.specs.Frame.{pdu, sent};
 ghost use Rattle.wire_frames.specs.Came.{IsReplyTo, IsFrom, IsUncounted, Heard, Unheard};
+ghost use Rattle.wire_frames.specs.Out.{GoesAlone, LooksAround, count_order, look_order};
 ghost use Rattle.wire_frames.specs.Sending.{LeavesRunning};
 
 use crate::faults::Sighting;
@@ -102,6 +103,7 @@ pub fn ask<W: Wire>(
     ensures same { wire.new.stations ≡ wire.old.stations }
     ensures heard { IfSome result (Heard W.gives wire.old.stations.by_slave (sent command 0 address content.now)) }
     ensures unheard { IfSome result (Unheard W.gives wire.old.stations.by_slave (sent command 0 address content.now)) }
+    ensures out { GoesAlone W.takes wire.old.stations.by_slave (sent command 0 address content.now) wire.old.out wire.new.out (is_some result) }
 {
     let datagram = Datagram {
         command: Command::from(command.code()),
@@ -114,10 +116,11 @@ pub fn ask<W: Wire>(
     Some(reply_at(datagram, returned.address, &returned.frame, 0))
 }
 
-/// Looks around on the line, behind a datagram that a slave didn't take: how many slaves answer, and whether one does at its place.
+/// Looks around on the line, after a datagram that a slave didn't take: how many slaves answer, and whether one does at its place.
 pub fn sight<W: Wire>(wire: &mut NumberedWire<W>, slave: u16, last: Last) -> Sighting
     ensures lent { wire.new.is_lent ≡ wire.old.is_lent }
     ensures same { wire.new.stations ≡ wire.old.stations }
+    ensures out { LooksAround W.takes wire.old.stations.by_slave slave wire.old.out wire.new.out }
 {
     let answering = count_answers(wire);
     let station = read_station(wire, slave);
@@ -139,6 +142,7 @@ pub fn sight<W: Wire>(wire: &mut NumberedWire<W>, slave: u16, last: Last) -> Sig
 pub fn count_answers<W: Wire>(wire: &mut NumberedWire<W>) -> Option<Reply>
     ensures lent { wire.new.is_lent ≡ wire.old.is_lent }
     ensures same { wire.new.stations ≡ wire.old.stations }
+    ensures out { GoesAlone W.takes wire.old.stations.by_slave count_order wire.old.out wire.new.out (is_some result) }
 {
     ask(wire, BRD, 0, &[0])
 }
@@ -147,6 +151,7 @@ pub fn count_answers<W: Wire>(wire: &mut NumberedWire<W>) -> Option<Reply>
 pub fn read_station<W: Wire>(wire: &mut NumberedWire<W>, slave: u16) -> Option<Reply>
     ensures lent { wire.new.is_lent ≡ wire.old.is_lent }
     ensures same { wire.new.stations ≡ wire.old.stations }
+    ensures out { GoesAlone W.takes wire.old.stations.by_slave (look_order slave) wire.old.out wire.new.out (is_some result) }
 {
     let place = fp(0u16.wrapping_sub(slave), STATION);
     ask(wire, APRD, place, &[0, 0])

@@ -1,9 +1,9 @@
 //! Frames that are sent until they come back.
-ghost use Rattle.std.specs.Prelude.{◌≡◌, ◌+◌, ◌/◌, ◌%◌, ◌^◌, length, take, true, false, IfSome, IfOk};
-ghost use Rattle.ecat_frame.specs.Command.{code_of};
-ghost use Rattle.ecat_frame.specs.Frame.{pdu, IsFrame};
-ghost use Rattle.wire_frames.specs.Came.{CameOver, Reaches};
+ghost use Rattle.std.specs.Prelude.{◌≡◌, ◌+◌, ◌/◌, ◌%◌, ◌^◌, ◌<◌, ◌∷◌, ◌++◌, [], length, nat_lt, take, true, false, is_some, IfSome, IfOk, None};
+ghost use Rattle.ecat_frame.specs.Frame.{pdu, spelling, IsFrame};
+ghost use Rattle.wire_frames.specs.Came.{CameOver, MeansNone, Reaches};
 ghost use Rattle.wire_frames.specs.Numbers.{HasNumber};
+ghost use Rattle.wire_frames.specs.Out.{GoesAlone, GoesOut, GoesTo, IsGiven, numbered, sent_to};
 ghost use Rattle.wire_frames.specs.Sending.{LeavesRunning, OnlyEeprom};
 
 use crate::handed::Handed;
@@ -11,6 +11,7 @@ use crate::room::Room;
 use crate::stations::Stations;
 use crate::wire::Wire;
 use ecat_frame::{Command, Datagram, Frame, MAX_LEN};
+use sii_words::History;
 use std::io;
 
 /// How often a frame is sent at most.
@@ -57,13 +58,16 @@ pub struct NumberedWire<W> {
     stations: Stations,
     /// What became of the access to each slave's EEPROM as the line was handed back last.
     handed: [Handed; 64],
+    /// All frames that went out, in order. In contracts alone: it takes no memory.
+    out: History<Frame>,
 }
 
 impl<W: Wire> NumberedWire<W> {
-    /// A wire that the station has for itself. The first frame has the number behind this one, then they go on by one. Who used the wire
+    /// A wire that the station has for itself. The first frame has the number after this one, then they go on by one. Who used the wire
     /// before should have used others, so the time in nanoseconds is a good one.
     pub fn new(wire: W, number: u32) -> NumberedWire<W>
-        ensures { result.is_lent ≡ false }
+        ensures lent { result.is_lent ≡ false }
+        ensures out { result.out ≡ [] }
     {
         NumberedWire {
             wire,
@@ -72,9 +76,10 @@ impl<W: Wire> NumberedWire<W> {
             resent: 0,
             is_lent: false,
             is_forced: true,
-            room: Room::whole(),
+            room: Room::entire(),
             stations: Stations::own(),
             handed: [Handed::Nothing; 64],
+            out: History::new(),
         }
     }
 
@@ -83,6 +88,7 @@ impl<W: Wire> NumberedWire<W> {
         ensures lent { result.is_lent ≡ true }
         ensures forced { result.is_forced ≡ is_forced }
         ensures room { result.room ≡ room }
+        ensures out { result.out ≡ [] }
     {
         NumberedWire {
             wire,
@@ -94,6 +100,7 @@ impl<W: Wire> NumberedWire<W> {
             room,
             stations: Stations::unknown(),
             handed: [Handed::Nothing; 64],
+            out: History::new(),
         }
     }
 
@@ -151,6 +158,7 @@ impl<W: Wire> NumberedWire<W> {
     pub fn keep_handed(&mut self, handed: [Handed; 64])
         ensures handed { self.new.handed ≡ handed }
         ensures same { self.new.stations ≡ self.old.stations }
+        ensures out { self.new.out ≡ self.old.out }
     {
         self.handed = handed;
     }
@@ -159,6 +167,7 @@ impl<W: Wire> NumberedWire<W> {
     pub fn address_by(&mut self, stations: Stations)
         ensures lent { self.new.is_lent ≡ self.old.is_lent }
         ensures stations { self.new.stations ≡ stations }
+        ensures out { self.new.out ≡ self.old.out }
     {
         self.stations = stations;
     }
@@ -171,6 +180,9 @@ impl<W: Wire> NumberedWire<W> {
         ensures same { self.new.stations ≡ self.old.stations }
         ensures came { IfSome result (λ returned. CameOver W.gives returned.frame) }
         ensures reached { IfSome result (λ returned. Reaches self.old.stations.by_slave (pdu sent.entry) returned.address) }
+        ensures to { IfSome result (λ returned. GoesTo W.takes (pdu sent.entry) returned.address self.old.out self.new.out true) }
+        ensures lost { result ≡ None → GoesAlone W.takes self.old.stations.by_slave (pdu sent.entry) self.old.out self.new.out false }
+        ensures count { IfSome result (λ returned. length returned.frame ≡ 2) }
     {
         let address = self.stations.translated(sent);
         let asked = frame_of(sent, address)?;
@@ -182,13 +194,16 @@ impl<W: Wire> NumberedWire<W> {
         })
     }
 
-    /// Sends a frame of these datagrams until it comes back, three times at most, and gives it with the number behind them. None where it
+    /// Sends a frame of these datagrams until it comes back, three times at most, and gives it with the number after them. None where it
     /// doesn't. One of more than 1,488 bytes leaves no room for the number, and isn't sent. Station addresses go out as they are.
     pub fn pass_all(&mut self, sent: Frame) -> Option<Carried>
         requires may { self.old.is_lent ≡ true → OnlyEeprom sent }
         ensures lent { self.new.is_lent ≡ self.old.is_lent }
         ensures same { self.new.stations ≡ self.old.stations }
         ensures came { IfSome result (λ carried. CameOver W.gives carried.frame) }
+        ensures out { GoesOut W.takes (numbered sent self.new.number) self.old.out self.new.out (is_some result) }
+        ensures again { IfSome result (λ carried. carried.again ≡ nat_lt (length self.old.out + 1) (length self.new.out)) }
+        ensures count { IfSome result (λ carried. length carried.frame ≡ length sent + 1) }
     {
         let numbered = self.numbered_all(sent)?;
         self.carried(&numbered)
@@ -200,6 +215,10 @@ impl<W: Wire> NumberedWire<W> {
         ensures lent { self.new.is_lent ≡ self.old.is_lent }
         ensures same { self.new.stations ≡ self.old.stations }
         ensures came { IfSome result (λ carried. CameOver W.gives carried.frame) }
+        ensures out { GoesOut W.takes numbered.now self.old.out self.new.out (is_some result) }
+        ensures number { self.new.number ≡ self.old.number }
+        ensures count { IfSome result (λ carried. length carried.frame ≡ length numbered.now) }
+        ensures again { IfSome result (λ carried. carried.again ≡ nat_lt (length self.old.out + 1) (length self.new.out)) }
     {
         for sending in 0..SENDINGS {
             let again = sending > 0;
@@ -211,13 +230,16 @@ impl<W: Wire> NumberedWire<W> {
         None
     }
 
-    /// The frame, with the next number behind its datagrams.
+    /// The frame, with the next number after its datagrams.
     fn numbered_all(&mut self, sent: Frame) -> Option<Frame>
         requires may { self.old.is_lent ≡ true → OnlyEeprom sent }
         ensures may { IfSome result (λ frame. self.old.is_lent ≡ true → OnlyEeprom frame) }
         ensures lent { self.new.is_lent ≡ self.old.is_lent }
         ensures same { self.new.stations ≡ self.old.stations }
         ensures next { self.new.number ≡ (self.old.number + 1) % 2 ^ 32 }
+        ensures numbered { IfSome result (λ frame. frame ≡ numbered sent self.new.number) }
+        ensures long { result ≡ None → 1500 < length (spelling (numbered sent self.new.number)) }
+        ensures out { self.new.out ≡ self.old.out }
     {
         self.number = self.number.wrapping_add(1);
         let mut numbered = sent;
@@ -232,7 +254,11 @@ impl<W: Wire> NumberedWire<W> {
         requires may { self.old.is_lent ≡ true → OnlyEeprom numbered.now }
         ensures lent { self.new.is_lent ≡ self.old.is_lent }
         ensures same { self.new.stations ≡ self.old.stations }
+        ensures number { self.new.number ≡ self.old.number }
+        ensures out { self.new.out ≡ self.old.out ++ numbered.now ∷ [] }
+        ensures given { IsGiven W.takes numbered.now }
     {
+        self.out.note(numbered);
         self.sent = self.sent.saturating_add(1);
         if again {
             self.resent = self.resent.saturating_add(1);
@@ -247,6 +273,8 @@ impl<W: Wire> NumberedWire<W> {
         ensures lent { self.new.is_lent ≡ self.old.is_lent }
         ensures same { self.new.stations ≡ self.old.stations }
         ensures came { IfSome result (CameOver W.gives) }
+        ensures number { self.new.number ≡ self.old.number }
+        ensures out { self.new.out ≡ self.old.out }
     {
         for _other in 0..u32::MAX {
             match listen(&mut self.wire) {
@@ -266,8 +294,10 @@ impl<W: Wire> NumberedWire<W> {
 /// A frame of this datagram alone, sent to this address. None where it is too long.
 fn frame_of(sent: Datagram<'_>, address: u32) -> Option<Frame>
     requires register { address / 2 ^ 16 ≡ sent.address / 2 ^ 16 }
-    requires broadcast { code_of sent.command ≡ 7 → address ≡ sent.address }
-    ensures { IfSome result (λ frame. LeavesRunning (pdu sent.entry) → OnlyEeprom frame) }
+    requires other { MeansNone (pdu sent) → address ≡ sent.address }
+    ensures leaves { IfSome result (λ frame. LeavesRunning (pdu sent.entry) → OnlyEeprom frame) }
+    ensures one { IfSome result (λ frame. frame ≡ sent_to (pdu sent.entry) address ∷ []) }
+    ensures long { result ≡ None → 1500 < length (spelling (sent_to (pdu sent.entry) address ∷ [])) }
 {
     let mut alone = Frame::new();
     match alone.push(sent.command, sent.index, address, sent.content) {
@@ -295,7 +325,7 @@ fn frame_at_front(bytes: &[u8], length: usize) -> Option<Frame>
     Frame::parse(&bytes[..length.min(bytes.len())]).ok()
 }
 
-/// The number behind a frame, if there is one.
+/// The number after a frame, if there is one.
 pub fn number_of(frame: &Frame) -> Option<u32>
     ensures { IfSome result (λ number. HasNumber frame.now number) }
 {

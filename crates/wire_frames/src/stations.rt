@@ -1,7 +1,9 @@
 //! The station addresses of the slaves of a line.
 ghost use Rattle.std.specs.Prelude.{◌≡◌, ◌≢◌, ◌⊎◌, ℕ, ◌<◌, ◌≤◌, ◌+◌, ◌/◌, ◌%◌, ◌^◌, slice_index, slice_set, replicate, IfErr, IfSome, OnOk, None};
 ghost use Rattle.ecat_frame.specs.Command.{code_of};
-ghost use Rattle.wire_frames.specs.Sending.{AreApart, NamesClash};
+ghost use Rattle.ecat_frame.specs.Frame.{pdu};
+ghost use Rattle.wire_frames.specs.Came.{MeansNone};
+ghost use Rattle.wire_frames.specs.Sending.{AreSeparate, NamesClash};
 
 use crate::faults::LineFault;
 use crate::registers::{FPRD, FPWR, register_of};
@@ -55,7 +57,7 @@ impl Stations {
     /// The address that a datagram goes to. A slave that is meant by the station address 0x1001 plus its number is reached by its own one.
     pub fn translated(&self, sent: Datagram<'_>) -> u32
         ensures register { result / 2 ^ 16 ≡ sent.entry.address / 2 ^ 16 }
-        ensures broadcast { code_of sent.entry.command ≡ 7 → result ≡ sent.entry.address }
+        ensures other { MeansNone (pdu sent.entry) → result ≡ sent.entry.address }
         ensures station { (slave : ℕ) → slave < 64 → (code_of sent.entry.command ≡ 4) ⊎ (code_of sent.entry.command ≡ 5)
             → sent.entry.address % 2 ^ 16 ≡ 0x1001 + slave → result % 2 ^ 16 ≡ slice_index self.now.by_slave slave }
     {
@@ -74,10 +76,10 @@ impl Stations {
     /// # Errors
     ///
     /// For the first slave of which that isn't so: `Unaddressed` where it has 0, and else `SharedAddress`.
-    #[tactic(auto, using(crate::proofs::Apart::apart_none, crate::proofs::Apart::apart_more))]
-    pub fn judge(&self, slaves: u16) -> Result<(), LineFault>
+    #[tactic(auto, using(crate::proofs::Separate::separate_none, crate::proofs::Separate::separate_more))]
+    pub fn validate(&self, slaves: u16) -> Result<(), LineFault>
         requires { slaves ≤ 64 }
-        ensures apart { OnOk result (AreApart self.now.by_slave slaves) }
+        ensures separate { OnOk result (AreSeparate self.now.by_slave slaves) }
         ensures clash { IfErr result (NamesClash self.now.by_slave) }
     {
         for slave in 0..slaves {

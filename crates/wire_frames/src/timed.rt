@@ -48,6 +48,8 @@ impl<'c, W: Wire, C: Clock> TimedWire<'c, W, C> {
 impl<W: Wire, C: Clock> Wire for TimedWire<'_, W, C> {
     ghost gives = { W.gives };
 
+    ghost takes = { W.takes };
+
     fn send(&mut self, frame: &[u8]) -> io::Result<()> {
         self.sent = Instant::now(self.clock).ok();
         self.has_waited = false;

@@ -36,7 +36,7 @@ enum End {
 
 /// A command that the controller is busy with.
 #[derive(Clone, Copy)]
-struct Job {
+struct BusyCommand {
     /// How many datagrams came since it was told.
     since: u32,
     /// How many datagrams find it busy yet.
@@ -64,7 +64,7 @@ pub(crate) struct Eeprom {
     /// Bits 13 and 14 of control and status.
     errors: u8,
     is_loaded_wrong: bool,
-    job: Option<Job>,
+    job: Option<BusyCommand>,
     programming: Option<Programming>,
     /// How many reads and writes were begun.
     commands: u32,
@@ -92,16 +92,17 @@ impl Eeprom {
         }
     }
 
-    /// The power is cut, and comes back. A word in flight is left by the pattern.
+    /// The power is cut, and comes back. A word in flight is left by the pattern; what fills it fills its page.
     pub(crate) fn cut_power(&mut self, pattern: Pattern) {
-        if let Some(write) = self.in_flight() {
-            let address = u32::from(write.word);
-            let left = match pattern {
-                Pattern::Old => self.chip.get(address),
-                Pattern::New => write.value,
-                Pattern::Fill(word) => word,
-            };
-            self.chip.set(address, left);
+        match (self.in_flight(), pattern) {
+            (Some(write), Pattern::New) => self.chip.set(u32::from(write.word), write.value),
+            (Some(write), Pattern::Fill(word)) => {
+                let (first, after) = self.page_of(write.word);
+                for address in first..after {
+                    self.chip.set(address, word);
+                }
+            }
+            _ => {}
         }
         self.job = None;
         self.programming = None;
@@ -118,13 +119,20 @@ impl Eeprom {
         }
         match self.job {
             Some(
-                Job {
+                BusyCommand {
                     end: End::Write(write),
                     ..
                 },
             ) => Some(write),
             _ => None,
         }
+    }
+
+    /// The first word that the chip writes anew with this one, and the word after the last one.
+    pub(crate) fn page_of(&self, word: u16) -> (u32, u32) {
+        let page = u32::from(self.quirks.page.max(1));
+        let first = u32::from(word) - u32::from(word) % page;
+        (first, first.saturating_add(page))
     }
 
     /// Whether the controller is busy.
@@ -159,7 +167,7 @@ impl Eeprom {
             self.job = None;
             self.finish(job.end, now);
         } else {
-            self.job = Some(Job {
+            self.job = Some(BusyCommand {
                 since: job.since.saturating_add(1),
                 left: job.left.saturating_sub(1),
                 ..job
@@ -172,6 +180,7 @@ impl Eeprom {
         match end {
             End::Read => self.fetch(),
             End::Missed => self.errors |= MISSED,
+            End::Write(_) if self.quirks.is_protected => {}
             End::Write(write) => {
                 let until = now.saturating_add(self.quirks.programs_on);
                 self.programming = Some(Programming { write, until });
@@ -284,7 +293,7 @@ impl Eeprom {
             (End::Write(self.word_named()), self.quirks.write_time)
         };
         let is_missed = self.is_missed();
-        self.job = Some(Job {
+        self.job = Some(BusyCommand {
             since: 0,
             left: self.quirks.delay,
             until: now.saturating_add(time),

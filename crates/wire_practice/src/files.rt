@@ -86,15 +86,17 @@ impl<F: RandomAccessFile> PracticeFiles<F> {
         }
     }
 
-    /// Writes a word of a slave to its file, and syncs it.
+    /// Writes the words of a slave that its chip writes anew with this one to its file, and syncs it.
     fn save(&self, slave: usize, word: u16) -> io::Result<()> {
         let (Some(words), Some(image)) = (self.line.words(slave), self.images.get(slave)) else {
             return Ok(());
         };
-        let Some(value) = words.get(usize::from(word)) else {
-            return Ok(());
-        };
-        image.write_all_at(&value.to_le_bytes(), 2 * u64::from(word))?;
+        let (first, after) = self.line.page_of(slave, word);
+        for at in first..after {
+            if let Some(value) = words.get(at as usize) {
+                image.write_all_at(&value.to_le_bytes(), 2 * u64::from(at))?;
+            }
+        }
         image.sync_data()
     }
 }

@@ -103,7 +103,7 @@ impl PracticeLine {
     /// The place of the last slave that frames reach.
     fn reach(&self) -> u16 {
         match self.cable {
-            Some(cable) if self.frames > cable.frames => cable.behind,
+            Some(cable) if self.frames > cable.frames => cable.after,
             _ => u16::MAX,
         }
     }
@@ -122,7 +122,7 @@ impl PracticeLine {
         counter
     }
 
-    /// Whether the frame writes to control and status of a slave, or behind them, while that slave is busy.
+    /// Whether the frame writes to control and status of a slave, or after them, while that slave is busy.
     pub fn is_disturbed_by(&self, frame: &Frame) -> bool {
         for datagram in frame.datagrams() {
             if self.has_disturbed(datagram) {
@@ -154,6 +154,14 @@ impl PracticeLine {
         match self.slaves.get(slave) {
             Some(slave) => slave.eeprom.in_flight(),
             None => None,
+        }
+    }
+
+    /// The first word that a slave's chip writes anew with this one, and the word after the last one.
+    pub fn page_of(&self, slave: usize, word: u16) -> (u32, u32) {
+        match self.slaves.get(slave) {
+            Some(slave) => slave.eeprom.page_of(word),
+            None => (0, 0),
         }
     }
 

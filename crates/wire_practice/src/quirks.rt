@@ -7,7 +7,7 @@ use site_shadow::Pattern;
 pub enum PowerLoss {
     Never,
     /// Behind so many frames.
-    Behind(u32),
+    After(u32),
     /// In the midst of the word with this number, counted from 1, as the slave begins to write them.
     InWord(u32),
 }
@@ -15,10 +15,10 @@ pub enum PowerLoss {
 /// What a slave does that the definition of a slave doesn't have. Times are in microseconds.
 #[derive(Clone, Copy)]
 pub struct Quirks {
-    /// How many words the chip has. Word addresses behind its end roll over, in reads and in writes. None: as many as the image, and a
-    /// command for a word behind them ends in error.
+    /// How many words the chip has. Word addresses after its end roll over, in reads and in writes. None: as many as the image, and a
+    /// command for a word after them ends in error.
     pub chip: Option<u32>,
-    /// For how many datagrams the controller is busy with a command. Words that were read are in its registers behind them.
+    /// For how many datagrams the controller is busy with a command. Words that were read are in its registers after them.
     pub delay: u32,
     /// How many of them don't show it as busy yet.
     pub shown_late: u32,
@@ -29,6 +29,10 @@ pub struct Quirks {
     /// For how long the chip programs a word on, once the controller is idle. Each command meanwhile ends with a missing acknowledge, and a
     /// power cut tears the word.
     pub programs_on: u64,
+    /// How many words the chip writes anew as a whole with each word, 1 or more: a power cut tears all of them.
+    pub page: u16,
+    /// Whether the chip is write protected: a write ends without an error, and the word keeps its value.
+    pub is_protected: bool,
     /// How many of the first commands, reads and writes, end with a missing acknowledge: bit 13 of control and status. Nothing is read or
     /// written then.
     pub first_missed: u32,
@@ -60,6 +64,8 @@ pub const NO_QUIRKS: Quirks = Quirks {
     read_time: 0,
     write_time: 0,
     programs_on: 0,
+    page: 1,
+    is_protected: false,
     first_missed: 0,
     each_missed: 0,
     is_blocked_by_errors: false,
@@ -76,7 +82,7 @@ pub const NO_QUIRKS: Quirks = Quirks {
 #[derive(Clone, Copy)]
 pub struct Cable {
     /// The place in the line of the last slave that frames still reach.
-    pub behind: u16,
+    pub after: u16,
     /// How many frames pass before.
     pub frames: u32,
 }

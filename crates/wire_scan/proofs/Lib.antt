@@ -1,2 +1,3 @@
 mod Kept
+pub mod KeptWords
 mod Writing

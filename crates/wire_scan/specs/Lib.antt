@@ -1,2 +1,4 @@
 pub mod Backup
+pub mod Validating
+pub mod Keeping
 pub mod Opening

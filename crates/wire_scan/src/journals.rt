@@ -1,32 +1,32 @@
 //! Judges the bytes of a journal's file.
 ghost use Rattle.std.specs.Prelude.{◌≡◌, length, map, IfOk, OnOk};
-ghost use Rattle.station_line.specs.Judging.{HasJournal};
+ghost use Rattle.jrn_format.specs.Journal.{IsJournal};
 ghost use Rattle.wire_scan.specs.Backup.{IsWithoutPast};
 
-use jrn_format::{JournalFault, scan};
+use jrn_format::{Journal, JournalFault, scan};
 use sii_words::Words;
 use station_files::{Fault, Store};
 use station_line::{note_journal, of_journal};
 use std::alloc::{AllocError, Global};
 
-/// Looks whether these bytes of the file of this name are a journal of a line of slaves with these words.
+/// Reads these bytes of the file of this name as the journal of a line of slaves with these words.
 ///
 /// # Errors
 ///
 /// `NotAJournal`, `BadVersion`, `WrongLine` or `BadJournal` where they aren't; `Memory`.
-pub(crate) fn judge_journal<S: Store>(
+pub(crate) fn validate_journal<S: Store>(
     alloc: Global,
     name: &str,
     journal: &[u8],
     slaves: &[Words],
     store: &mut S,
-) -> Result<(), Fault>
-    ensures judged { OnOk result (HasJournal (map length slaves.now) journal.now) }
+) -> Result<Journal, Fault>
+    ensures read { IfOk result (IsJournal journal.now (map length slaves.now)) }
     ensures same { S.files store.new ≡ S.files store.old }
 {
     let sizes = sizes_of(alloc, slaves)?;
     match scan(alloc, journal, &sizes) {
-        Ok(_found) => Ok(()),
+        Ok(found) => Ok(found),
         Err(fault) => {
             note_journal(fault, name, journal, slaves.len(), store);
             Err(of_journal(fault))
@@ -51,7 +51,7 @@ pub fn require_empty(alloc: Global, journal: &[u8], slaves: &[Words]) -> Result<
 }
 
 /// The number of words of each slave.
-fn sizes_of(alloc: Global, slaves: &[Words]) -> Result<Vec<u16>, AllocError>
+pub(crate) fn sizes_of(alloc: Global, slaves: &[Words]) -> Result<Vec<u16>, AllocError>
     ensures { IfOk result (λ sizes. sizes.items ≡ map length slaves.now) }
 {
     let mut sizes = Vec::new(alloc);

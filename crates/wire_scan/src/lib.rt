@@ -5,19 +5,25 @@ mod asked;
 mod backup;
 mod beginning;
 mod journals;
-mod judging;
+mod keeping;
 mod measures;
 mod naming;
 mod opening;
 mod plan;
 mod scan;
+mod scan_beside;
 mod sizes;
+mod validating;
 
-pub use asked::{Asked, Tells};
-pub use backup::backup_line;
+pub use asked::{Mend, Mends, ScanOptions, Tells};
+pub use backup::{backup_line, save_backup};
 pub use journals::require_empty;
-pub use judging::{judge_commands, judge_slaves};
-pub use naming::{CaptureNames, Named, keep_capture_apart, keep_script_apart};
-pub use opening::{Found, find_line, open_journal};
+pub use measures::validate_measures;
+pub use naming::{CaptureNames, Named, keep_capture_separate, keep_script_separate};
+pub use opening::{FoundWire, find_line, open_line};
 pub use scan::scan_line;
+pub use scan_beside::scan_files;
 pub use sizes::sizes_of_images;
+pub use validating::{
+    validate_commands, validate_image, validate_images, validate_slaves, validate_states,
+};

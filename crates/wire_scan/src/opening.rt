@@ -1,23 +1,31 @@
 //! Finds a line on a wire and its journal in a file, and makes the site of both.
 ghost use Rattle.std.specs.Prelude.{◌≡◌, ◌≤◌, length, map, string_bytes, IfErr, IfOk, OnOk};
-ghost use Rattle.station_files.specs.Files.{ChangesOnly, HasBytes};
-ghost use Rattle.station_files.specs.FileNames.{IsLineApart};
-ghost use Rattle.station_files.specs.LineFiles.{SpellsLine};
+ghost use Rattle.sii_words.specs.Words.{bytes_of};
+ghost use Rattle.station_files.specs.Files.{ChangesAmong, HasBytes};
+ghost use Rattle.station_files.specs.FileNames.{IsLineSeparate, spelt};
+ghost use Rattle.station_files.specs.LineFiles.{SpellsLine, names_of};
 ghost use Rattle.station_files.specs.Faults as station;
-ghost use Rattle.station_line.specs.Judging.{HasJournal};
+ghost use Rattle.station_line.specs.Validating.{HasJournal};
+ghost use Rattle.station_line.specs.OpenFiles.{AreOpenedAs};
+ghost use Rattle.station_line.specs.Site.{files_of};
+ghost use Rattle.wire_scan.specs.Keeping.{AreMends, AreOfImages, KeepsImages};
 ghost use Rattle.wire_scan.specs.Opening.{IsFound};
 
-use crate::asked::{Asked, Tells};
-use crate::journals::judge_journal;
-use crate::judging::{judge_slaves, judge_states};
-use crate::sizes::sizes_of_images;
+use crate::asked::{ScanOptions, Tells};
+use crate::backup::write_missing;
+use crate::journals::validate_journal;
+use crate::keeping::{Kept, load_images, validate_kept};
+use crate::sizes::sizes_of;
+use crate::validating::{validate_slaves, validate_states};
+use sii_edit::Command;
 use sii_words::Words;
 use site_file::OpenFiles;
 use station_files::{
-    Entry, Fault, MOST_OF_JOURNAL, Place, Store, Wrong, keep_line_apart, load_line, read_file,
+    Entry, Fault, MOST_OF_JOURNAL, Place, Store, Wrong, keep_line_separate, load_line, read_file,
 };
+use station_line::open_images;
 use station_text::LineFile;
-use std::alloc::Global;
+use std::alloc::{AllocError, Global};
 use std::rt::Clock;
 use wire_bringup::{FoundLine, SlaveState, bring_up, hand_back, look_along};
 use wire_faults::WireFault;
@@ -25,11 +33,15 @@ use wire_frames::{NumberedWire, Wire};
 
 /// A line that was found on a wire, and its journal.
 #[derive(Drop)]
-pub struct Found<L> {
+pub struct FoundWire<L> {
     /// The line file.
     pub line: LineFile,
     /// The words of the slaves, in the order of the line.
     pub slaves: Vec<Words>,
+    /// The words that each image file is to hold as the work begins.
+    pub images: Vec<Words>,
+    /// The commands that write image files to their slaves, as was said.
+    pub mends: Vec<Command>,
     /// What the slaves were in as they were found.
     pub states: [SlaveState; 64],
     /// The bytes of the journal's file.
@@ -46,36 +58,51 @@ pub struct Found<L> {
 /// # Errors
 ///
 /// As for `load_line`; `Busy` where another station has locked the journal, `File` where it is absent or the system can't lock it, `NotAFile`;
-/// as for `keep_line_apart`; as for `sizes_of_images`; unless slaves in any state are allowed or the wire is lent, as for `judge_states`, before an
-/// EEPROM is taken; as for `bring_up`; as for `judge_slaves`; as for `read_file` of the journal; `NotAJournal`, `BadVersion`, `WrongLine` or
-/// `BadJournal` where it isn't a journal of these slaves. `Memory` may come at any point.
+/// as for `keep_line_separate`; as for `load_images`; unless slaves in any state are allowed or the wire is lent, as for `validate_states`, before an
+/// EEPROM is taken; as for `bring_up`; as for `validate_slaves`; as for `read_file` of the journal; `NotAJournal`, `BadVersion`, `WrongLine` or
+/// `BadJournal` where it isn't a journal of these slaves; `OtherWords` for the first slave that has other words than its image file, outside of those
+/// that a recovery writes, unless something is said of it. `Memory` may come at any point.
 pub fn find_line<R: Clock + AllocGlobal, W: Wire, S: Store>(
     rt: &R,
     wire: &mut NumberedWire<W>,
     name: &str,
-    asked: Asked,
+    asked: ScanOptions,
     store: &mut S,
-) -> Result<Found<S::Lock>, WireFault>
+) -> Result<FoundWire<S::Lock>, WireFault>
     ensures found { IfOk result (λ found. IsFound (S.files store.old) name.now found.line found.slaves.items found.journal.items) }
-    ensures judged { IfOk result (λ found. HasJournal (map length found.slaves.items) found.journal.items) }
-    ensures apart { IfOk result (λ found. IsLineApart S.leads found.line name.now) }
+    ensures validated { IfOk result (λ found. HasJournal (map length found.slaves.items) found.journal.items) }
+    ensures separate { IfOk result (λ found. IsLineSeparate S.leads found.line name.now) }
+    ensures kept { IfOk result (λ found. AreOfImages (S.files store.old) found.line asked.mends found.journal.items found.slaves.items) }
+    ensures images { IfOk result (λ found. length found.images.items ≡ length found.slaves.items) }
+    ensures mends { IfOk result (λ found. AreMends asked.mends found.mends.items) }
     ensures some { IfOk result (λ found. 1 ≤ length found.slaves.items) }
     ensures most { IfOk result (λ found. length found.slaves.items ≤ 64) }
     ensures same { S.files store.new ≡ S.files store.old }
 {
     let line = load_line(rt.alloc(), name, store)?;
     let lock = lock_journal(rt.alloc(), name, &line, store)?;
-    let found = bring_up_judged(rt, wire, &line, asked, store)?;
-    let states = found.states();
-    match read_found(rt.alloc(), &line, found, store) {
-        Ok((slaves, journal)) => Ok(Found {
-            line,
-            slaves,
-            states,
-            journal,
-            lock,
-            tells: asked.tells,
-        }),
+    let images = load_images(rt.alloc(), &line.images, store)?;
+    let brought = bring_up_validated(rt, wire, &images, asked)?;
+    let states = brought.states();
+    match read_found(rt.alloc(), &line, &images, brought, asked, store) {
+        Ok(read) => {
+            let Read {
+                slaves,
+                journal,
+                kept,
+            } = read;
+            let Kept { images, commands } = kept;
+            Ok(FoundWire {
+                line,
+                slaves,
+                images,
+                mends: commands,
+                states,
+                journal,
+                lock,
+                tells: asked.tells,
+            })
+        }
         Err(fault) => {
             hand_back(wire, &states);
             Err(fault)
@@ -84,44 +111,72 @@ pub fn find_line<R: Clock + AllocGlobal, W: Wire, S: Store>(
 }
 
 /// Brings up a line. Each slave has the size of its image file, where there is one.
-fn bring_up_judged<R: Clock + AllocGlobal, W: Wire, S: Store>(
+fn bring_up_validated<R: Clock + AllocGlobal, W: Wire>(
     rt: &R,
     wire: &mut NumberedWire<W>,
-    line: &LineFile,
-    asked: Asked,
-    store: &mut S,
+    images: &[Option<Words>],
+    asked: ScanOptions,
 ) -> Result<FoundLine, WireFault>
     ensures some { IfOk result (λ found. 1 ≤ length found.slaves.items) }
     ensures most { IfOk result (λ found. length found.slaves.items ≤ 64) }
-    ensures same { S.files store.new ≡ S.files store.old }
 {
-    let sizes = sizes_of_images(rt.alloc(), &line.images, asked.trusts_images, store)?;
+    let sizes = sizes_of(images, asked.trusts_images);
     // On a wire that is lent slaves may be in any state, and who has their EEPROMs is judged as they are opened.
     if !asked.is_forced && !wire.is_lent() {
         let seen = look_along(wire)?;
-        judge_states(&seen.states, usize::from(seen.slaves))?;
+        validate_states(&seen.states, usize::from(seen.slaves))?;
     }
     let found = bring_up(rt.alloc(), wire, rt, &sizes)?;
     Ok(found)
 }
 
-/// The words of the slaves of a line that was brought up, and the bytes of its journal, which is one of these slaves.
+/// What was read of a line that was brought up.
+#[derive(Drop)]
+struct Read {
+    /// The words of the slaves.
+    slaves: Vec<Words>,
+    /// The bytes of the journal's file.
+    journal: Vec<u8>,
+    kept: Kept,
+}
+
+/// The words of the slaves of a line that was brought up, and the bytes of its journal, which is one of these slaves. They are those of their image
+/// files, but for what was said.
 fn read_found<S: Store>(
     alloc: Global,
     line: &LineFile,
+    images: &[Option<Words>],
     found: FoundLine,
+    asked: ScanOptions,
     store: &mut S,
-) -> Result<(Vec<Words>, Vec<u8>), WireFault>
-    ensures count { IfOk result (λ read. length read.0.items ≡ length line.now.images.items) }
-    ensures found { IfOk result (λ read. length read.0.items ≡ length found.slaves.items) }
-    ensures journal { IfOk result (λ read. HasBytes (S.files store.old) (string_bytes line.now.journal) read.1.items) }
-    ensures judged { IfOk result (λ read. HasJournal (map length read.0.items) read.1.items) }
+) -> Result<Read, WireFault>
+    requires some { 1 ≤ length found.slaves.items }
+    requires most { length found.slaves.items ≤ 64 }
+    requires images { length images.now ≡ length line.now.images.items }
+    ensures count { IfOk result (λ read. length read.slaves.items ≡ length line.now.images.items) }
+    ensures found { IfOk result (λ read. length read.slaves.items ≡ length found.slaves.items) }
+    ensures journal { IfOk result (λ read. HasBytes (S.files store.old) (string_bytes line.now.journal) read.journal.items) }
+    ensures validated { IfOk result (λ read. HasJournal (map length read.slaves.items) read.journal.items) }
+    ensures kept { IfOk result (λ read. KeepsImages asked.mends read.journal.items read.slaves.items images.now) }
+    ensures wanted { IfOk result (λ read. length read.kept.images.items ≡ length read.slaves.items) }
+    ensures mends { IfOk result (λ read. AreMends asked.mends read.kept.commands.items) }
     ensures same { S.files store.new ≡ S.files store.old }
 {
-    let slaves = judge_slaves(alloc, found, line.images.len())?;
+    let slaves = validate_slaves(alloc, found, line.images.len())?;
     let journal = read_file(alloc, line.journal.as_str(), MOST_OF_JOURNAL, store)?;
-    judge_journal(alloc, line.journal.as_str(), &journal, &slaves, store)?;
-    Ok((slaves, journal))
+    let live = validate_journal(alloc, line.journal.as_str(), &journal, &slaves, store)?;
+    let kept = validate_kept(
+        alloc,
+        &slaves,
+        images,
+        live.batches.as_slice(),
+        &asked.mends,
+    )?;
+    Ok(Read {
+        slaves,
+        journal,
+        kept,
+    })
 }
 
 /// Locks the journal's file, and refuses a line of which two files are the same.
@@ -131,7 +186,7 @@ fn lock_journal<S: Store>(
     line: &LineFile,
     store: &mut S,
 ) -> Result<S::Lock, Fault>
-    ensures apart { OnOk result (IsLineApart S.leads line.now name.now) }
+    ensures separate { OnOk result (IsLineSeparate S.leads line.now name.now) }
     ensures same { S.files store.new ≡ S.files store.old }
 {
     let journal = line.journal.as_str();
@@ -143,7 +198,7 @@ fn lock_journal<S: Store>(
         store.note(fault.code(), Place::File(journal), &Wrong::NotAFile);
         return Err(fault);
     };
-    match keep_line_apart(alloc, line, name, store) {
+    match keep_line_separate(alloc, line, name, store) {
         Ok(()) => Ok(lock),
         Err(fault) => {
             drop(lock);
@@ -152,25 +207,54 @@ fn lock_journal<S: Store>(
     }
 }
 
-/// Opens the journal's file alone, of which these bytes were read, for work on it in place. It is replaced first by a new file with these
-/// bytes, as `Store::open` says.
+/// Opens the journal's file, of which these bytes were read, and the image files of slaves with these words, for work on them in place. An image
+/// file that isn't there is made. Each is replaced first by a new file with these contents, as `Store::open` says.
 ///
 /// # Errors
 ///
-/// `File` where it is absent, or can't be written, replaced or synced; `Memory`.
-pub fn open_journal<S: Store>(
+/// `File` where one can't be written, replaced or synced, or the journal's is absent; `Memory`.
+pub fn open_line<S: Store>(
     alloc: Global,
     line: &LineFile,
+    slaves: &[Words],
     journal: &[u8],
     store: &mut S,
 ) -> Result<OpenFiles<S::File>, Fault>
-    ensures opened { IfOk result (λ files. S.opened files.journal (string_bytes line.now.journal) journal.now) }
-    ensures others { ChangesOnly (S.files store.old) (S.files store.new) (string_bytes line.now.journal) }
+    requires { length slaves.now ≡ length line.now.images.items }
+    ensures journal { IfOk result (λ files. S.opened files.journal (string_bytes line.now.journal) journal.now) }
+    ensures images { IfOk result (λ files. AreOpenedAs S.opened (names_of line.now) (map bytes_of slaves.now) files.images.items) }
+    ensures others { ChangesAmong (S.files store.old) (S.files store.new) (files_of line.now) }
     ensures failed { IfErr result station.IsOfStream }
 {
+    let contents = bytes_of_all(alloc, slaves)?;
+    make_images(&line.images, &contents, store)?;
     let opened = store.open(line.journal.as_str(), journal)?;
+    let images = open_images(alloc, &line.images, &contents, store)?;
     Ok(OpenFiles {
         journal: opened,
-        images: Vec::new(alloc),
+        images,
     })
+}
+
+/// The bytes of an image file for each of these slaves.
+fn bytes_of_all(alloc: Global, slaves: &[Words]) -> Result<Vec<Vec<u8>>, AllocError>
+    ensures { IfOk result (λ files. map (λ file. file.items) files.items ≡ map bytes_of slaves.now) }
+{
+    let mut files = Vec::new(alloc);
+    for words in slaves {
+        files.push(words.to_bytes()?)?;
+    }
+    Ok(files)
+}
+
+/// Writes these contents to the image files that aren't there.
+fn make_images<S: Store>(names: &[String], contents: &[Vec<u8>], store: &mut S) -> Result<(), Fault>
+    requires { length names.now ≡ length contents.now }
+    ensures others { ChangesAmong (S.files store.old) (S.files store.new) (spelt names.now) }
+    ensures failed { IfErr result station.IsOfStream }
+{
+    for slave in 0..names.len() {
+        write_missing(names[slave].as_str(), &contents[slave], store)?;
+    }
+    Ok(())
 }

@@ -1,6 +1,8 @@
 //! The subcommand `scan`.
 
+use crate::keeping::Beside;
 use line_changes::check_of;
+use slave_match::{Difference, Reason};
 use station_rows::{Cell, END, Form, Rows, Value, data, named, said};
 use std::alloc::{AllocError, Global};
 use std::io::Write;
@@ -11,7 +13,7 @@ use wire_frames::{LineFault, NumberedWire, Wire};
 use wire_words::{Extent, SizeFound};
 
 /// Brings up the line on this wire, and prints one line for each slave: its position, the number of words of its EEPROM, its alias,
-/// whether its check byte is right, and its identity; or the fault for which it can't be worked on. Behind that stand its state, and what
+/// whether its check byte is right, and its identity; or the fault for which it can't be worked on. After that stand its state, and what
 /// was found of its EEPROM's size; or the same as a row of JSON. No file is read or written, and no word of a slave. The EEPROMs are handed back.
 ///
 /// # Errors
@@ -27,22 +29,37 @@ pub fn scan_line<R: Clock + AllocGlobal, W: Wire, O: Write>(
 ) -> Result<(), WireFault> {
     let found = bring_up(rt.alloc(), wire, rt, sizes)?;
     hand_back(wire, &found.states());
-    rows_of(rt.alloc(), form, &found)?.write(output)?;
+    rows_of(rt.alloc(), form, &found, &[])?.write(output)?;
     let _words = found.into_words(rt.alloc())?;
     Ok(())
 }
 
-/// The rows of the slaves that were found.
-fn rows_of(alloc: Global, form: Form, found: &FoundLine) -> Result<Rows, AllocError> {
+/// The rows of the slaves that were found, with what is seen of them beside their image files.
+pub(crate) fn rows_of(
+    alloc: Global,
+    form: Form,
+    found: &FoundLine,
+    seen: &[Beside],
+) -> Result<Rows, AllocError> {
     let mut rows = Rows::new(alloc, form);
     for (slave, each) in (0u16..).zip(&found.slaves) {
-        put_slave(&mut rows, slave, each)?;
+        put_slave(
+            &mut rows,
+            slave,
+            each,
+            seen.get(usize::from(slave)).copied(),
+        )?;
     }
     Ok(rows)
 }
 
 /// Puts the row of a slave: what its words say, or why it can't be worked on, and what was found of it.
-fn put_slave(rows: &mut Rows, slave: u16, found: &FoundSlave) -> Result<(), AllocError> {
+fn put_slave(
+    rows: &mut Rows,
+    slave: u16,
+    found: &FoundSlave,
+    seen: Option<Beside>,
+) -> Result<(), AllocError> {
     match &found.words {
         Ok(words) => {
             let identity = words.identity();
@@ -57,12 +74,12 @@ fn put_slave(rows: &mut Rows, slave: u16, found: &FoundSlave) -> Result<(), Allo
                 named("serial", Value::Long(identity.serial)),
                 END,
             ];
-            put_found(rows, slave, &eeprom, found)
+            put_found(rows, slave, &eeprom, found, seen)
         }
         Err(why) => {
             let fault = WireFault::Line(LineFault::Slave { slave, why: *why });
             let text = format!(in rows.alloc(); "{fault}")?;
-            put_found(rows, slave, &fault_cells(text.as_str(), fault), found)
+            put_found(rows, slave, &fault_cells(text.as_str(), fault), found, seen)
         }
     }
 }
@@ -79,12 +96,13 @@ fn fault_cells<'a>(text: &'a str, fault: WireFault) -> [Cell<'a>; 5] {
     ]
 }
 
-/// Puts the row of a slave of which this is said: its state, and the size of its EEPROM, stand behind it.
+/// Puts the row of a slave of which this is said: its state, the size of its EEPROM, and what is seen of its image file stand behind it.
 fn put_found(
     rows: &mut Rows,
     slave: u16,
     said_of: &[Cell<'_>],
     found: &FoundSlave,
+    seen: Option<Beside>,
 ) -> Result<(), AllocError> {
     let mut cells = Vec::new(rows.alloc());
     cells.push(named("slave", slave))?;
@@ -93,7 +111,38 @@ fn put_found(
     if let Some(size) = found.size {
         cells.extend_from_slice(&size_cells(size))?;
     }
+    match seen {
+        None => {}
+        Some(Beside::Absent) => cells.push(named("file", "absent"))?,
+        Some(Beside::Same) => cells.push(named("file", "same"))?,
+        Some(Beside::Differs { difference, reason }) => {
+            cells.extend_from_slice(&difference_cells(difference, reason))?;
+        }
+    }
     rows.put("slave", &cells)
+}
+
+/// In what a slave differs from its image file, and what that usually is.
+fn difference_cells<'a>(difference: Difference, reason: Reason) -> [Cell<'a>; 9] {
+    [
+        named("file", "differs"),
+        data("difference", Value::Begin),
+        named("words", difference.count),
+        named("first", difference.first),
+        named("has", word_value(difference.has)),
+        named("kept", word_value(difference.kept)),
+        named("usually", reason.name()),
+        named("place", reason.place()),
+        END,
+    ]
+}
+
+/// A word, if it is there.
+fn word_value<'a>(word: Option<u16>) -> Value<'a> {
+    match word {
+        Some(word) => Value::Word(word),
+        None => Value::Absent,
+    }
 }
 
 /// The state of a slave (ETG.1000.6), whether it tells an error, and whether its PDI has the EEPROM.

@@ -1,8 +1,9 @@
 //! The sizes of the slaves' EEPROMs, as their image files have them.
 ghost use Rattle.std.specs.Prelude.{◌≡◌};
 
-use crate::plan::is_there;
-use station_files::{Fault, Store, load_slave};
+use crate::keeping::load_images;
+use sii_words::Words;
+use station_files::{Fault, Store};
 use std::alloc::Global;
 use wire_bringup::Sizes;
 
@@ -20,18 +21,22 @@ pub fn sizes_of_images<S: Store>(
 ) -> Result<Sizes, Fault>
     ensures { S.files store.new ≡ S.files store.old }
 {
+    match load_images(alloc, names, store) {
+        Ok(images) => Ok(sizes_of(&images, is_trusted)),
+        Err(fault) => Err(fault),
+    }
+}
+
+/// The sizes of the slaves whose image files have these words.
+pub(crate) fn sizes_of(images: &[Option<Words>], is_trusted: bool) -> Sizes {
     let mut sizes = Sizes {
         is_trusted,
         ..Sizes::unknown()
     };
-    for slave in 0..names.len() {
-        let name = names[slave].as_str();
-        if is_there(name, store)? {
-            let words = load_slave(alloc, name, store)?;
-            if let Some(slot) = sizes.given.get_mut(slave) {
-                *slot = u16::try_from(words.len()).ok();
-            }
+    for (slot, image) in sizes.given.iter_mut().zip(images) {
+        if let Some(words) = image {
+            *slot = u16::try_from(words.len()).ok();
         }
     }
-    Ok(sizes)
+    sizes
 }

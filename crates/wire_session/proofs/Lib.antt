@@ -1,6 +1,7 @@
-mod BehindDesk
+mod AfterDesk
 mod Endings
 mod Interleaved
+mod Mirrored
 mod Recovering
 mod RunEnds
 mod SlavesHeld

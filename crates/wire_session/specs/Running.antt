@@ -1,5 +1,5 @@
 -- `run` on a wire: how the line that was found is served by threads, and what the files hold in the end.
-use Rattle.std.specs.Prelude.{◌≡◌, ◌⊎◌, ℕ, false, List, length, map, Option, None, IsErr, IsTrue}
+use Rattle.std.specs.Prelude.{◌≡◌, ◌⊎◌, ◌++◌, ℕ, false, List, length, map, Option, None, IsErr, IsTrue}
 use Rattle.sii_edit.specs.declared.command.Command.{Command}
 use Rattle.site_core.specs.State.{Seen}
 use Rattle.site_shadow.specs.Site.{SiteValue}
@@ -8,16 +8,19 @@ use Rattle.station_files.specs.Files.{Known}
 use Rattle.station_files.specs.ScriptFiles.{SpellsCommands}
 use Rattle.station_files.specs.declared.faults.ExitStatus.{ExitStatus}
 use Rattle.station_alone.specs.Station.{Station}
+use Rattle.station_files.specs.FileNames.{IsLineSeparate}
 use Rattle.station_files.specs.Locations.{Leads}
-use Rattle.station_line.specs.Judging.{HasJournal, IsRunApart}
+use Rattle.station_line.specs.Validating.{HasJournal, IsRunSeparate}
 use Rattle.station_line.specs.Site.{IsSiteOf}
 use Rattle.script_session.specs.Saving.{SavesRun, Serves}
+use Rattle.wire_scan.specs.Keeping.{AreMends, AreOfImages}
 use Rattle.wire_scan.specs.Opening.{IsFound}
-use Rattle.site_wire.specs.declared.device.WireTold.{WireTold}
-use Rattle.wire_session.specs.declared.told.LineTold.{LineTold}
-use Rattle.wire_session.specs.declared.told.Worked.{Worked}
-use Rattle.wire_session.specs.Ending.{Ends}
-use Rattle.script_session.specs.Behind.{SavesFollowed}
+use Rattle.wire_scan.specs.declared.asked.Mend.{Mend}
+use Rattle.site_wire.specs.declared.device.WireLog.{WireLog}
+use Rattle.wire_session.specs.declared.logs.LineLog.{LineLog}
+use Rattle.wire_session.specs.declared.logs.Worked.{Worked}
+use Rattle.wire_session.specs.Ending.{EndsOpened}
+use Rattle.script_session.specs.After.{SavesFollowed}
 use Rattle.wire_session.specs.Slaves.{SlavesAreSaved}
 
 -- The commands were served by threads, and the files hold the result. Where the commands were submitted at the desk, the line was recovered behind
@@ -36,30 +39,57 @@ pub record SavesSite (Way : Seen → Type 0) (files : Known) (line : LineFile) (
 -- The files hold the state of a station that was served on a site of slaves with these words and a journal with these bytes. Where threads could be
 -- made, so that the commands were submitted at a desk, so do the slaves, by what is told of the devices.
 pub record SavesFound (files : Known) (line : LineFile) (plant : List (List ℕ)) (bytes : List ℕ) (commands : List Command)
-    (told : Option (LineTold WireTold)) (status : ExitStatus) : Type 0 where
+    (reported : Option (LineLog WireLog)) (status : ExitStatus) : Type 0 where
   pub site : SiteValue
   pub made : IsSiteOf plant bytes site
   pub saves : SavesRun false files line site commands status
-  pub slaves : IsTrue saves.serves.is_driven → SlavesAreSaved plant files line told
+  pub slaves : IsTrue saves.serves.is_driven → SlavesAreSaved plant files line reported
 
 -- The same of the words that were found on the wire and the bytes of the journal.
-abbrev pub EndsFound : Worked ExitStatus WireTold → Known → Known → LineFile → List (List ℕ) → List ℕ → List Command → Type 0
+abbrev pub EndsFound : Worked ExitStatus WireLog → Known → Known → LineFile → List (List ℕ) → List ℕ → List Command → Type 0
 EndsFound worked old new line plant bytes commands =
-    Ends (λ status. SavesFound new line plant bytes commands worked.told status) worked.ended old new line
+    EndsOpened (λ status. SavesFound new line plant bytes commands worked.reported status) worked.ended old new line
 
--- The line was found, the journal is one of its slaves, the script was read, their files stand apart, and the commands were run as far as the result
--- says.
-pub record RunsFound (worked : Worked ExitStatus WireTold) (leads : Leads) (old new : Known) (name script : List ℕ) : Type 0 where
+-- These are commands that write image files to their slaves, as was said, and then those of the script.
+pub record BeginsWithMends (files : Known) (said : List Mend) (script : List ℕ) (commands : List Command) : Type 0 where
+  pub mends : List Command
+  pub after : List Command
+  pub said_so : AreMends said mends
+  pub spelt : SpellsCommands files script after
+  pub all : commands ≡ mends ++ after
+
+-- The line was found, each slave has the words of its image file, but for what was said, the journal is one of its slaves, the script was read, their
+-- files stand apart, and the commands were run as far as the result says.
+pub record RunsFound (worked : Worked ExitStatus WireLog) (said : List Mend) (leads : Leads) (old new : Known) (name script : List ℕ) : Type 0 where
   pub line : LineFile
   pub plant : List (List ℕ)
   pub bytes : List ℕ
   pub found : IsFound old name line plant bytes
-  pub judged : HasJournal (map length plant) bytes
+  pub validated : HasJournal (map length plant) bytes
+  pub kept : AreOfImages old line said bytes plant
   pub commands : List Command
-  pub spelt : SpellsCommands old script commands
-  pub apart : IsRunApart leads line name script
+  pub spelt : BeginsWithMends old said script commands
+  pub separate : IsRunSeparate leads line name script
   pub ends : EndsFound worked old new line plant bytes commands
 
 -- what `run` does: it stops before it writes and before the line has a device, as where the journal is refused; or it runs the commands
-abbrev pub RunsScript : Worked ExitStatus WireTold → Leads → Known → Known → List ℕ → List ℕ → Type 0
-RunsScript worked leads old new name script = (IsErr worked.ended × (worked.told ≡ None) × (new ≡ old)) ⊎ RunsFound worked leads old new name script
+abbrev pub RunsScript : Worked ExitStatus WireLog → List Mend → Leads → Known → Known → List ℕ → List ℕ → Type 0
+RunsScript worked said leads old new name script = (IsErr worked.ended × (worked.reported ≡ None) × (new ≡ old)) ⊎ RunsFound worked said leads old new name script
+
+-- The line was found, each slave has the words of its image file, but for what was said, and the image files that were to be written to their slaves were,
+-- as commands, as far as the result says.
+pub record MendsFound (worked : Worked ExitStatus WireLog) (said : List Mend) (leads : Leads) (old new : Known) (name : List ℕ) : Type 0 where
+  pub line : LineFile
+  pub plant : List (List ℕ)
+  pub bytes : List ℕ
+  pub found : IsFound old name line plant bytes
+  pub validated : HasJournal (map length plant) bytes
+  pub kept : AreOfImages old line said bytes plant
+  pub mends : List Command
+  pub said_so : AreMends said mends
+  pub separate : IsLineSeparate leads line name
+  pub ends : EndsFound worked old new line plant bytes mends
+
+-- what `recover` does where image files are to be written to their slaves
+abbrev pub MendsLine : Worked ExitStatus WireLog → List Mend → Leads → Known → Known → List ℕ → Type 0
+MendsLine worked said leads old new name = (IsErr worked.ended × (worked.reported ≡ None) × (new ≡ old)) ⊎ MendsFound worked said leads old new name

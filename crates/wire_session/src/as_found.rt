@@ -10,6 +10,8 @@ pub(crate) struct AsFound<'a> {
     pub(crate) line: &'a LineFile,
     /// The words of the slaves, in the order of the line.
     pub(crate) slaves: &'a [Words],
+    /// The words that their image files are to hold as the work begins.
+    pub(crate) images: &'a [Words],
     /// The bytes of the journal's file.
     pub(crate) journal: Vec<u8>,
 }

@@ -2,17 +2,20 @@
 #![tactic(auto)]
 
 mod as_found;
+mod followed;
 mod init;
+mod logs;
+mod mending;
 mod planning;
 mod recovery;
 mod redoing;
 mod reporting;
 mod running;
 mod threads;
-mod told;
 
 pub use init::{begin_journal, init_on_wire};
+pub use logs::{LineLog, Worked};
+pub use mending::mend_line;
 pub use planning::plan_on_wire;
 pub use recovery::recover_line;
 pub use running::{RunOrder, run_script};
-pub use told::{LineTold, Worked};

@@ -2,38 +2,43 @@
 ghost use Rattle.std.specs.Prelude.{◌≡◌, ◌≤◌, ◌∷◌, ◌++◌, [], length, map, None, IfOk, IfSome, IsSomeAnd, IsTrue, OnOk};
 ghost use Rattle.esc_rom.specs.Owned.{OwnsAll};
 ghost use Rattle.station_files.specs.FileNames.{files_with, written_of};
-ghost use Rattle.station_files.specs.Locations.{AreApart};
-ghost use Rattle.station_files.specs.ScriptFiles.{SpellsCommands};
-ghost use Rattle.station_line.specs.Judging.{HasJournal, IsRunApart};
+ghost use Rattle.station_files.specs.Locations.{AreSeparate};
+ghost use Rattle.station_line.specs.Validating.{HasJournal, IsRunSeparate};
 ghost use Rattle.station_line.specs.Opened.{is_old};
 ghost use Rattle.wire_scan.specs.Opening.{IsFound};
 ghost use Rattle.wire_session.specs.Ending.{Ends};
-ghost use Rattle.wire_session.specs.Running.{EndsFound, RunsScript, SavesSite};
-ghost use Rattle.wire_session.specs.Slaves.{AreOfParts, EndsTold};
+ghost use Rattle.wire_scan.specs.Keeping.{AreOfImages};
+ghost use Rattle.wire_session.specs.Running.{BeginsWithMends, EndsFound, RunsScript, SavesSite};
+ghost use Rattle.wire_session.specs.Slaves.{AreOfParts, EndsReported};
 
 use crate::as_found::AsFound;
+use crate::followed::followed;
+use crate::logs::Worked;
 use crate::reporting::{report_end, tell_handed, tell_why};
 use crate::threads::run_threads;
-use crate::told::Worked;
 use line_changes::Before;
 use script_session::Work;
 use sii_edit::Command;
 use sii_words::Plant;
-use site_file::FileDevice;
 use site_shadow::ShadowSite;
-use site_wire::{LiveLine, LockedLine, TellsPart, WireDevice, WireTold};
+use site_wire::{LiveLine, LockedLine, TellsPart, WireLog};
 use station_files::{ExitStatus, Fault, Store, load_script};
 use station_line::{is_old, of_open, open_station, site_of};
 use station_text::LineFile;
 use std::alloc::{AllocError, Global};
 use std::io::Write;
+use std::mem;
 use std::rt::Clock;
 use std::sync::Wait;
 use std::thread::Threads;
 use wire_bringup::hand_back;
 use wire_faults::WireFault;
 use wire_frames::{NumberedWire, Wire};
-use wire_scan::{Asked, Found, Named, find_line, judge_commands, keep_script_apart, open_journal};
+use wire_mirror::Images;
+use wire_scan::{
+    FoundWire, Named, ScanOptions, find_line, keep_script_separate, open_line, validate_commands,
+    validate_images,
+};
 
 /// What a run is given, or the plan of one.
 #[derive(Clone, Copy)]
@@ -41,13 +46,13 @@ pub struct RunOrder<'a> {
     /// The names of the line file and of the script.
     pub named: Named<'a>,
     /// What is asked for that isn't done where nothing is said.
-    pub asked: Asked,
+    pub asked: ScanOptions,
 }
 
-/// What was found for a run: the line, and the commands of the script.
+/// What was found for a run: the line, and the commands: those that write image files to their slaves, as was said, and then those of the script.
 #[derive(Drop)]
-pub(crate) struct Given<L> {
-    pub(crate) found: Found<L>,
+pub(crate) struct RunInputs<L> {
+    pub(crate) found: FoundWire<L>,
     pub(crate) commands: Vec<Command>,
 }
 
@@ -59,16 +64,19 @@ struct Start<S> {
     was_old: bool,
 }
 
-/// Runs the script file that the order names on the line on this wire: submits its commands in order, serves them by threads, one for each
-/// slave, which share the wire, prints the answer to each, what is told of them as it happens, and the totals, and writes the words of each
-/// slave to its image file, which is replaced as a whole. A journal that isn't of version 2 is recovered and migrated first. Where no thread
-/// can be made, one serves all. The EEPROMs are handed back as they were found. Returns the exit status: `Done`, or that of the worst refusal.
+/// Runs the script file that the order names on the line on this wire: submits its commands in order, after those that write image files to their
+/// slaves, as was said, serves them by threads, one for each slave, which share the wire, and prints the answer to each, what is told of them as it
+/// happens, and the totals. Each image file is replaced first by a new file with the words that its slave was found with, or that it is to get, and
+/// gets each word that the slave has shown, before the batch that names it is retired. A journal that isn't of version 2 is recovered and migrated
+/// first. Where no thread can be made, one serves all. The EEPROMs are handed back as they were found. Returns the exit status: `Done`, or that of
+/// the worst refusal.
 ///
 /// # Errors
 ///
-/// As for `load_script`; then as for `find_line` and `keep_script_apart`; then, unless that is allowed, as for `judge_commands`. Nothing
-/// is written up to there. Then as for `open_journal`, `open_station` and `serve_task`, or why the line on the wire has stopped. No image
-/// file is written up to there, and a recovery completes what was begun. Then `File` or `Memory`, as the store answers.
+/// As for `load_script`; then as for `find_line` and `keep_script_separate`; then, unless that is allowed, as for `validate_commands`, and as for
+/// `validate_images`. Nothing is written up to there. Then as for `open_line`, `open_station` and `serve_task`; `Disk` where a file of the line
+/// can't be written or synced any more; or why the line on the wire has stopped. A recovery completes what was begun. Then `File` or `Memory`,
+/// as the store answers.
 pub fn run_script<
     R: Wait + Threads + Clock + AllocGlobal + Sync,
     W: Wire + Send + Drop,
@@ -80,13 +88,13 @@ pub fn run_script<
     order: RunOrder<'_>,
     store: &mut S,
     output: &mut O,
-) -> Worked<ExitStatus, WireTold>
-    ensures { RunsScript result S.leads (S.files store.old) (S.files store.new) order.entry.named.line.now order.entry.named.script.now }
+) -> Worked<ExitStatus, WireLog>
+    ensures { RunsScript result order.entry.asked.mends S.leads (S.files store.old) (S.files store.new) order.entry.named.line.now order.entry.named.script.now }
 {
     let mut wire = wire;
     match find_all(rt, &mut wire, order, store) {
         Ok(given) => {
-            let Given { found, commands } = given;
+            let RunInputs { found, commands } = given;
             run_found(rt, found, commands, wire, store, output)
         }
         Err(fault) => {
@@ -102,22 +110,24 @@ pub(crate) fn find_all<R: Clock + AllocGlobal, W: Wire, S: Store>(
     wire: &mut NumberedWire<W>,
     order: RunOrder<'_>,
     store: &mut S,
-) -> Result<Given<S::Lock>, WireFault>
+) -> Result<RunInputs<S::Lock>, WireFault>
     ensures found { IfOk result (λ given.
         IsFound (S.files store.old) order.entry.named.line.now given.found.line given.found.slaves.items given.found.journal.items) }
-    ensures judged { IfOk result (λ given. HasJournal (map length given.found.slaves.items) given.found.journal.items) }
+    ensures validated { IfOk result (λ given. HasJournal (map length given.found.slaves.items) given.found.journal.items) }
     ensures some { IfOk result (λ given. 1 ≤ length given.found.slaves.items) }
     ensures most { IfOk result (λ given. length given.found.slaves.items ≤ 64) }
-    ensures spelt { IfOk result (λ given. SpellsCommands (S.files store.old) order.entry.named.script.now given.commands.items) }
-    ensures apart { IfOk result (λ given.
-        IsRunApart S.leads given.found.line order.entry.named.line.now order.entry.named.script.now) }
+    ensures spelt { IfOk result (λ given. BeginsWithMends (S.files store.old) order.entry.asked.mends order.entry.named.script.now given.commands.items) }
+    ensures kept { IfOk result (λ given. AreOfImages (S.files store.old) given.found.line order.entry.asked.mends given.found.journal.items given.found.slaves.items) }
+    ensures images { IfOk result (λ given. length given.found.images.items ≡ length given.found.slaves.items) }
+    ensures separate { IfOk result (λ given.
+        IsRunSeparate S.leads given.found.line order.entry.named.line.now order.entry.named.script.now) }
     ensures same { S.files store.new ≡ S.files store.old }
 {
     let RunOrder { named, asked } = order;
     let commands = load_script(rt.alloc(), named.script, store)?;
     match find_line(rt, wire, named.line, asked, store) {
-        Ok(found) => match judge_script(rt.alloc(), named, &found, &commands, asked, store) {
-            Ok(()) => Ok(Given { found, commands }),
+        Ok(found) => match validate_script(rt.alloc(), named, &found, &commands, asked, store) {
+            Ok(()) => with_mends(rt.alloc(), wire, found, commands),
             Err(fault) => {
                 hand_back(wire, &found.states);
                 drop(found);
@@ -132,50 +142,82 @@ pub(crate) fn find_all<R: Clock + AllocGlobal, W: Wire, S: Store>(
     }
 }
 
+/// A line that was found, with the commands that write image files to its slaves, and these after them.
+fn with_mends<W: Wire, L: Drop>(
+    alloc: Global,
+    wire: &mut NumberedWire<W>,
+    found: FoundWire<L>,
+    commands: Vec<Command>,
+) -> Result<RunInputs<L>, WireFault>
+    ensures found { IfOk result (λ given. given.found ≡ record found { mends = given.found.mends }) }
+    ensures commands { IfOk result (λ given. given.commands.items ≡ found.mends.items ++ commands.items) }
+{
+    let mut found = found;
+    let mut after = commands;
+    match found.mends.append(&mut after) {
+        Ok(()) => {
+            let commands = mem::replace(&mut found.mends, Vec::new(alloc));
+            Ok(RunInputs { found, commands })
+        }
+        Err(AllocError) => {
+            hand_back(wire, &found.states);
+            drop(found);
+            drop(after);
+            Err(WireFault::Station(Fault::Memory))
+        }
+    }
+}
+
 /// Looks whether the script stands apart from the files of the line, and whether its commands may be run on the slaves.
-fn judge_script<S: Store>(
+fn validate_script<S: Store>(
     alloc: Global,
     named: Named<'_>,
-    found: &Found<S::Lock>,
+    found: &FoundWire<S::Lock>,
     commands: &[Command],
-    asked: Asked,
+    asked: ScanOptions,
     store: &mut S,
 ) -> Result<(), WireFault>
     requires some { 1 ≤ length found.now.slaves.items }
     requires most { length found.now.slaves.items ≤ 64 }
-    ensures apart { OnOk result (AreApart S.leads (length (written_of None found.now.line))
+    ensures separate { OnOk result (AreSeparate S.leads (length (written_of None found.now.line))
         (files_with None found.now.line named.entry.line.now ++ named.entry.script.now ∷ [])) }
     ensures same { S.files store.new ≡ S.files store.old }
 {
-    keep_script_apart(alloc, &found.line, named, store)?;
-    if asked.resizes {
+    keep_script_separate(alloc, &found.line, named, store)?;
+    if !asked.resizes {
+        validate_commands(alloc, &found.slaves, commands)?;
+    }
+    if asked.any_device {
         return Ok(());
     }
-    judge_commands(alloc, &found.slaves, commands)
+    validate_images(&found.slaves, commands)
 }
 
 /// Runs the commands on a line that was found, hands the EEPROMs back, and prints what has changed if that is asked for.
-fn run_found<
+pub(crate) fn run_found<
     R: Wait + Threads + Clock + AllocGlobal + Sync,
     W: Wire + Send + Drop,
     S: Store,
     O: Write,
 >(
     rt: &R,
-    found: Found<S::Lock>,
+    found: FoundWire<S::Lock>,
     commands: Vec<Command>,
     wire: NumberedWire<W>,
     store: &mut S,
     output: &mut O,
-) -> Worked<ExitStatus, WireTold>
+) -> Worked<ExitStatus, WireLog>
     requires some { 1 ≤ length found.slaves.items }
     requires most { length found.slaves.items ≤ 64 }
     requires count { length found.slaves.items ≡ length found.line.images.items }
+    requires images { length found.images.items ≡ length found.line.images.items }
     ensures { EndsFound result (S.files store.old) (S.files store.new) found.line found.slaves.items found.journal.items commands.items }
 {
-    let Found {
+    let FoundWire {
         line,
         slaves,
+        images,
+        mends: _,
         states,
         journal,
         lock: _lock,
@@ -189,26 +231,27 @@ fn run_found<
     let as_found = AsFound {
         line: &line,
         slaves: &slaves,
+        images: &images,
         journal,
     };
     let Worked {
         ended,
-        told: of_devices,
+        reported: of_devices,
     } = run_opened(rt, as_found, &locked, work, store, output);
     let explained = tell_why(rt, &locked, ended);
     let mut wire = locked.into_line().into_wire();
     hand_back(&mut wire, &states);
-    let told = tell_handed(tells, wire.handed(), explained, output);
+    let reported = tell_handed(tells, wire.handed(), explained, output);
     drop(wire);
     let words = Plant::of(slaves);
     let before = Before { line, words };
     Worked {
-        ended: report_end(rt.alloc(), tells, &before, told, store, output),
-        told: of_devices,
+        ended: report_end(rt.alloc(), tells, &before, reported, store, output),
+        reported: of_devices,
     }
 }
 
-/// Opens the journal of a line, and runs the commands.
+/// Opens the files of a line, and runs the commands. Each image file follows its slave.
 fn run_opened<
     R: Wait + Threads + Clock + AllocGlobal + Sync,
     W: Wire + Send + Drop,
@@ -221,19 +264,21 @@ fn run_opened<
     work: Work,
     store: &mut S,
     output: &mut O,
-) -> Worked<ExitStatus, WireTold>
+) -> Worked<ExitStatus, WireLog>
     requires some { 1 ≤ length found.slaves.now }
     requires most { length found.slaves.now ≤ 64 }
     requires count { length found.slaves.now ≡ length found.line.now.images.items }
+    requires images { length found.images.now ≡ length found.line.now.images.items }
     ensures { EndsFound result (S.files store.old) (S.files store.new)
         found.entry.line.now found.entry.slaves.now found.entry.journal.items work.commands.items }
 {
     let AsFound {
         line,
         slaves,
+        images: kept,
         journal,
     } = found;
-    let files = match open_journal(rt.alloc(), line, &journal, store) {
+    let files = match open_line(rt.alloc(), line, kept, &journal, store) {
         Ok(files) => files,
         Err(fault) => {
             drop(journal);
@@ -242,7 +287,8 @@ fn run_opened<
         }
     };
     let was_old = is_old(&journal);
-    let device = WireDevice::shared(locked.shared(rt), rt, FileDevice::new(files));
+    let images = Images::new(files.images);
+    let device = followed(rt, locked, files.journal, &images);
     match site_of(rt.alloc(), slaves, journal, device) {
         Ok(site) => run_site(rt, line, Start { site, was_old }, work, store, output),
         Err(AllocError) => {
@@ -260,13 +306,13 @@ fn run_site<R: Wait + Threads + AllocGlobal + Sync, D: TellsPart + Send, S: Stor
     work: Work,
     store: &mut S,
     output: &mut O,
-) -> Worked<ExitStatus, D::Told>
+) -> Worked<ExitStatus, D::Logged>
     requires disk { IsTrue start.site.line.has_disk }
     requires owned { OwnsAll start.site.line }
     requires old { start.was_old ≡ is_old start.site.seen.state.disk.bytes }
-    ensures own { IfSome result.told (λ told. AreOfParts D.is_of told.desk) }
-    ensures ends { Ends (SavesSite (λ last. IsSomeAnd result.told (λ told.
-        EndsTold D.follows D.well D.tells start.site (length line.now.images.items) told last)) (S.files store.new) line.now
+    ensures own { IfSome result.reported (λ reported. AreOfParts D.is_of reported.desk) }
+    ensures ends { Ends (SavesSite (λ last. IsSomeAnd result.reported (λ reported.
+        EndsReported D.follows D.well D.tells start.site (length line.now.images.items) reported last)) (S.files store.new) line.now
         start.site work.commands.items) result.ended (S.files store.old) (S.files store.new) line.now }
 {
     let Start { site, was_old } = start;

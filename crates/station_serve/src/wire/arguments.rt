@@ -2,16 +2,20 @@
 
 use crate::arguments::form_of;
 use crate::pages::code_asked;
+use crate::wire::changing::{Change, New};
+use crate::wire::mends::mends_of;
+use crate::wire::one_slave::{Look, Purpose};
 use crate::wire::rows::{rows, wire_program};
 use crate::wire::sizes::sizes_of;
-use command_line::{Given, Unread, read_typed, read_words, refuse};
+use crate::wire::which::which_in;
+use command_line::{ParsedArguments, Unread, read_typed, read_words, refuse, small_in};
 use station_listing::Code;
 use station_rows::Form;
 use std::alloc::Global;
 use std::time::Duration;
 use wire_bringup::Sizes;
 use wire_frames::{FRAME_BYTES, Room};
-use wire_scan::{Asked, CaptureNames, Named, Tells};
+use wire_scan::{CaptureNames, Named, ScanOptions, Tells};
 use wire_session::RunOrder;
 
 /// A command line: what it asks for, and where its text and its frames go.
@@ -24,7 +28,7 @@ pub struct Arguments<'a> {
     /// The name of the file that each frame is written to, if there is one.
     pub capture: Option<&'a str>,
     /// The capture and the files that it may be none of, if there are any.
-    pub apart: Option<CaptureNames<'a>>,
+    pub separate: Option<CaptureNames<'a>>,
     /// Whose the wire is.
     pub tenure: Tenure,
     /// Whether faults have a second line where standard error is no terminal, too.
@@ -40,8 +44,40 @@ pub struct Arguments<'a> {
 /// What a command line asks for: a subcommand with its arguments.
 #[derive(Clone, Copy)]
 pub enum Task<'a> {
+    /// Leaves the words of all slaves as they are.
+    Reads(Reading<'a>),
+    /// Runs a script on the line.
+    Run {
+        /// The files, and what is asked for.
+        order: RunOrder<'a>,
+        /// The folder in which a call on one slave may have been cut, if it is known.
+        folder: Option<&'a str>,
+    },
+    /// Recovers the line.
+    Recover {
+        /// The name of the line file.
+        line: &'a str,
+        /// What is asked for that isn't done where nothing is said.
+        asked: ScanOptions,
+    },
+    /// Recovers the line on which the last call that changed one slave was cut.
+    RecoverLast {
+        /// The folder that its files are kept in.
+        folder: &'a str,
+        /// What is asked for that isn't done where nothing is said.
+        asked: ScanOptions,
+    },
+    /// Changes one slave.
+    Change(Change<'a>),
+}
+
+/// What leaves the words of all slaves as they are.
+#[derive(Clone, Copy)]
+pub enum Reading<'a> {
     /// Prints a line for each slave.
     Scan {
+        /// The name of the line file, where slaves are compared with their image files.
+        line: Option<&'a str>,
         /// The sizes of EEPROMs, as far as they are given.
         sizes: Sizes,
         /// Text, or rows of JSON.
@@ -66,10 +102,8 @@ pub enum Task<'a> {
         /// The name of the line file.
         line: &'a str,
         /// What is asked for that isn't done where nothing is said.
-        asked: Asked,
+        asked: ScanOptions,
     },
-    /// Runs a script on the line.
-    Run(RunOrder<'a>),
     /// Says what a run would do, and does nothing.
     Plan {
         /// The files, and what is asked for.
@@ -77,13 +111,8 @@ pub enum Task<'a> {
         /// Text, or rows of JSON.
         form: Form,
     },
-    /// Recovers the line.
-    Recover {
-        /// The name of the line file.
-        line: &'a str,
-        /// What is asked for that isn't done where nothing is said.
-        asked: Asked,
-    },
+    /// Reads one slave.
+    Look(Look<'a>),
     /// Explains one code, or all of them.
     Explain {
         /// The code; `None` for all codes.
@@ -111,26 +140,26 @@ pub fn read_arguments<'a>(alloc: Global, words: &'a [String]) -> Result<Argument
     let given = read_words(alloc, program, words)?;
     let tenure = match tenure_of(&given) {
         Ok(tenure) => tenure,
-        Err(text) => return Err(refuse(alloc, program, words, text)),
+        Err(text) => return Err(refuse(alloc, program, given.subcommand, text)),
     };
     match task_of(&given) {
         Ok(task) => Ok(Arguments {
             text: given.text("text"),
             time_out: given.milliseconds("timeout"),
             capture: given.text("capture"),
-            apart: apart_in(&given),
+            separate: separate_in(&given),
             tenure,
             is_verbose: given.has("verbose"),
-            is_quiet: given.has("quiet") || matches!(task, Task::Explain { .. }),
+            is_quiet: given.has("quiet") || matches!(task, Task::Reads(Reading::Explain { .. })),
             task,
-            typed: read_typed(alloc, program, words, &given)?,
+            typed: read_typed(alloc, program, &given)?,
         }),
-        Err(text) => Err(refuse(alloc, program, words, text)),
+        Err(text) => Err(refuse(alloc, program, given.subcommand, text)),
     }
 }
 
 /// The capture, and the names of the line file and the script, if there is a capture and a line file.
-fn apart_in<'a>(given: &Given<'a>) -> Option<CaptureNames<'a>> {
+fn separate_in<'a>(given: &ParsedArguments<'a>) -> Option<CaptureNames<'a>> {
     Some(CaptureNames {
         capture: given.text("capture")?,
         line: given.text("LINE")?,
@@ -139,7 +168,7 @@ fn apart_in<'a>(given: &Given<'a>) -> Option<CaptureNames<'a>> {
 }
 
 /// Whose the wire is, as the options of the subcommand say, or why they are refused.
-fn tenure_of(given: &Given<'_>) -> Result<Tenure, &'static str> {
+fn tenure_of(given: &ParsedArguments<'_>) -> Result<Tenure, &'static str> {
     let carried = given.text("carry");
     if !given.has("beside") {
         return match carried {
@@ -176,82 +205,162 @@ fn room_of(text: &str) -> Option<Room> {
 }
 
 /// The task of the subcommand that was given, or why its words are refused.
-fn task_of<'a>(given: &Given<'a>) -> Result<Task<'a>, &'static str> {
-    let line = given.word("LINE");
-    let form = form_of(given);
+fn task_of<'a>(given: &ParsedArguments<'a>) -> Result<Task<'a>, &'static str> {
     let task = match given.subcommand {
-        "scan" => Task::Scan {
-            sizes: sizes_in(given)?,
-            form,
+        "run" => Task::Run {
+            order: order_of(given)?,
+            folder: given.text("state"),
         },
-        "backup" => backup_task(given, sizes_in(given)?),
-        "init" => Task::Init {
-            line,
-            asked: asked_apart(given),
+        "recover" => match given.text("LINE") {
+            Some(line) => Task::Recover {
+                line,
+                asked: asked_separate(given)?,
+            },
+            None => Task::RecoverLast {
+                folder: folder_in(given)?,
+                asked: asked_separate(given)?,
+            },
         },
-        "run" => Task::Run(order_of(given)),
-        "plan" => Task::Plan {
-            order: order_of(given),
-            form,
-        },
-        "recover" => Task::Recover {
-            line,
-            asked: asked_apart(given),
-        },
-        "explain" => Task::Explain {
-            code: code_asked(given)?,
-        },
-        _ => return Err("a subcommand is needed"),
+        "alias" | "write" => Task::Change(change_of(given)?),
+        _ => Task::Reads(reading_of(given)?),
     };
     Ok(task)
 }
 
-/// The task of `backup`: a line file is named, or a folder.
-fn backup_task<'a>(given: &Given<'a>, sizes: Sizes) -> Task<'a> {
-    match given.text("to") {
-        Some(folder) => Task::BackupTo { folder, sizes },
-        None => Task::Backup {
-            line: given.word("LINE"),
-            sizes,
+/// The same of a subcommand that leaves the words of all slaves as they are.
+fn reading_of<'a>(given: &ParsedArguments<'a>) -> Result<Reading<'a>, &'static str> {
+    let line = given.word("LINE");
+    let form = form_of(given);
+    let reading = match given.subcommand {
+        "scan" => Reading::Scan {
+            line: given.text("LINE"),
+            sizes: sizes_in(given)?,
+            form,
         },
-    }
+        "backup" => match given.text("to") {
+            Some(folder) => Reading::BackupTo {
+                folder,
+                sizes: sizes_in(given)?,
+            },
+            None => Reading::Backup {
+                line,
+                sizes: sizes_in(given)?,
+            },
+        },
+        "init" => Reading::Init {
+            line,
+            asked: asked_separate(given)?,
+        },
+        "plan" => Reading::Plan {
+            order: order_of(given)?,
+            form,
+        },
+        "read" | "show" | "diff" | "verify" => Reading::Look(look_of(given)?),
+        "explain" => Reading::Explain {
+            code: code_asked(given)?,
+        },
+        _ => return Err("a subcommand is needed"),
+    };
+    Ok(reading)
+}
+
+/// Which slave is read, and for what.
+fn look_of<'a>(given: &ParsedArguments<'a>) -> Result<Look<'a>, &'static str> {
+    let (which, file) = which_in(given, "FILE")?;
+    let form = form_of(given);
+    let purpose = match (given.subcommand, file) {
+        ("read", None) => Purpose::Read {
+            file: given.text("output"),
+        },
+        ("show", None) => Purpose::Show {
+            all: given.has("all"),
+            form,
+        },
+        ("diff", Some(file)) => Purpose::Diff { file, form },
+        ("verify", Some(file)) => Purpose::Verify { file },
+        (_, Some(_)) => return Err("only one slave is named"),
+        (_, None) => return Err("FILE is needed"),
+    };
+    Ok(Look {
+        which,
+        sizes: sizes_in(given)?,
+        purpose,
+    })
+}
+
+/// How one slave is changed.
+fn change_of<'a>(given: &ParsedArguments<'a>) -> Result<Change<'a>, &'static str> {
+    let new = if given.subcommand == "alias" {
+        let (which, value) = which_in(given, "VALUE")?;
+        let value = value.and_then(small_in);
+        (
+            which,
+            New::Alias(value.ok_or("VALUE is a number, 0 to 65535")?),
+        )
+    } else {
+        let (which, file) = which_in(given, "FILE")?;
+        let file = file.ok_or("FILE is needed")?;
+        (which, New::Image(file))
+    };
+    let (which, new) = new;
+    Ok(Change {
+        which,
+        sizes: sizes_in(given)?,
+        new,
+        folder: folder_in(given)?,
+        asked: asked_in(given)?,
+    })
+}
+
+/// The folder for what is kept of calls on one slave.
+fn folder_in<'a>(given: &ParsedArguments<'a>) -> Result<&'a str, &'static str> {
+    given.text("state").ok_or("--state DIR is needed, which the launcher gives where it isn't said")
 }
 
 /// The sizes of EEPROMs that are given.
-fn sizes_in(given: &Given<'_>) -> Result<Sizes, &'static str> {
+fn sizes_in(given: &ParsedArguments<'_>) -> Result<Sizes, &'static str> {
     sizes_of(given.word("words")).ok_or(
         "--words is SLAVE=N,.. with N from 64 to 4096, a multiple of 64",
     )
 }
 
 /// What `run` or `plan` is given.
-fn order_of<'a>(given: &Given<'a>) -> RunOrder<'a> {
-    RunOrder {
+fn order_of<'a>(given: &ParsedArguments<'a>) -> Result<RunOrder<'a>, &'static str> {
+    Ok(RunOrder {
         named: Named {
             line: given.word("LINE"),
             script: given.script(),
         },
-        asked: asked_in(given),
-    }
+        asked: asked_in(given)?,
+    })
 }
 
 /// What the flags ask for.
-fn asked_in(given: &Given<'_>) -> Asked {
-    Asked {
+fn asked_in(given: &ParsedArguments<'_>) -> Result<ScanOptions, &'static str> {
+    let mends = mends_of(
+        given.text("found"),
+        given.text("file"),
+        given.text("exchanged"),
+    );
+    Ok(ScanOptions {
         trusts_images: given.has("trust-images"),
         is_forced: given.has("force"),
         resizes: given.has("resize"),
+        any_device: given.has("any-device"),
+        mends: mends.ok_or(
+            "--found, --file and --exchanged are SLAVE,.. with numbers from 0 to 63, each once",
+        )?,
         tells: Tells {
             report: given.has("report"),
             events: given.has("events"),
         },
-    }
+    })
 }
 
 /// What the flags of `init` and `recover` ask for. Their `--force` is about EEPROMs beside a master, and not about slaves in operation.
-fn asked_apart(given: &Given<'_>) -> Asked {
-    Asked {
+fn asked_separate(given: &ParsedArguments<'_>) -> Result<ScanOptions, &'static str> {
+    Ok(ScanOptions {
         is_forced: false,
-        ..asked_in(given)
-    }
+        ..asked_in(given)?
+    })
 }

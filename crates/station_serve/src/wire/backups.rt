@@ -27,7 +27,8 @@ pub fn back_up_to<H: Clock + AllocGlobal, W: Wire, S: Store, O: Write>(
     store: &mut S,
     output: &mut O,
 ) -> Result<ExitStatus, WireFault> {
-    let line = dated_name(rt, folder)?;
+    let stem = dated_name(rt, folder, "%Y%m%d-%H%M%S")?;
+    let line = format!(in rt.alloc(); "{stem}.toml")?;
     let ended = back_up(rt, &line, sizes, wire, store, output)?;
     let name = Escaped {
         text: line.as_str(),
@@ -54,18 +55,22 @@ pub(crate) fn back_up<H: Clock + AllocGlobal, W: Wire, S: Store, O: Write>(
     all_done(begin_journal(rt.alloc(), line, store, output))
 }
 
-/// The name of a line file in this folder that says the date and the time now, in UTC, as `FOLDER/20261126-211500.toml`.
+/// A name in this folder that says the date and the time now, in UTC, in this form, as `FOLDER/20261126-211500`.
 ///
 /// # Errors
 ///
 /// `File` where the system's clock can't be read; `Memory`.
-fn dated_name<R: Clock + AllocGlobal>(rt: &R, folder: &str) -> Result<String, Fault> {
+pub(crate) fn dated_name<R: Clock + AllocGlobal>(
+    rt: &R,
+    folder: &str,
+    form: &str,
+) -> Result<String, Fault> {
     let Ok(now) = Timestamp::now(rt) else {
         return Err(Fault::File);
     };
     let there = Offset::UTC.to_datetime(now);
-    match there.strftime(rt.alloc(), "%Y%m%d-%H%M%S") {
-        Ok(stamp) => Ok(format!(in rt.alloc(); "{folder}/{stamp}.toml")?),
+    match there.strftime(rt.alloc(), form) {
+        Ok(stamp) => Ok(format!(in rt.alloc(); "{folder}/{stamp}")?),
         Err(_) => Err(Fault::Memory),
     }
 }

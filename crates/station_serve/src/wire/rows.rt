@@ -3,9 +3,13 @@
 use crate::arguments::{JSON, LINE, REPORT, VERBOSE};
 use crate::pages::explain_row;
 use crate::wire::shared_arguments::{
-    BESIDE, CAPTURE, CARRY, EVENTS, FORCE, QUIET, RESIZE, SCRIPT, TAKE, TRUST, WORDS,
+    ANY_DEVICE, BESIDE, CAPTURE, CARRY, EVENTS, EXCHANGED, FILE, FORCE, FOUND, QUIET, RESIZE,
+    SCRIPT, TAKE, TRUST, WORDS,
 };
-use command_line::{Argument, Kind, Program, Subcommand, TEXT, TIMEOUT, TYPED_COMMANDS, WIRE};
+use crate::wire::slave_rows::{alias_row, diff_row, read_row, show_row, verify_row, write_row};
+use command_line::{
+    Argument, INTERFACE, Kind, Program, STATE, Subcommand, TEXT, TIMEOUT, TYPED_COMMANDS, WIRE,
+};
 
 /// The help text on what `scan` prints.
 const SCAN_ANSWERS: &str = "Answers, a line for each slave:
@@ -21,15 +25,39 @@ Behind either stands:
   says W found F   W words are there by word 0x3e, and F were found: open where the
                    words don't repeat up to word 4096, and alike where all words
                    that were compared are the same, so that it can't be told
-  larger           it has more than 4096 words; the first 4096 are worked on";
+  larger           it has more than 4096 words; the first 4096 are worked on
+and with LINE:
+  file same        it has the words of its image file, but for those that a recovery
+                   writes
+  file absent      there is no image file; backup makes it
+  file differs words N first W has X kept Y usually R
+                   N words differ, the first of them W: the slave has X, and the file
+                   Y; R is what it usually is: elsewhere (place P: it is that slave of
+                   the line), same type, other type, torn, or changed";
+
+/// The line file of `scan`.
+const COMPARED_LINE: Argument = Argument {
+    kind: Kind::OptionalWord,
+    help: "The line file, to compare each slave with its image file",
+    ..LINE
+};
 
 const SCAN: Subcommand = Subcommand {
     name: "scan",
     about: "Prints what the slaves of the line are",
     long_about: "Brings up the line and reads the EEPROM of each slave. No word and no file is written, but for that of --capture.",
-    after_help: "Example:\n  sii_wire -i eth0 scan",
+    after_help: "Examples:\n  sii_wire -i eth0 scan\n  sii_wire -i eth0 scan line.toml",
     after_long_help: SCAN_ANSWERS,
-    arguments: &[WORDS, JSON, BESIDE, CARRY, TAKE, CAPTURE, QUIET],
+    arguments: &[
+        COMPARED_LINE,
+        WORDS,
+        JSON,
+        BESIDE,
+        CARRY,
+        TAKE,
+        CAPTURE,
+        QUIET,
+    ],
 };
 
 fn scan_row() -> Subcommand {
@@ -137,13 +165,16 @@ const RUN_ANSWERS: &str = "Answers:
                                  them no power cut can undo any more, and how
                                  many are in the slaves
 The script is one of sii_station, whose run --help shows a command of each kind. It
-is read before a frame is sent. In the end each image file has the words of its
-slave. After a fault of the line or the journal the image files are as they were.
-Recover the line then: each durable command is done as a whole.
+is read before a frame is sent. Each image file follows its slave: it has each word
+once the slave has shown it. After a fault of the line or the journal recover the
+line: each durable command is done as a whole.
 
 Before a word is written it is refused: an image file larger than its slave's EEPROM
 (fault 109), a slave above Pre-Operational (110), an EEPROM that its PDI has (111),
-and a command that makes word 0x3e tell another size than the EEPROM has (112).";
+a command that makes word 0x3e tell another size than the EEPROM has (112), an image of
+another vendor or product, or with fewer words than the EEPROM (114), and a slave that
+has other words than its image file (115), unless --found, --file or --exchanged names
+it. Commands of --file and --exchanged come first.";
 
 const RUN: Subcommand = Subcommand {
     name: "run",
@@ -160,6 +191,10 @@ const RUN: Subcommand = Subcommand {
         FORCE,
         TRUST,
         RESIZE,
+        ANY_DEVICE,
+        FOUND,
+        FILE,
+        EXCHANGED,
         REPORT,
         EVENTS,
         CAPTURE,
@@ -209,6 +244,10 @@ const PLAN: Subcommand = Subcommand {
         FORCE,
         TRUST,
         RESIZE,
+        ANY_DEVICE,
+        FOUND,
+        FILE,
+        EXCHANGED,
         CAPTURE,
         QUIET,
     ],
@@ -224,18 +263,44 @@ const RECOVER_ANSWERS: &str = "Answers:
                    the journal held B batches that weren't done, with C commands,
                    and W words of them were written to the slaves
 Each of these commands is then done as a whole, nothing of a command that didn't
-come to be durable is, and each image file has the words of its slave, also where
-it had others. A line can be recovered again at any time; of a line that is in
-order it says 0, 0, 0. After a fault of the line or the journal the image files
-are as they were. Recover the line again then.";
+come to be durable is, and each image file has the words of its slave. A line can
+be recovered again at any time; of a line that is in order it says 0, 0, 0. After
+a fault of the line or the journal recover the line again.
+
+A slave that has other words than its image file, outside of those that a recovery
+writes, is refused (fault 115) before a word is written, unless --found, --file or
+--exchanged names it. With --file and --exchanged recover prints as run does.
+
+Without LINE it recovers the line on which alias or write was cut, and prints
+  line NAME        the name of its line file
+first.";
+
+/// The line file of `recover`, where it isn't the line of the last call on one slave.
+const RECOVERED_LINE: Argument = Argument {
+    kind: Kind::OptionalWord,
+    help: "The line file; where it is left out, that of the last alias or write on this interface",
+    ..LINE
+};
 
 const RECOVER: Subcommand = Subcommand {
     name: "recover",
     about: "Recovers the line after a power cut",
     long_about: "Brings up the line, does what is live in its journal, and writes the words of each slave to its image file.",
-    after_help: "Example:\n  sii_wire -i eth0 recover line.toml",
+    after_help: "Examples:\n  sii_wire -i eth0 recover line.toml\n  sii_wire -i eth0 recover",
     after_long_help: RECOVER_ANSWERS,
-    arguments: &[LINE, BESIDE, CARRY, TAKE, TRUST, REPORT, CAPTURE, QUIET],
+    arguments: &[
+        RECOVERED_LINE,
+        BESIDE,
+        CARRY,
+        TAKE,
+        TRUST,
+        FOUND,
+        FILE,
+        EXCHANGED,
+        REPORT,
+        CAPTURE,
+        QUIET,
+    ],
 };
 
 fn recover_row() -> Subcommand {
@@ -244,9 +309,15 @@ fn recover_row() -> Subcommand {
 
 /// The subcommands, in the order of the help. A table that a function names becomes part of what is proved of it, so each row stands in a
 /// function of its own.
-pub(crate) fn rows() -> [Subcommand; 7] {
+pub(crate) fn rows() -> [Subcommand; 13] {
     [
         scan_row(),
+        read_row(),
+        show_row(),
+        alias_row(),
+        write_row(),
+        verify_row(),
+        diff_row(),
         backup_row(),
         init_row(),
         run_row(),
@@ -258,14 +329,15 @@ pub(crate) fn rows() -> [Subcommand; 7] {
 
 /// The help text on how the program is started, and on its exit status.
 const STARTING: &str =
-    "The network interface comes first: sii_wire -i eth0 scan. Without a name -i lists all;
---timeout MS (100) says after how long a frame is lost. Text goes to standard output,
-faults to standard error as: fault CODE NAME. explain says what a code means.
+    "The network interface comes first: sii_wire -i eth0 scan. Without a name -i lists all.
+A frame that isn't back after 100 milliseconds, or --timeout, is lost. Text goes to
+standard output, faults to standard error as: fault CODE NAME, and then what was seen
+and what to do, but for --quiet. explain says what a code means.
 Exit status: 0 done, 1 a command was refused, 2 wrong usage, 3 a file or its form,
 4 the line, 5 no memory.";
 
 /// What stands before the subcommand.
-const OPTIONS: &[Argument] = &[WIRE, TEXT, TIMEOUT, VERBOSE];
+const OPTIONS: &[Argument] = &[WIRE, TEXT, INTERFACE, TIMEOUT, STATE, VERBOSE];
 
 /// The program with these subcommands.
 pub(crate) fn wire_program(subcommands: &[Subcommand]) -> Program<'_> {

@@ -1,9 +1,11 @@
 //! The program as a function of its arguments and streams.
 
 use crate::pages::{explanation, print_page};
-use crate::wire::arguments::{Arguments, Task, Tenure};
+use crate::wire::arguments::{Arguments, Reading, Task, Tenure};
 use crate::wire::backups::{back_up, back_up_to};
 use crate::wire::capture::{begin_capture, end_capture};
+use crate::wire::changing::{change_slave, last_line, require_ended};
+use crate::wire::one_slave::look_at_slave;
 use command_line::{InputScript, Script};
 use line_watch::{Capture, Cleared, ObservedWire, Progress};
 use station_files::{ExitStatus, Failures, Fault, Store, report_fault};
@@ -17,15 +19,17 @@ use std::thread::Threads;
 use std::time::Duration;
 use wire_faults::WireFault;
 use wire_frames::{EthernetWire, NumberedWire, TimedWire, Wire};
-use wire_scan::{CaptureNames, keep_capture_apart, scan_line};
-use wire_session::{init_on_wire, plan_on_wire, recover_line, run_script};
+use wire_scan::{
+    CaptureNames, Mend, Mends, ScanOptions, keep_capture_separate, scan_files, scan_line,
+};
+use wire_session::{RunOrder, init_on_wire, mend_line, plan_on_wire, recover_line, run_script};
 
 /// A connection to a line.
 #[derive(Drop)]
 pub struct Connection<R, W> {
     /// The wire, which is read and written by these two.
     pub wire: EthernetWire<R, W>,
-    /// The number behind which the frames are numbered.
+    /// The number after which the frames are numbered.
     pub number: u32,
 }
 
@@ -35,7 +39,7 @@ pub struct Screen<'a, E, T> {
     /// The stream for faults.
     pub faults: &'a mut E,
     /// Whether a fault of the line has a second line.
-    pub is_told: bool,
+    pub is_reported: bool,
     /// The terminal for the line with the progress, if there is one.
     pub terminal: Option<T>,
 }
@@ -46,7 +50,7 @@ pub struct Screen<'a, E, T> {
 ///
 /// Each frame is written down in the file of the capture, if one is named, once it is sent or received. Where the capture can't begin, no
 /// frame is sent and nothing is read or written. If it can't be written further, the work goes on as without it, and the fault is printed
-/// behind all others.
+/// after all others.
 pub fn serve_on_wire<
     H: Wait + Threads + Clock + AllocGlobal + Sync,
     R: Read + Send + Drop,
@@ -86,7 +90,7 @@ fn serve_noting<
     store: &mut S,
     output: &mut O,
 ) -> ExitStatus {
-    let mut noting = Noting::new(rt.alloc(), store, screen.is_told);
+    let mut noting = Noting::new(rt.alloc(), store, screen.is_reported);
     serve_job(rt, arguments, screen, connection, &mut noting, output)
 }
 
@@ -110,7 +114,7 @@ fn serve_job<
     let Arguments {
         task,
         capture,
-        apart,
+        separate,
         time_out,
         tenure,
         is_quiet,
@@ -118,13 +122,13 @@ fn serve_job<
     } = arguments;
     let Screen {
         faults,
-        is_told,
+        is_reported,
         terminal,
     } = screen;
     let Connection { wire, number } = connection;
-    match begin_apart(rt.alloc(), capture, apart, store) {
+    match begin_separate(rt.alloc(), capture, separate, store) {
         Ok(begun) => {
-            let job = Job {
+            let job = WireJob {
                 task,
                 time_out,
                 tenure,
@@ -132,7 +136,7 @@ fn serve_job<
                 terminal: if is_quiet { None } else { terminal },
             };
             let ended = do_observed(rt, job, begun.as_ref(), wire, store, output);
-            let status = status_of(ended, is_told, store, faults);
+            let status = status_of(ended, is_reported, store, faults);
             let mut failures = Failures::none();
             let status = end_capture(begun, status, &mut failures);
             failures.print(faults);
@@ -141,7 +145,7 @@ fn serve_job<
         Err(fault) => {
             drop(wire);
             let status = report_fault(fault, faults);
-            if is_told {
+            if is_reported {
                 tell_file(fault, CAPTURE_OR_OUTPUT, store, faults);
             }
             status
@@ -151,7 +155,7 @@ fn serve_job<
 
 /// What is done on a wire, and how.
 #[derive(Drop)]
-struct Job<'a, T> {
+struct WireJob<'a, T> {
     task: Task<'a>,
     time_out: Option<Duration>,
     tenure: Tenure,
@@ -171,13 +175,13 @@ fn do_observed<
     T: Write + Send + Drop,
 >(
     rt: &H,
-    job: Job<'_, T>,
+    job: WireJob<'_, T>,
     capture: Option<&Capture<S::File>>,
     wire: EthernetWire<R, W>,
     store: &mut S,
     output: &mut O,
 ) -> Result<ExitStatus, WireFault> {
-    let Job {
+    let WireJob {
         task,
         time_out,
         tenure,
@@ -200,15 +204,15 @@ fn do_observed<
 ///
 /// # Errors
 ///
-/// As for `keep_capture_apart`, and then as for `begin_capture`.
-fn begin_apart<S: Store>(
+/// As for `keep_capture_separate`, and then as for `begin_capture`.
+fn begin_separate<S: Store>(
     alloc: Global,
     capture: Option<&str>,
-    apart: Option<CaptureNames<'_>>,
+    separate: Option<CaptureNames<'_>>,
     store: &mut S,
 ) -> Result<Option<Capture<S::File>>, Fault> {
-    if let Some(names) = apart {
-        keep_capture_apart(alloc, names, store)?;
+    if let Some(names) = separate {
+        keep_capture_separate(alloc, names, store)?;
     }
     begin_capture(capture, store)
 }
@@ -230,26 +234,116 @@ fn do_task<
 >(
     rt: &H,
     task: Task<'_>,
-    mut wire: NumberedWire<W>,
+    wire: NumberedWire<W>,
     store: &mut S,
     output: &mut O,
 ) -> Result<ExitStatus, WireFault> {
     match task {
-        Task::Scan { sizes, form } => all_done(scan_line(rt, &mut wire, &sizes, form, output)),
-        Task::Backup { line, sizes } => back_up(rt, line, &sizes, &mut wire, store, output),
-        Task::BackupTo { folder, sizes } => {
-            back_up_to(rt, folder, &sizes, &mut wire, store, output)
-        }
-        Task::Init { line, asked } => {
-            all_done(init_on_wire(rt, &mut wire, line, asked, store, output))
-        }
-        Task::Run(order) => run_script(rt, wire, order, store, output).into_ended(),
-        Task::Plan { order, form } => plan_on_wire(rt, &mut wire, order, form, store, output),
-        Task::Recover { line, asked } => {
-            all_done(recover_line(rt, wire, line, asked, store, output).into_ended())
-        }
-        Task::Explain { code } => all_done(print_page(explanation(rt.alloc(), code), output)),
+        Task::Reads(task) => do_reading(rt, task, wire, store, output),
+        Task::Run { order, folder } => run(rt, wire, order, folder, store, output),
+        Task::Recover { line, asked } => recover(rt, wire, line, asked, store, output),
+        Task::RecoverLast { folder, asked } => recover_last(rt, wire, folder, asked, store, output),
+        Task::Change(change) => change_slave(rt, wire, change, store, output),
     }
+}
+
+/// Carries out a task that leaves the words of all slaves as they are.
+fn do_reading<H: Clock + AllocGlobal, W: Wire + Drop, S: Store, O: Write>(
+    rt: &H,
+    task: Reading<'_>,
+    wire: NumberedWire<W>,
+    store: &mut S,
+    output: &mut O,
+) -> Result<ExitStatus, WireFault> {
+    let mut wire = wire;
+    let ended = read(rt, task, &mut wire, store, output);
+    drop(wire);
+    ended
+}
+
+/// The same on a wire that is used further.
+fn read<H: Clock + AllocGlobal, W: Wire, S: Store, O: Write>(
+    rt: &H,
+    task: Reading<'_>,
+    wire: &mut NumberedWire<W>,
+    store: &mut S,
+    output: &mut O,
+) -> Result<ExitStatus, WireFault> {
+    match task {
+        Reading::Scan { line, sizes, form } => all_done(match line {
+            Some(line) => scan_files(rt, wire, line, form, store, output),
+            None => scan_line(rt, wire, &sizes, form, output),
+        }),
+        Reading::Backup { line, sizes } => back_up(rt, line, &sizes, wire, store, output),
+        Reading::BackupTo { folder, sizes } => back_up_to(rt, folder, &sizes, wire, store, output),
+        Reading::Init { line, asked } => {
+            all_done(init_on_wire(rt, wire, line, asked, store, output))
+        }
+        Reading::Plan { order, form } => plan_on_wire(rt, wire, order, form, store, output),
+        Reading::Look(look) => look_at_slave(rt, wire, look, store, output),
+        Reading::Explain { code } => all_done(print_page(explanation(rt.alloc(), code), output)),
+    }
+}
+
+/// Runs a script on a line, unless a call on one slave was cut that has its files in this folder.
+fn run<H: Wait + Threads + Clock + AllocGlobal + Sync, W: Wire + Send + Drop, S: Store, O: Write>(
+    rt: &H,
+    wire: NumberedWire<W>,
+    order: RunOrder<'_>,
+    folder: Option<&str>,
+    store: &mut S,
+    output: &mut O,
+) -> Result<ExitStatus, WireFault> {
+    if let Some(folder) = folder {
+        require_ended(rt.alloc(), folder, store)?;
+    }
+    run_script(rt, wire, order, store, output).into_ended()
+}
+
+/// Recovers the line on which the last call that changed one slave was cut.
+fn recover_last<
+    H: Wait + Threads + Clock + AllocGlobal + Sync,
+    W: Wire + Send + Drop,
+    S: Store,
+    O: Write,
+>(
+    rt: &H,
+    wire: NumberedWire<W>,
+    folder: &str,
+    asked: ScanOptions,
+    store: &mut S,
+    output: &mut O,
+) -> Result<ExitStatus, WireFault> {
+    let line = last_line(rt.alloc(), folder)?;
+    writeln!(output, "line {line}")?;
+    recover(rt, wire, line.as_str(), asked, store, output)
+}
+
+/// Recovers a line, and writes the image files to their slaves of which that is said.
+fn recover<
+    H: Wait + Threads + Clock + AllocGlobal + Sync,
+    W: Wire + Send + Drop,
+    S: Store,
+    O: Write,
+>(
+    rt: &H,
+    wire: NumberedWire<W>,
+    line: &str,
+    asked: ScanOptions,
+    store: &mut S,
+    output: &mut O,
+) -> Result<ExitStatus, WireFault> {
+    if writes_images(&asked.mends) {
+        return mend_line(rt, wire, line, asked, store, output).into_ended();
+    }
+    all_done(recover_line(rt, wire, line, asked, store, output).into_ended())
+}
+
+/// Whether image files are to be written to their slaves.
+fn writes_images(mends: &Mends) -> bool {
+    mends
+        .iter()
+        .any(|said| matches!(said, Mend::File | Mend::Exchanged))
 }
 
 /// `Done` where no fault came.
@@ -261,10 +355,10 @@ where
     Ok(ExitStatus::Done)
 }
 
-/// The exit status for a result: that of what was done, or that of the fault, which is printed, with what there is to tell of it if `is_told`.
+/// The exit status for a result: that of what was done, or that of the fault, which is printed, with what there is to tell of it if `is_reported`.
 fn status_of<S: Store, E: Write>(
     ended: Result<ExitStatus, WireFault>,
-    is_told: bool,
+    is_reported: bool,
     store: &Noting<'_, S>,
     faults: &mut E,
 ) -> ExitStatus {
@@ -272,7 +366,7 @@ fn status_of<S: Store, E: Write>(
         Ok(status) => status,
         Err(fault) => {
             let _ = writeln!(faults, "{fault}");
-            if is_told {
+            if is_reported {
                 let _ = fault.tell(faults);
                 if let WireFault::Station(fault) = fault {
                     tell_file(fault, OUTPUT, store, faults);
@@ -290,8 +384,8 @@ fn tell_file<S: Store, E: Write>(
     store: &Noting<'_, S>,
     faults: &mut E,
 ) {
-    if let Some(told) = store.told(fault.code(), streams) {
-        let _ = writeln!(faults, "{told}; see sii_wire explain");
+    if let Some(reported) = store.reported(fault.code(), streams) {
+        let _ = writeln!(faults, "{reported}; see sii_wire explain");
     }
 }
 

@@ -5,7 +5,7 @@ use command_line::{Argument, Kind};
 pub(crate) const SCRIPT: Argument = Argument {
     id: "SCRIPT",
     kind: Kind::WordUnless("command"),
-    help: "The script file: the commands in order, in TOML",
+    help: "The script file: the commands in order, in TOML; - for standard input",
     long_help: "",
 };
 
@@ -44,6 +44,13 @@ pub(crate) const RESIZE: Argument = Argument {
     id: "resize",
     kind: Kind::Flag,
     help: "Lets commands make word 0x3e tell another size than the EEPROM has",
+    long_help: "",
+};
+
+pub(crate) const ANY_DEVICE: Argument = Argument {
+    id: "any-device",
+    kind: Kind::Flag,
+    help: "Takes an image of another vendor or product, or with fewer words than the EEPROM",
     long_help: "",
 };
 
@@ -87,12 +94,13 @@ pub(crate) const TAKE: Argument = Argument {
 pub(crate) const QUIET: Argument = Argument {
     id: "quiet",
     kind: Kind::ShortFlag('q'),
-    help: "Draws no line with the progress",
-    long_help: "Draws no line with the progress. Without this option, where standard error is a
-terminal and the work takes longer than a second, a line there says how many words
-were read and how many were written, each as often as that was done, and how many
-slaves are busy with one. It is drawn over itself ten times a second at most, and
-erased before anything else is printed and at the end.",
+    help: "Draws no line with the progress, and prints no second line of a fault",
+    long_help: "Draws no line with the progress, and prints no second line of a fault, which says what
+was seen and what to do. Without this option, where standard error is a terminal
+and the work takes longer than a second, a line there says how many words were read
+and how many were written, each as often as that was done, and how many slaves are
+busy with one. It is drawn over itself ten times a second at most, and erased before
+anything else is printed and at the end.",
 };
 
 /// What happens, as it happens.
@@ -129,4 +137,49 @@ pub(crate) const CAPTURE: Argument = Argument {
     kind: Kind::Text("FILE"),
     help: "Writes the frames on the wire to FILE, in the pcap format",
     long_help: CAPTURE_FILE,
+};
+
+/// The help text on which of a slave and its image file is right.
+const FOUND_HELP: &str =
+    "Takes the words of these slaves into their image files, where they differ: the slaves
+are right, as where another tool changed them, or one of another type was put there.
+Words that a recovery writes are written all the same.
+
+Example:
+  sii_wire -i eth0 recover line.toml --found 2,3";
+
+/// Slaves that are right.
+pub(crate) const FOUND: Argument = Argument {
+    id: "found",
+    kind: Kind::Text("SLAVE,.."),
+    help: "These slaves are right, and not their image files",
+    long_help: FOUND_HELP,
+};
+
+/// The help text on image files that are right.
+const FILE_HELP: &str =
+    "Writes to these slaves what their image files have, where they differ, as a command of
+its own before all others: the image files are right, as where another tool changed the
+slaves, or a power cut tore words beside one. A cut of that is recovered as any other.";
+
+/// Slaves whose image files are right.
+pub(crate) const FILE: Argument = Argument {
+    id: "file",
+    kind: Kind::Text("SLAVE,.."),
+    help: "The image files of these slaves are right",
+    long_help: FILE_HELP,
+};
+
+/// The help text on slaves that were exchanged.
+const EXCHANGED_HELP: &str =
+    "Writes to these slaves what their places had, as --file does, but for the serial
+number, which stays: each was exchanged for one of the same vendor and product. One of
+another type is refused.";
+
+/// Slaves that were exchanged.
+pub(crate) const EXCHANGED: Argument = Argument {
+    id: "exchanged",
+    kind: Kind::Text("SLAVE,.."),
+    help: "These slaves were exchanged, and get what their places had",
+    long_help: EXCHANGED_HELP,
 };

@@ -6,15 +6,16 @@ pub returns-in-Ok-clause-plans : goal.returns-in-Ok-clause-plans
 returns-in-Ok-clause-plans g c =
     let given = c.in-Ok.given in
     IfOk-weaker c.plan_found.result (PlansFound given.found.slaves.items given.found.journal.items given.commands.items)
-    (PlansOnWire g.S.Store.leads (g.S.Store.files c.args.store.now) c.args.order.named.line.now c.args.order.named.script.now)
+    (PlansOnWire c.args.order.asked.mends g.S.Store.leads (g.S.Store.files c.args.store.now) c.args.order.named.line.now c.args.order.named.script.now)
     (λ status plans. record {
       line = given.found.line;
       plant = given.found.slaves.items;
       bytes = given.found.journal.items;
       found = c.in-Ok.ensures.found;
+      kept = c.in-Ok.ensures.kept;
       commands = given.commands.items;
       spelt = c.in-Ok.ensures.spelt;
-      apart = c.in-Ok.ensures.apart;
+      separate = c.in-Ok.ensures.separate;
       plans = plans;
     })
     c.plan_found.ensures

@@ -1,22 +1,23 @@
-use Rattle.std.proofs.Common.{◌≡◌, false, length, ap, inr, refl, sym}
+use Rattle.std.proofs.Common.{length, ap, sym}
 use Rattle.std.specs.Prelude.{IsSomeAnd}
 use denote.Param.Send.{sendable}
 use Rattle.site_core.specs.State.{Seen}
-use Rattle.site_wire.specs.Following.{WireFollows}
 use Rattle.site_wire.proofs.Sent.{shared-send, wire-device-send}
+use Rattle.wire_mirror.proofs.Sent.{journal-file-send, mirrored-send}
 use Rattle.station_files.specs.declared.faults.ExitStatus.{ExitStatus}
 use Rattle.station_line.proofs.Opened.{old-by}
 use Rattle.wire_session.specs.Running.{SavesFound}
-use Rattle.site_wire.specs.Told.{TellsWire}
-use Rattle.wire_session.specs.Slaves.{EndsTold, SlavesHold}
+use Rattle.wire_session.specs.Slaves.{EndsReported, SlavesHold}
+use Rattle.wire_session.proofs.Mirrored.{device_in, follows_in, tells_in, well_in}
 use Rattle.wire_session.proofs.SlavesHeld.{slaves_hold}
 use Rattle.station_files.specs.declared.faults.Fault.TheVariants.{Memory}
-use Rattle.wire_session.proofs.Endings.{ends_refused}
-use Rattle.wire_session.proofs.RunEnds.{ends_found, told_own}
+use Rattle.wire_faults.specs.declared.faults.WireFault.TheVariants as wire
+use Rattle.wire_session.proofs.Endings.{opened_refused}
+use Rattle.wire_session.proofs.RunEnds.{ends_found, reported_own}
 use Rattle.wire_session.proofs.running.run_opened.Goals as goal
 
 pub run_site-requires-send-D : goal.run_site-requires-send-D
-run_site-requires-send-D g c κs lives = search (wire-device-send, shared-send, sendable) depth 40
+run_site-requires-send-D g c κs lives = search (mirrored-send, wire-device-send, journal-file-send, shared-send, sendable) depth 40
 
 pub run_site-requires-clause-old : goal.run_site-requires-clause-old
 run_site-requires-clause-old g c κs lives =
@@ -26,19 +27,19 @@ run_site-requires-clause-old g c κs lives =
 pub returns-in-Ok-site_of : goal.returns-in-Ok-site_of
 returns-in-Ok-site_of g c =
     let count = length c.args.found.line.now.images.items in
-    ends_found (λ last. IsSomeAnd c.run_site.result.told (λ told. EndsTold WireFollows (λ device. device.is_over ≡ false) TellsWire c.in-Ok-site_of.site count told last))
-    c.run_site.result (g.S.Store.files c.args.store.now) (g.S.Store.files c.open_journal.new.store) (g.S.Store.files c.run_site.new.store)
-    c.args.found.line.now c.args.found.slaves.now c.args.found.journal.items c.in-Ok-site_of.site c.args.work.commands.items c.open_journal.ensures.others
+    ends_found (λ last. IsSomeAnd c.run_site.result.reported (λ reported. EndsReported follows_in well_in tells_in c.in-Ok-site_of.site count reported last))
+    c.run_site.result (g.S.Store.files c.args.store.now) (g.S.Store.files c.open_line.new.store) (g.S.Store.files c.run_site.new.store)
+    c.args.found.line.now c.args.found.slaves.now c.args.found.journal.items c.in-Ok-site_of.site c.args.work.commands.items c.open_line.ensures.others
     c.in-Ok-site_of.ensures
-    (λ s recovered way. told_own {Q = SlavesHold c.args.found.slaves.now s} c.run_site.result.told c.run_site.ensures.own
-    (λ told own ends. slaves_hold c.in-Ok-site_of.site count s told (ap (λ (seen : Seen). seen.past) c.in-Ok-site_of.ensures.seen) ends own c.args.found.slaves.now c.args.found.journal.items
+    (λ s recovered way. reported_own {Q = SlavesHold c.args.found.slaves.now s} c.run_site.result.reported c.run_site.ensures.own
+    (λ reported own ends. slaves_hold device_in c.in-Ok-site_of.site count s reported (ap (λ (seen : Seen). seen.past) c.in-Ok-site_of.ensures.seen) ends own c.args.found.slaves.now c.args.found.journal.items
     c.in-Ok-site_of.ensures.seen c.in-Ok-site_of.ensures.sizes (sym c.requires.count) recovered) way)
     c.run_site.ensures.ends
 
-pub returns-in-Err-site_of : goal.returns-in-Err-site_of
-returns-in-Err-site_of g c =
+pub returns : goal.returns
+returns g c =
     let found = c.args.found in
-    ends_refused
-    (λ (status : ExitStatus). SavesFound (g.S.Store.files c.open_journal.new.store) found.line.now found.slaves.now found.journal.items c.args.work.commands.items c.of_fault-in-Err-site_of.result.told status)
-    c.of_fault-in-Err-site_of.result.ended Memory (g.S.Store.files c.args.store.now) (g.S.Store.files c.open_journal.new.store) found.line.now
-    c.open_journal.ensures.others (inr refl) c.of_fault-in-Err-site_of.ensures.ended
+    opened_refused
+    (λ (status : ExitStatus). SavesFound (g.S.Store.files c.open_line.new.store) found.line.now found.slaves.now found.journal.items c.args.work.commands.items c.of_fault-in-Err-site_of.result.reported status)
+    c.of_fault-in-Err-site_of.result.ended (wire.Station Memory) (g.S.Store.files c.args.store.now) (g.S.Store.files c.open_line.new.store) found.line.now
+    c.open_line.ensures.others c.of_fault-in-Err-site_of.ensures.ended

@@ -1,0 +1,413 @@
+//! The subcommands that change one slave, without a line file: `alias` and `write`. Each is a run on the line that is found, whose files lie in a
+//! folder of the station's.
+
+ghost use Rattle.std.specs.Prelude.{◌<◌, ◌≤◌, length, IfOk};
+
+use crate::wire::backups::dated_name;
+use crate::wire::one_slave::find_slaves;
+use crate::wire::serving::all_done;
+use crate::wire::which::Which;
+use line_changes::{Before, changes_since, put_changes};
+use sii_words::{ImageFile, Plant};
+use station_files::{Entry, ExitStatus, Fault, Place, Store, load_line, read_image};
+use station_listing::Code;
+use station_rows::{Form, Rows, named, said};
+use std::alloc::{AllocError, Global};
+use std::io::Write;
+use std::rt::Clock;
+use std::sync::Wait;
+use std::thread::Threads;
+use wire_bringup::{FoundLine, Sizes, look_along};
+use wire_faults::WireFault;
+use wire_frames::{NumberedWire, Wire};
+use wire_scan::{
+    Named, ScanOptions, save_backup, validate_image, validate_measures, validate_states,
+};
+use wire_session::{RunOrder, begin_journal, run_script};
+
+/// A change of one slave.
+#[derive(Clone, Copy)]
+pub struct Change<'a> {
+    /// The slave that is meant.
+    pub which: Which,
+    /// The sizes of EEPROMs, as far as they are given.
+    pub sizes: Sizes,
+    /// What it gets.
+    pub new: New<'a>,
+    /// The folder for the journal and for what is kept.
+    pub folder: &'a str,
+    /// What is asked for that isn't done where nothing is said.
+    pub asked: ScanOptions,
+}
+
+/// What a slave gets.
+#[derive(Clone, Copy)]
+pub enum New<'a> {
+    /// This configured station alias.
+    Alias(u16),
+    /// The image in this file.
+    Image(&'a str),
+}
+
+/// What is there for a run.
+#[derive(Drop)]
+struct Ready {
+    /// The name of the line file.
+    line: String,
+    /// The name of the script.
+    script: String,
+    /// The words of the slaves.
+    words: Plant,
+}
+
+/// What is noted of a line on which a call was cut.
+const CUT: &str =
+    "an earlier call was cut: recover, without a line file, ends it; of another line, name another folder by --state";
+
+/// The name of the line file of the last call that changed a slave, in this folder.
+///
+/// # Errors
+///
+/// Memory was refused.
+pub(crate) fn last_line(alloc: Global, folder: &str) -> Result<String, AllocError> {
+    format!(in alloc; "{folder}/line.toml")
+}
+
+/// Changes one slave of the line on this wire: writes what a run needs into the folder, under names with the date and the time, and runs it. Prints
+/// the name of the file with the image of the slave as it was, the answers of the run, and, if it ends well, the words that have changed, and that
+/// all is done. Returns the exit status.
+///
+/// # Errors
+///
+/// As for `make_ready`, with no word of a slave written; then as for `run_script`; then `File` or `Memory`, as files or the output answer.
+pub(crate) fn change_slave<
+    H: Wait + Threads + Clock + AllocGlobal + Sync,
+    W: Wire + Send + Drop,
+    S: Store,
+    O: Write,
+>(
+    rt: &H,
+    wire: NumberedWire<W>,
+    change: Change<'_>,
+    store: &mut S,
+    output: &mut O,
+) -> Result<ExitStatus, WireFault> {
+    let mut wire = wire;
+    match make_ready(rt, &mut wire, change, store, output) {
+        Ok(ready) => run_ready(rt, wire, change.asked, ready, store, output),
+        Err(fault) => {
+            drop(wire);
+            Err(fault)
+        }
+    }
+}
+
+/// Runs the script that was made ready, and prints what has changed, if it ends well.
+fn run_ready<
+    H: Wait + Threads + Clock + AllocGlobal + Sync,
+    W: Wire + Send + Drop,
+    S: Store,
+    O: Write,
+>(
+    rt: &H,
+    wire: NumberedWire<W>,
+    asked: ScanOptions,
+    ready: Ready,
+    store: &mut S,
+    output: &mut O,
+) -> Result<ExitStatus, WireFault> {
+    let order = RunOrder {
+        named: Named {
+            line: ready.line.as_str(),
+            script: ready.script.as_str(),
+        },
+        asked,
+    };
+    match run_script(rt, wire, order, store, output).into_ended() {
+        Ok(ExitStatus::Done) => tell_changed(rt.alloc(), ready, store, output),
+        ended => ended,
+    }
+}
+
+/// Looks whether an earlier call was cut, finds the line and the slave that is meant, and writes into the folder: the image of the slave as it is,
+/// whose name is printed; a backup of the line with an empty journal; and a script. The line file is the last one of the folder then. No word of a
+/// slave is written.
+///
+/// # Errors
+///
+/// `Exists` where an earlier call was cut; as for `read_image` of the new image; unless that is allowed, as for `validate_states`; as for `bring_up`;
+/// `NotOne` where not one slave is meant; as for `validate_measures`; unless that is allowed, as for `validate_image`; then as for `save_backup` and
+/// `begin_journal`, and `File` or `Memory`, as files or the output answer.
+fn make_ready<H: Clock + AllocGlobal, W: Wire, S: Store, O: Write>(
+    rt: &H,
+    wire: &mut NumberedWire<W>,
+    change: Change<'_>,
+    store: &mut S,
+    output: &mut O,
+) -> Result<Ready, WireFault> {
+    require_ended(rt.alloc(), change.folder, store)?;
+    let image = image_in(rt.alloc(), change.new, store)?;
+    match find_meant(rt, wire, change, image) {
+        Ok(meant) => write_ready(rt, change, meant, store, output),
+        Err(fault) => Err(fault),
+    }
+}
+
+/// The slaves of a line, and which of them is meant.
+#[derive(Drop)]
+struct Meant {
+    /// The words of all slaves.
+    words: Plant,
+    /// The place of the one that is meant.
+    place: usize,
+}
+
+/// Finds the line on this wire, and the slave that is meant, which may get this image.
+fn find_meant<H: Clock + AllocGlobal, W: Wire>(
+    rt: &H,
+    wire: &mut NumberedWire<W>,
+    change: Change<'_>,
+    image: Option<ImageFile>,
+) -> Result<Meant, WireFault>
+    ensures { IfOk result (λ meant. meant.place < length meant.words) }
+{
+    let meant = find_one(rt, wire, change)?;
+    match &image {
+        Some(image) if !change.asked.any_device => {
+            validate_image(meant.place, meant.words.slave(meant.place), image)?;
+        }
+        _ => {}
+    }
+    Ok(meant)
+}
+
+/// Finds the line on this wire, and the slave that is meant.
+fn find_one<H: Clock + AllocGlobal, W: Wire>(
+    rt: &H,
+    wire: &mut NumberedWire<W>,
+    change: Change<'_>,
+) -> Result<Meant, WireFault>
+    ensures { IfOk result (λ meant. meant.place < length meant.words) }
+{
+    if !change.asked.is_forced && !wire.is_lent() {
+        let seen = look_along(wire)?;
+        validate_states(&seen.states, usize::from(seen.slaves))?;
+    }
+    match find_slaves(rt, wire, &change.sizes) {
+        Ok(found) => meant_in(rt.alloc(), found, change),
+        Err(fault) => Err(WireFault::Line(fault)),
+    }
+}
+
+/// The slave that is meant on a line that was found.
+fn meant_in(alloc: Global, found: FoundLine, change: Change<'_>) -> Result<Meant, WireFault>
+    requires { length found.slaves.items ≤ 64 }
+    ensures { IfOk result (λ meant. meant.place < length meant.words) }
+{
+    let place = change.which.place_in(&found)?;
+    validate_measures(&found, &change.sizes)?;
+    match found.into_words(alloc) {
+        Ok(words) => Ok(Meant {
+            words: Plant::of(words),
+            place,
+        }),
+        Err(fault) => Err(WireFault::Line(fault)),
+    }
+}
+
+/// Writes into the folder what a run needs that changes this slave.
+fn write_ready<H: Clock + AllocGlobal, S: Store, O: Write>(
+    rt: &H,
+    change: Change<'_>,
+    meant: Meant,
+    store: &mut S,
+    output: &mut O,
+) -> Result<Ready, WireFault>
+    requires { meant.place < length meant.words }
+{
+    let stem = dated_name(rt, change.folder, "%Y%m%d-%H%M%S%.6f")?;
+    keep_image(rt.alloc(), stem.as_str(), &meant, store, output)?;
+    let script = write_script(rt.alloc(), stem.as_str(), meant.place, change.new, store)?;
+    match begin_line(
+        rt.alloc(),
+        change.folder,
+        stem.as_str(),
+        &meant.words,
+        store,
+    ) {
+        Ok(line) => Ok(Ready {
+            line,
+            script,
+            words: meant.words,
+        }),
+        Err(fault) => Err(fault),
+    }
+}
+
+/// Writes the image of the slave that is meant to a file, and prints its name.
+fn keep_image<S: Store, O: Write>(
+    alloc: Global,
+    stem: &str,
+    meant: &Meant,
+    store: &mut S,
+    output: &mut O,
+) -> Result<(), Fault>
+    requires { meant.now.place < length meant.now.words }
+{
+    let bytes = meant.words.slave(meant.place).to_bytes()?;
+    let before = format!(in alloc; "{stem}-before.bin")?;
+    store.write(before.as_str(), &bytes)?;
+    writeln!(output, "kept {before}")?;
+    output.flush()?;
+    Ok(())
+}
+
+/// Writes the script that gives the slave at this place what it is to get, and returns its name.
+fn write_script<S: Store>(
+    alloc: Global,
+    stem: &str,
+    place: usize,
+    new: New<'_>,
+    store: &mut S,
+) -> Result<String, Fault> {
+    let text = script_text(alloc, place, new)?;
+    let script = format!(in alloc; "{stem}-script.toml")?;
+    store.write(script.as_str(), text.as_bytes())?;
+    Ok(script)
+}
+
+/// Looks whether the last call that changed a slave has left nothing to do in the folder. In a folder that can't be read there was none.
+///
+/// # Errors
+///
+/// `Exists` where it was cut; as for `begin_journal`.
+pub(crate) fn require_ended<S: Store>(
+    alloc: Global,
+    folder: &str,
+    store: &mut S,
+) -> Result<(), WireFault> {
+    let line = last_line(alloc, folder)?;
+    if !matches!(store.look(line.as_str()), Ok(Entry::File { .. })) {
+        return Ok(());
+    }
+    let mut unseen: Vec<u8> = Vec::new(alloc);
+    let ended = begin_journal(alloc, line.as_str(), store, &mut unseen);
+    if let Err(WireFault::Station(Fault::Exists)) = ended {
+        store.note(Code::Exists, Place::File(line.as_str()), &CUT);
+    }
+    ended
+}
+
+/// The image that a slave gets, if it gets one.
+fn image_in<S: Store>(
+    alloc: Global,
+    new: New<'_>,
+    store: &mut S,
+) -> Result<Option<ImageFile>, Fault> {
+    match new {
+        New::Image(file) => {
+            let mut nothing: &[u8] = &[];
+            Ok(Some(read_image(alloc, false, Some(file), &mut nothing, store)?))
+        }
+        New::Alias(_) => Ok(None),
+    }
+}
+
+/// The script that gives the slave at this place what it is to get.
+fn script_text(alloc: Global, place: usize, new: New<'_>) -> Result<String, AllocError> {
+    match new {
+        New::Alias(value) => {
+            format!(in alloc; "[[command]]\nalias = {{ slave = {place}, value = {value} }}\n")
+        }
+        New::Image(file) => {
+            let file = spelt(alloc, file)?;
+            format!(in alloc; "[[command]]\nimage = {{ slave = {place}, file = \"{file}\" }}\n")
+        }
+    }
+}
+
+/// A text as it stands between double quotes in TOML.
+fn spelt(alloc: Global, text: &str) -> Result<String, AllocError> {
+    let mut spelt = String::new(alloc);
+    for letter in text.chars() {
+        if letter.is_control() || letter == '"' || letter == '\\' {
+            let code = letter as u32;
+            let escape = format!(in alloc; "\\u{code:04x}")?;
+            spelt.push_str(escape.as_str())?;
+        } else {
+            spelt.push(letter)?;
+        }
+    }
+    Ok(spelt)
+}
+
+/// Writes a backup of slaves with these words, and an empty journal; and makes its line file the last one of the folder. Returns the name of that.
+fn begin_line<S: Store>(
+    alloc: Global,
+    folder: &str,
+    stem: &str,
+    words: &Plant,
+    store: &mut S,
+) -> Result<String, WireFault> {
+    let line = format!(in alloc; "{stem}.toml")?;
+    save_words(alloc, line.as_str(), words, store)?;
+    let mut unseen: Vec<u8> = Vec::new(alloc);
+    begin_journal(alloc, line.as_str(), store, &mut unseen)?;
+    make_last(alloc, folder, line.as_str(), store)?;
+    Ok(line)
+}
+
+/// Writes a backup of slaves with these words.
+fn save_words<S: Store>(
+    alloc: Global,
+    line: &str,
+    words: &Plant,
+    store: &mut S,
+) -> Result<(), WireFault> {
+    let mut slaves = Vec::new(alloc);
+    for slave in 0..words.len() {
+        slaves.push(words.slave(slave).try_copy()?)?;
+    }
+    save_backup(alloc, line, &slaves, store)
+}
+
+/// Makes this line file the last one of the folder.
+fn make_last<S: Store>(
+    alloc: Global,
+    folder: &str,
+    line: &str,
+    store: &mut S,
+) -> Result<(), Fault> {
+    let Some(text) = store.read(alloc, line)? else {
+        return Err(Fault::File);
+    };
+    let last = last_line(alloc, folder)?;
+    store.write(last.as_str(), &text)?;
+    Ok(())
+}
+
+/// Prints the words that a run has changed, and that all is done.
+fn tell_changed<S: Store, O: Write>(
+    alloc: Global,
+    ready: Ready,
+    store: &mut S,
+    output: &mut O,
+) -> Result<ExitStatus, WireFault> {
+    let Ready { line, words, .. } = ready;
+    let line = load_line(alloc, line.as_str(), store)?;
+    all_done(tell_done(alloc, &Before { line, words }, store, output))
+}
+
+/// Prints the words that have changed since, and that all is done.
+fn tell_done<S: Store, O: Write>(
+    alloc: Global,
+    before: &Before,
+    store: &mut S,
+    output: &mut O,
+) -> Result<(), Fault> {
+    let report = changes_since(alloc, before, store)?;
+    let mut rows = Rows::new(alloc, Form::Text);
+    put_changes(&mut rows, &report.changes)?;
+    rows.say(&[said("", "done"), named("words", report.changes.len())])?;
+    rows.write(output)
+}

@@ -1,0 +1,180 @@
+//! The subcommands that read one slave, without a line file: `read`, `show`, `diff` and `verify`.
+ghost use Rattle.std.specs.Prelude.{◌≡◌, ◌≤◌, length, IfOk};
+
+use crate::wire::serving::all_done;
+use crate::wire::which::Which;
+use line_changes::{Compared, diff_images};
+use sii_words::ImageFile;
+use station_files::{Entry, ExitStatus, Fault, Place, Store, Wrong, read_image, write_complete};
+use station_listing::Code;
+use station_rows::{Form, ShowOptions, show_image};
+use std::alloc::Global;
+use std::io::Write;
+use std::rt::Clock;
+use wire_bringup::{FoundLine, Sizes, bring_up, hand_back};
+use wire_faults::WireFault;
+use wire_frames::{LineFault, NumberedWire, Wire};
+
+/// Which slave is read, and for what.
+#[derive(Clone, Copy)]
+pub struct Look<'a> {
+    /// The slave that is meant.
+    pub which: Which,
+    /// The sizes of EEPROMs, as far as they are given.
+    pub sizes: Sizes,
+    /// What is done with its words.
+    pub purpose: Purpose<'a>,
+}
+
+/// What is done with the words of a slave.
+#[derive(Clone, Copy)]
+pub enum Purpose<'a> {
+    /// They are written to the file of this name, or printed as bytes.
+    Read { file: Option<&'a str> },
+    /// What they say is printed, with `all` each item too.
+    Show { all: bool, form: Form },
+    /// What they and an image file differ in is printed.
+    Diff { file: &'a str, form: Form },
+    /// The words in which they differ from an image file are printed.
+    Verify { file: &'a str },
+}
+
+/// Brings up the line, and hands its EEPROMs back.
+///
+/// # Errors
+///
+/// As for `bring_up`, which finds 64 slaves at most.
+pub(crate) fn find_slaves<H: Clock + AllocGlobal, W: Wire>(
+    rt: &H,
+    wire: &mut NumberedWire<W>,
+    sizes: &Sizes,
+) -> Result<FoundLine, LineFault>
+    ensures { IfOk result (λ found. length found.slaves.items ≤ 64) }
+{
+    let found = bring_up(rt.alloc(), wire, rt, sizes)?;
+    hand_back(wire, &found.states());
+    Ok(found)
+}
+
+/// Reads one slave of the line on this wire, and prints what is asked for of its words. No word of a slave is written, and no file that is there.
+/// Returns the exit status: `Refused` where the words differ from an image.
+///
+/// # Errors
+///
+/// As for `bring_up`; `NotOne` where not one slave is meant; `Line` where it can't be worked on; as for `read_image` where a file is named;
+/// `Exists` where the file for the words holds others; `File` or `Memory`, as the file or the output answers.
+pub(crate) fn look_at_slave<H: Clock + AllocGlobal, W: Wire, S: Store, O: Write>(
+    rt: &H,
+    wire: &mut NumberedWire<W>,
+    look: Look<'_>,
+    store: &mut S,
+    output: &mut O,
+) -> Result<ExitStatus, WireFault> {
+    let found = find_slaves(rt, wire, &look.sizes)?;
+    let place = look.which.place_in(&found)?;
+    let image = image_of(&found, place)?;
+    tell_image(rt.alloc(), look.purpose, &image, store, output)
+}
+
+/// The bytes of the slave at this place.
+fn image_of(found: &FoundLine, place: usize) -> Result<Vec<u8>, WireFault> {
+    let Some(slave) = found.slaves.get(place) else {
+        return Err(WireFault::Line(LineFault::NoSlaves));
+    };
+    match &slave.words {
+        Ok(words) => Ok(words.to_bytes()?),
+        Err(why) => Err(WireFault::Line(LineFault::Slave {
+            slave: u16::try_from(place).unwrap_or(u16::MAX),
+            why: *why,
+        })),
+    }
+}
+
+/// Prints what is asked for of the image of a slave.
+fn tell_image<S: Store, O: Write>(
+    alloc: Global,
+    purpose: Purpose<'_>,
+    image: &[u8],
+    store: &mut S,
+    output: &mut O,
+) -> Result<ExitStatus, WireFault> {
+    let mut input = image;
+    let ended = match purpose {
+        Purpose::Read { file: None } => return all_done(write_complete(image, output)),
+        Purpose::Read { file: Some(name) } => return all_done(write_new(alloc, name, image, store)),
+        Purpose::Verify { file } => verify(alloc, image, file, store, output),
+        Purpose::Show { all, form } => {
+            let shown = ShowOptions {
+                hex: false,
+                all,
+                form,
+                file: None,
+            };
+            show_image(alloc, shown, &mut input, store, output)
+        }
+        Purpose::Diff { file, form } => {
+            let compared = Compared {
+                hex: false,
+                form,
+                old: None,
+                new: Some(file),
+            };
+            diff_images(alloc, compared, &mut input, store, output)
+        }
+    };
+    Ok(ended?)
+}
+
+/// Writes an image to a file that isn't there, or has these bytes already.
+fn write_new<S: Store>(
+    alloc: Global,
+    name: &str,
+    image: &[u8],
+    store: &mut S,
+) -> Result<(), Fault> {
+    if matches!(store.look(name)?, Entry::Absent) {
+        store.write(name, image)?;
+        return Ok(());
+    }
+    match store.read(alloc, name)? {
+        Some(held) if held.as_slice() == image => Ok(()),
+        _ => {
+            store.note(Code::Exists, Place::File(name), &Wrong::Exists);
+            Err(Fault::Exists)
+        }
+    }
+}
+
+/// Prints the words in which a slave with this image differs from the image in a file, of those that both have.
+fn verify<S: Store, O: Write>(
+    alloc: Global,
+    image: &[u8],
+    file: &str,
+    store: &mut S,
+    output: &mut O,
+) -> Result<ExitStatus, Fault>
+    ensures { S.files store.new ≡ S.files store.old }
+{
+    let mut nothing: &[u8] = &[];
+    let wanted = read_image(alloc, false, Some(file), &mut nothing, store)?;
+    let found = ImageFile::from_bytes(alloc, image)?;
+    let count = found.as_slice().len().min(wanted.as_slice().len());
+    let mut wrong = 0usize;
+    for (at, (held, wanted)) in found.as_slice().iter().zip(wanted.as_slice()).enumerate() {
+        let (held, wanted) = (*held, *wanted);
+        if held != wanted {
+            writeln!(
+                output,
+                "word 0x{at:04x} found 0x{held:04x} expected 0x{wanted:04x}"
+            )?;
+            wrong = wrong.saturating_add(1);
+        }
+    }
+    writeln!(output, "words {count} wrong {wrong}")?;
+    output.flush()?;
+    Ok(if wrong == 0 {
+        ExitStatus::Done
+    } else {
+        ExitStatus::Refused
+    })
+}

@@ -1,0 +1,126 @@
+//! Which slave of a line a call is about.
+ghost use Rattle.std.specs.Prelude.{◌<◌, length, IfOk};
+
+use command_line::{ParsedArguments, number_in, small_in};
+use sii_words::Words;
+use wire_bringup::FoundLine;
+use wire_faults::WireFault;
+
+/// Which slave is meant.
+#[derive(Clone, Copy)]
+pub enum Which {
+    /// The one at this place of the line, from 0.
+    Place(u16),
+    /// The one with this configured station alias.
+    Alias(u16),
+    /// The one of this vendor and with this product code; with this serial number too, if one is said.
+    Device {
+        vendor: u32,
+        product: u32,
+        serial: Option<u32>,
+    },
+}
+
+impl Which {
+    /// Whether the slave at this place is meant, which has these words, if they can be read.
+    fn fits(self, place: u16, words: Option<&Words>) -> bool {
+        match (self, words) {
+            (Which::Place(wanted), _) => place == wanted,
+            (_, None) => false,
+            (Which::Alias(alias), Some(words)) => words.alias() == alias,
+            (
+                Which::Device {
+                    vendor,
+                    product,
+                    serial,
+                },
+                Some(words),
+            ) => {
+                let own = words.identity();
+                own.vendor == vendor
+                    && own.product == product
+                    && serial.is_none_or(|serial| serial == own.serial)
+            }
+        }
+    }
+
+    /// The place of the slave that is meant on a line that was found.
+    ///
+    /// # Errors
+    ///
+    /// `NotOne` where it is none of the line, or where several are like this.
+    pub(crate) fn place_in(self, found: &FoundLine) -> Result<usize, WireFault>
+        ensures { IfOk result (λ place. place < length found.now.slaves.items) }
+    {
+        let mut count = 0usize;
+        let mut at = 0usize;
+        for (place, slave) in (0u16..).zip(&found.slaves) {
+            if self.fits(place, slave.words.as_ref().ok()) {
+                count = count.saturating_add(1);
+                at = usize::from(place);
+            }
+        }
+        let slaves = found.slaves.len();
+        if count == 1 && at < slaves {
+            return Ok(at);
+        }
+        Err(WireFault::NotOne {
+            found: count,
+            slaves,
+        })
+    }
+}
+
+/// The slave that the arguments mean, and the word `name` after it, if it is there. Where an option says the slave, the first word is that one.
+///
+/// # Errors
+///
+/// Why the words are refused.
+pub(crate) fn which_in<'a>(
+    given: &ParsedArguments<'a>,
+    name: &str,
+) -> Result<(Which, Option<&'a str>), &'static str> {
+    match (named(given)?, given.text("P"), given.text(name)) {
+        (Some(which), word, None) => Ok((which, word)),
+        (Some(_), _, Some(_)) => Err("P isn't taken with --alias or --device"),
+        (None, Some(place), word) => match number_in(place) {
+            Some(place) if place < 64 => Ok((Which::Place(place as u16), word)),
+            _ => Err("P is the slave's place on the line, 0 to 63"),
+        },
+        (None, None, _) => {
+            Err("which slave? P is its place on the line, from 0; or say --alias or --device")
+        }
+    }
+}
+
+/// The slave that an option means, if one is given.
+fn named(given: &ParsedArguments<'_>) -> Result<Option<Which>, &'static str> {
+    match (given.text("alias"), given.text("device")) {
+        (None, None) => Ok(None),
+        (Some(alias), None) => match small_in(alias) {
+            Some(alias) => Ok(Some(Which::Alias(alias))),
+            None => Err("--alias is a number, 0 to 65535"),
+        },
+        (None, Some(device)) => match device_in(device) {
+            Some(which) => Ok(Some(which)),
+            None => Err(
+                "--device is VENDOR:PRODUCT or VENDOR:PRODUCT:SERIAL, each a number, as 0x00000002",
+            ),
+        },
+        (Some(_), Some(_)) => Err("--alias isn't taken with --device"),
+    }
+}
+
+/// The device that a text spells: vendor, product code and perhaps serial number, with colons between them.
+fn device_in(text: &str) -> Option<Which> {
+    let (vendor, after) = text.split_once(':')?;
+    let (product, serial) = match after.split_once(':') {
+        Some((product, serial)) => (product, Some(number_in(serial)?)),
+        None => (after, None),
+    };
+    Some(Which::Device {
+        vendor: number_in(vendor)?,
+        product: number_in(product)?,
+        serial,
+    })
+}

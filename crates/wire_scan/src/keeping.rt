@@ -1,0 +1,358 @@
+//! Whether each slave is the one that its image file was written of, and what is to become of one that isn't.
+ghost use Rattle.std.specs.Prelude.{◌≡◌, ◌≤◌, [], length, map, unwrap_or, slice_get, None, IfOk, IfSome, OnOk};
+ghost use Rattle.std.specs.List.{AllByRecursion, AllZip};
+ghost use Rattle.sii_words.specs.Redo.{redone};
+ghost use Rattle.jrn_format.specs.Batch.{IsWithin};
+ghost use Rattle.book_model.specs.Entries.{live_runs};
+ghost use Rattle.station_files.specs.FileNames.{spelt};
+ghost use Rattle.wire_scan.specs.Keeping.{AreAlike, AreKept, AreMends, IsImageOf, KeepsEach};
+ghost use Rattle.wire_scan.specs.declared.asked.Mend.TheVariants.{Unsaid};
+
+use crate::asked::{Mend, Mends};
+use crate::plan::is_there;
+use crate::validating::copies_of;
+use jrn_format::Batch;
+use sii_edit::{Command, Edit, EditList};
+use sii_words::{ImageFile, Plant, Words};
+use slave_match::{Difference, Reason, difference_between, reason_of, redo_batches};
+use station_files::{Fault, Store, load_slave};
+use std::alloc::{AllocError, Global};
+use wire_faults::WireFault;
+
+/// The words of the serial number (ETG.1000.6).
+const SERIAL: [usize; 2] = [14, 15];
+
+/// A line whose slaves are those of their image files, but for what was said.
+#[derive(Drop)]
+pub(crate) struct Kept {
+    /// What each image file holds as the work begins.
+    pub(crate) images: Vec<Words>,
+    /// The command that writes image files to their slaves, if there is one.
+    pub(crate) commands: Vec<Command>,
+}
+
+/// The words of these image files. None where one isn't there.
+///
+/// # Errors
+///
+/// As for `load_slave`.
+pub(crate) fn load_images<S: Store>(
+    alloc: Global,
+    names: &[String],
+    store: &mut S,
+) -> Result<Vec<Option<Words>>, Fault>
+    ensures images { IfOk result (λ images. AllZip (IsImageOf (S.files store.old)) (spelt names.now) images.items) }
+    ensures count { IfOk result (λ images. length images.items ≡ length names.now) }
+    ensures same { S.files store.new ≡ S.files store.old }
+{
+    let mut images = Vec::new(alloc);
+    for name in names {
+        match load_image(alloc, name.as_str(), store) {
+            Ok(image) => images.push(image)?,
+            Err(fault) => return Err(fault),
+        }
+    }
+    Ok(images)
+}
+
+/// The words of this image file. None where it isn't there.
+fn load_image<S: Store>(alloc: Global, name: &str, store: &mut S) -> Result<Option<Words>, Fault>
+    ensures image { IfOk result (IsImageOf (S.files store.old) name.now) }
+    ensures same { S.files store.new ≡ S.files store.old }
+{
+    if !is_there(name, store)? {
+        return Ok(None);
+    }
+    Ok(Some(load_slave(alloc, name, store)?))
+}
+
+/// Looks whether each slave has the words of its image file, where there is one, outside of those that a recovery with these live batches writes.
+/// What is said of a slave counts in place of that.
+///
+/// # Errors
+///
+/// `OtherWords` for the first slave that has others; `Memory`.
+pub(crate) fn validate_kept(
+    alloc: Global,
+    slaves: &[Words],
+    images: &[Option<Words>],
+    batches: &[Batch],
+    mends: &Mends,
+) -> Result<Kept, WireFault>
+    requires some { 1 ≤ length slaves.now }
+    requires most { length slaves.now ≤ 64 }
+    requires count { length images.now ≡ length slaves.now }
+    requires within { AllByRecursion (IsWithin (map length slaves.now)) batches.now }
+    ensures kept { OnOk result (AreKept mends.now (live_runs batches.now) slaves.now images.now) }
+    ensures images { IfOk result (λ kept. length kept.images.items ≡ length slaves.now) }
+    ensures commands { IfOk result (λ kept. AreMends mends.now kept.commands.items) }
+{
+    let copies = copies_of(alloc, slaves)?;
+    let found = recovered(copies, batches);
+    let own = kept_words(alloc, slaves, images)?;
+    let kept = recovered(own, batches);
+    match first_refused(slaves, images, &found, &kept, mends) {
+        None => Ok(mended(alloc, slaves, &found, &kept, mends)?),
+        Some((slave, difference)) => Err(WireFault::OtherWords {
+            slave,
+            difference,
+            reason: reason_of(slave, slaves, images, batches),
+        }),
+    }
+}
+
+/// What a recovery with these live batches makes of slaves with these words.
+fn recovered(words: Vec<Words>, batches: &[Batch]) -> Plant
+    requires some { 1 ≤ length words.items }
+    requires most { length words.items ≤ 64 }
+    requires within { AllByRecursion (IsWithin (map length words.items)) batches.now }
+    ensures plant { result ≡ redone words.items (live_runs batches.now) }
+    ensures count { length result ≡ length words.items }
+{
+    let mut plant = Plant::of(words);
+    redo_batches(&mut plant, batches);
+    plant
+}
+
+/// The first slave that is refused, and in what it differs from its image file, where a recovery makes `found` of the slaves and `kept` of their image
+/// files.
+fn first_refused(
+    slaves: &[Words],
+    images: &[Option<Words>],
+    found: &Plant,
+    kept: &Plant,
+    mends: &Mends,
+) -> Option<(usize, Difference)>
+    requires most { length slaves.now ≤ 64 }
+    requires count { length images.now ≡ length slaves.now }
+    requires found { length found.now ≡ length slaves.now }
+    requires kept { length kept.now ≡ length slaves.now }
+    ensures { result ≡ None → AreAlike mends.now slaves.now images.now found.now kept.now }
+{
+    for slave in 0..slaves.len() {
+        let line = Side {
+            words: &slaves[slave],
+            redone: found.slave(slave),
+        };
+        match refused(
+            line,
+            &images[slave],
+            kept.slave(slave),
+            said_of(mends, slave),
+        ) {
+            None => {}
+            Some(difference) => return Some((slave, difference)),
+        }
+    }
+    None
+}
+
+/// What is said of a slave.
+fn said_of(mends: &Mends, slave: usize) -> Mend
+    ensures { result ≡ unwrap_or (slice_get mends.now slave) Unsaid }
+{
+    mends.get(slave).copied().unwrap_or(Mend::Unsaid)
+}
+
+/// What is seen of a slave beside its image file.
+#[derive(Clone, Copy)]
+pub(crate) enum Beside {
+    /// There is no image file.
+    Absent,
+    /// It has the words of its image file, but for those that a recovery writes.
+    Same,
+    /// It has others; and what that usually is.
+    Differs {
+        difference: Difference,
+        reason: Reason,
+    },
+}
+
+/// What is seen of each slave beside its image file, where these batches are live in the journal.
+///
+/// # Errors
+///
+/// Memory was refused.
+pub(crate) fn compare_all(
+    alloc: Global,
+    slaves: &[Words],
+    images: &[Option<Words>],
+    batches: &[Batch],
+) -> Result<Vec<Beside>, AllocError>
+    requires some { 1 ≤ length slaves.now }
+    requires most { length slaves.now ≤ 64 }
+    requires count { length images.now ≡ length slaves.now }
+    requires within { AllByRecursion (IsWithin (map length slaves.now)) batches.now }
+{
+    let copies = copies_of(alloc, slaves)?;
+    let found = recovered(copies, batches);
+    let own = kept_words(alloc, slaves, images)?;
+    let kept = recovered(own, batches);
+    let mut seen = Vec::new(alloc);
+    for slave in 0..slaves.len() {
+        let line = Side {
+            words: &slaves[slave],
+            redone: found.slave(slave),
+        };
+        let image = &images[slave];
+        let one = match refused(line, image, kept.slave(slave), Mend::Unsaid) {
+            Some(difference) => Beside::Differs {
+                difference,
+                reason: reason_of(slave, slaves, images, batches),
+            },
+            None if image.is_none() => Beside::Absent,
+            None => Beside::Same,
+        };
+        seen.push(one)?;
+    }
+    Ok(seen)
+}
+
+/// A slave: its words, and what a recovery makes of them.
+#[derive(Clone, Copy)]
+struct Side<'a> {
+    words: &'a Words,
+    redone: &'a Words,
+}
+
+/// In what a slave differs from its image file, of which a recovery makes `kept`, if that is refused.
+fn refused(line: Side<'_>, image: &Option<Words>, kept: &Words, mend: Mend) -> Option<Difference>
+    ensures { result ≡ None → mend ≡ Unsaid → IfSome image.now (λ image. (length image ≡ length line.entry.words.now) × (line.entry.redone.now ≡ kept.now)) }
+{
+    let image = image.as_ref()?;
+    let is_as_long = image.len() == line.words.len();
+    let found = if is_as_long {
+        difference_between(line.redone.as_slice(), kept.as_slice())?
+    } else {
+        difference_between(line.words.as_slice(), image.as_slice())?
+    };
+    let is_allowed = match mend {
+        Mend::Unsaid => false,
+        Mend::Slave => true,
+        Mend::File => is_as_long,
+        Mend::Exchanged => is_as_long && is_of_type(line.words, image),
+    };
+    if is_allowed { None } else { Some(found) }
+}
+
+/// Whether a slave has the vendor and the product of this image file.
+fn is_of_type(words: &Words, image: &Words) -> bool {
+    let (has, kept) = (words.identity(), image.identity());
+    has.vendor == kept.vendor && has.product == kept.product
+}
+
+/// The words of each image file, or those of its slave where it isn't there or has another number of them.
+fn kept_words(
+    alloc: Global,
+    slaves: &[Words],
+    images: &[Option<Words>],
+) -> Result<Vec<Words>, AllocError>
+    requires { length images.now ≡ length slaves.now }
+    ensures sizes { IfOk result (λ kept. map length kept.items ≡ map length slaves.now) }
+    ensures each { IfOk result (λ kept. KeepsEach slaves.now images.now kept.items) }
+{
+    let mut kept = Vec::new(alloc);
+    for slave in 0..slaves.len() {
+        let own = kept_of(&slaves[slave], &images[slave])?;
+        kept.push(own)?;
+    }
+    Ok(kept)
+}
+
+/// The words of an image file, or those of its slave where it isn't there or has another number of them.
+fn kept_of(words: &Words, image: &Option<Words>) -> Result<Words, AllocError>
+    ensures size { IfOk result (λ own. length own ≡ length words.now) }
+    ensures own { IfOk result (λ own. IfSome image.now (λ i. length i ≡ length words.now → own ≡ i)) }
+{
+    match image {
+        Some(image) if image.len() == words.len() => image.try_copy(),
+        _ => words.try_copy(),
+    }
+}
+
+/// What each image file of a line holds as the work begins, and the command for its slaves, where a recovery makes `found` of the slaves and `kept` of
+/// their image files.
+fn mended(
+    alloc: Global,
+    slaves: &[Words],
+    found: &Plant,
+    kept: &Plant,
+    mends: &Mends,
+) -> Result<Kept, AllocError>
+    requires most { length slaves.now ≤ 64 }
+    requires found { length found.now ≡ length slaves.now }
+    requires kept { length kept.now ≡ length slaves.now }
+    ensures images { IfOk result (λ kept. length kept.images.items ≡ length slaves.now) }
+    ensures commands { IfOk result (λ kept. AreMends mends.now kept.commands.items) }
+{
+    let mut images = Vec::new(alloc);
+    let mut edits = Vec::new(alloc);
+    for slave in 0..slaves.len() {
+        let words = wanted(
+            &slaves[slave],
+            found.slave(slave),
+            kept.slave(slave),
+            mends[slave],
+        )?;
+        match written(alloc, slave, found.slave(slave), &words, mends[slave])? {
+            Some(edit) => edits.push(edit)?,
+            None => {}
+        }
+        images.push(words)?;
+    }
+    Ok(Kept {
+        images,
+        commands: grouped(alloc, edits)?,
+    })
+}
+
+/// One command with all these edits, if there are any: so that none of them is judged on slaves that the others have yet to mend.
+fn grouped(alloc: Global, edits: Vec<Edit>) -> Result<Vec<Command>, AllocError>
+    ensures { IfOk result (λ commands. edits.items ≡ [] → commands.items ≡ []) }
+{
+    let mut commands = Vec::new(alloc);
+    if !edits.is_empty() {
+        commands.push(Command::Group(EditList::from_vec(edits)))?;
+    }
+    Ok(commands)
+}
+
+/// What the image file of a slave with these words holds as the work begins.
+fn wanted(words: &Words, found: &Words, kept: &Words, mend: Mend) -> Result<Words, AllocError> {
+    match mend {
+        Mend::Unsaid | Mend::Slave => words.try_copy(),
+        Mend::File => kept.try_copy(),
+        Mend::Exchanged => {
+            let mut image = kept.try_copy()?;
+            for at in SERIAL {
+                if at < found.len() && at < image.len() {
+                    image.set(at, found.get(at));
+                }
+            }
+            Ok(image)
+        }
+    }
+}
+
+/// The edit that writes its image file to a slave of which a recovery makes `found`, if that is said and changes anything.
+fn written(
+    alloc: Global,
+    slave: usize,
+    found: &Words,
+    image: &Words,
+    mend: Mend,
+) -> Result<Option<Edit>, AllocError>
+    ensures { IfOk result (λ edit. mend ≡ Unsaid → edit ≡ None) }
+{
+    if !matches!(mend, Mend::File | Mend::Exchanged) {
+        return Ok(None);
+    }
+    if difference_between(found.as_slice(), image.as_slice()).is_none() {
+        return Ok(None);
+    }
+    let bytes = image.to_bytes()?;
+    match (u16::try_from(slave), ImageFile::from_bytes(alloc, &bytes)) {
+        (Ok(slave), Ok(image)) => Ok(Some(Edit::Image { slave, image })),
+        (_, Err(_)) | (Err(_), _) => Err(AllocError),
+    }
+}
