@@ -159,7 +159,7 @@ int main(int argc, char **argv) {
         if (value == &name && it + 1 == argc) return state_of(NULL), 0;
         helps |= is_among(word, " -h --help -V --version ");
         keeps |= is_among(word, " alias write ");
-        looks |= is_among(word, " alias write run recover ");
+        looks |= is_among(word, " alias write run recover pending ");
         text_named |= !strncmp(word, "--text", 6);
         if (value) *value = argv[++it];
         else if (strcmp(word, "-")) words[count++] = argv[it];

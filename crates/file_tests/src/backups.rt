@@ -15,7 +15,7 @@ use wire_practice::{NO_QUIRKS, PracticeClock, PracticeLine, PracticeSlave, Pract
 use wire_scan::backup_line;
 use wire_session::begin_journal;
 
-/// A file: its name, its first bytes, and how many it has. Those behind are 0.
+/// A file: its name, its first bytes, and how many it has. The others are 0.
 type File = (&'static str, &'static [u8], usize);
 
 /// The text of a new line file.
@@ -153,7 +153,7 @@ fn is_backup(alloc: Global, shelf: &Shelf, alias: u16, area: u32) -> Result<bool
     )
 }
 
-/// Whether a backup ends so where these files are there before: well, or with this file told, and nothing written.
+/// Whether a backup ends so where these files are there before: well, or with this file reported, and nothing written.
 fn ends_so<R: Clock + AllocGlobal>(
     rt: &R,
     files: &[File],
@@ -201,7 +201,7 @@ fn left_by<R: Clock + AllocGlobal>(
 }
 
 /// Whether a backup in which this goes wrong can be made again, while the slaves are as they were; and, where slave 0 has another alias by now,
-/// whether that is told once its image file is there. Gives whether anything went wrong.
+/// whether that is reported once its image file is there. Gives whether anything went wrong.
 fn is_repeated<R: Clock + AllocGlobal>(
     rt: &R,
     trouble: Trouble,

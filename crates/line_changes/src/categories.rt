@@ -1,8 +1,7 @@
 //! The categories in which two images differ: item by item, and word by word where a content isn't read.
 
-use station_rows::{
-    CategoryItems, Cell, ItemListing, Line, Rows, Value, bare, data, lines_of, named, printed, said,
-};
+use station_listing::{ListedCategory, ListedChain};
+use station_rows::{Cell, Line, Rows, Value, bare, data, lines_of, named, printed, said};
 use std::alloc::AllocError;
 
 /// One of the two images: its key in JSON, and what text calls it.
@@ -32,12 +31,12 @@ const SECOND: Side = Side {
 /// Memory was refused.
 pub(crate) fn put_categories(
     rows: &mut Rows,
-    old: &ItemListing,
-    new: &ItemListing,
+    old: &ListedChain,
+    new: &ListedChain,
 ) -> Result<(), AllocError> {
-    match (old.runs_out, new.runs_out) {
-        (None, None) => put_chains(rows, old, new),
-        (one, other) if one == other => Ok(()),
+    match (old, new) {
+        (ListedChain::Complete(olds), ListedChain::Complete(news)) => put_chains(rows, olds, news),
+        (ListedChain::RunsOut { at }, ListedChain::RunsOut { at: other }) if at == other => Ok(()),
         (one, other) => {
             put_cut(rows, FIRST, one)?;
             put_cut(rows, SECOND, other)
@@ -45,29 +44,33 @@ pub(crate) fn put_categories(
     }
 }
 
-fn put_cut(rows: &mut Rows, side: Side, cut: Option<usize>) -> Result<(), AllocError> {
-    let Some(at) = cut else {
+fn put_cut(rows: &mut Rows, side: Side, chain: &ListedChain) -> Result<(), AllocError> {
+    let ListedChain::RunsOut { at } = chain else {
         return Ok(());
     };
     let row = [
         said("", "runs out"),
         data("image", side.key),
-        named("at", at),
+        named("at", *at),
         said("in", side.letter),
     ];
     rows.put("runs_out", &row)
 }
 
 /// Puts what two chains differ in. A category is compared with the one of its type that has as many others of this type before it.
-fn put_chains(rows: &mut Rows, old: &ItemListing, new: &ItemListing) -> Result<(), AllocError> {
-    for (place, category) in old.categories.iter().enumerate() {
-        match partner_of(&old.categories, place, &new.categories) {
+fn put_chains(
+    rows: &mut Rows,
+    old: &[ListedCategory],
+    new: &[ListedCategory],
+) -> Result<(), AllocError> {
+    for (place, category) in old.iter().enumerate() {
+        match partner_of(old, place, new) {
             Some(other) => put_category(rows, (old, category), (new, other))?,
             None => put_lonely(rows, FIRST, category)?,
         }
     }
-    for (place, category) in new.categories.iter().enumerate() {
-        if partner_of(&new.categories, place, &old.categories).is_none() {
+    for (place, category) in new.iter().enumerate() {
+        if partner_of(new, place, old).is_none() {
             put_lonely(rows, SECOND, category)?;
         }
     }
@@ -76,10 +79,10 @@ fn put_chains(rows: &mut Rows, old: &ItemListing, new: &ItemListing) -> Result<(
 
 /// The category of the other image that is compared with the one at this place.
 fn partner_of<'a>(
-    categories: &[CategoryItems],
+    categories: &[ListedCategory],
     place: usize,
-    others: &'a [CategoryItems],
-) -> Option<&'a CategoryItems> {
+    others: &'a [ListedCategory],
+) -> Option<&'a ListedCategory> {
     let kind = categories.get(place)?.kind;
     let mut before = 0usize;
     for category in categories.iter().take(place) {
@@ -91,7 +94,7 @@ fn partner_of<'a>(
 }
 
 /// The category of this type that has so many others of it before it.
-fn of_kind(categories: &[CategoryItems], kind: u16, before: usize) -> Option<&CategoryItems> {
+fn of_kind(categories: &[ListedCategory], kind: u16, before: usize) -> Option<&ListedCategory> {
     let mut passed = 0usize;
     for category in categories {
         let is_same = category.kind == kind;
@@ -104,7 +107,7 @@ fn of_kind(categories: &[CategoryItems], kind: u16, before: usize) -> Option<&Ca
 }
 
 /// Puts a category that only this image has.
-fn put_lonely(rows: &mut Rows, side: Side, category: &CategoryItems) -> Result<(), AllocError> {
+fn put_lonely(rows: &mut Rows, side: Side, category: &ListedCategory) -> Result<(), AllocError> {
     let row = [
         named("category", category.kind),
         said("", "words"),
@@ -117,8 +120,8 @@ fn put_lonely(rows: &mut Rows, side: Side, category: &CategoryItems) -> Result<(
 /// Puts what two categories of one type differ in, each with its image.
 fn put_category(
     rows: &mut Rows,
-    old: (&ItemListing, &CategoryItems),
-    new: (&ItemListing, &CategoryItems),
+    old: (&[ListedCategory], &ListedCategory),
+    new: (&[ListedCategory], &ListedCategory),
 ) -> Result<(), AllocError> {
     let (was, is) = (old.1.words.len(), new.1.words.len());
     if was != is {
@@ -139,7 +142,11 @@ fn put_category(
 }
 
 /// Puts the words in which two contents differ, of those that both have.
-fn put_words(rows: &mut Rows, old: &CategoryItems, new: &CategoryItems) -> Result<(), AllocError> {
+fn put_words(
+    rows: &mut Rows,
+    old: &ListedCategory,
+    new: &ListedCategory,
+) -> Result<(), AllocError> {
     for (at, (was, is)) in old.words.iter().zip(new.words.iter()).enumerate() {
         if *was != *is {
             let row = [

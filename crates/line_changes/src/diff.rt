@@ -80,7 +80,7 @@ fn print_difference<W: Write>(
 fn rows_of(alloc: Global, form: Form, difference: &Difference) -> Result<Rows, AllocError> {
     let mut rows = Rows::new(alloc, form);
     put_heads(&mut rows, difference.old, difference.new)?;
-    put_categories(&mut rows, &difference.old_items, &difference.new_items)?;
+    put_categories(&mut rows, &difference.old_chain, &difference.new_chain)?;
     put_words(&mut rows, &difference.words)?;
     Ok(rows)
 }

@@ -24,5 +24,5 @@ pub use redoing::{Redone, redo_by_threads};
 pub use saving::save_reported;
 pub use soundness::is_sound;
 pub use station_threads::CloseFault;
-pub use threads::{Left, NotServed, serve_by_threads, serve_task};
+pub use threads::{Left, NotServed, serve_task};
 pub use work::{Task, Work};

@@ -138,7 +138,8 @@ pub(crate) const STOPPED: CodeEntry = CodeEntry {
 pub(crate) const SLAVE_DEAD: CodeEntry = CodeEntry {
     name: "SlaveDead",
     explanation: "A slave doesn't take a word. The word failed three times, or the EEPROM stayed busy. Look at the slave, and recover \
-        the line once it answers. The journal keeps the command until then.",
+        the line once it answers. The journal keeps the command until then. On a wire pending says what the slave is to get, and gives it \
+        up where it can't be written any more.",
 };
 
 pub(crate) const NOT_A_JOURNAL: CodeEntry = CodeEntry {

@@ -110,3 +110,10 @@ pub(crate) const OTHER_WORDS: CodeEntry = CodeEntry {
         right: --found takes its words into the image file, --file writes those of the image file, and --exchanged gives a new slave of \
         the same type what its place had. Nothing was written.",
 };
+
+pub(crate) const NOTHING_PENDING: CodeEntry = CodeEntry {
+    name: "NothingPending",
+    explanation: "Nothing is pending for the slave that is to be given up. The slave with this number has all words that the journal names for \
+        it, or the line has no such slave. See with pending, without --give-up, for which slaves there is something, and recover the line. \
+        Nothing was written.",
+};

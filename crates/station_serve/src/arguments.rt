@@ -38,7 +38,11 @@ of each kind:
 
 A category's content is hexadecimal text of whole words; \"\" removes the
 category. A group is 1 to 64 edits, alias, category or image, that are done as
-one act. An edit with expect is refused where the slave has another identity.";
+one act. An edit with expect is refused where the slave has another identity.
+Outside a group, expect stands among the fields of the edit:
+  alias = { slave = 0, value = 7, expect = { vendor = 2, product = 0, revision = 0 } }
+With replace = true among its fields, an image may be one of another device, or
+have fewer words than the slave's EEPROM; only sii_wire looks at that.";
 
 /// The line file of a subcommand.
 pub(crate) const LINE: Argument = Argument {
@@ -77,6 +81,14 @@ pub(crate) fn form_of(given: &ParsedArguments<'_>) -> Form {
         Form::Json
     } else {
         Form::Text
+    }
+}
+
+/// The form in which the subcommands print that print lines: `LineRows` makes rows of these.
+pub(crate) fn lines_form(given: &ParsedArguments<'_>) -> Form {
+    match given.subcommand {
+        "alias" | "backup" | "init" | "pending" | "recover" | "run" | "write" => form_of(given),
+        _ => Form::Text,
     }
 }
 

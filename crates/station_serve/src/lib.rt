@@ -6,6 +6,7 @@ mod images;
 mod line_listings;
 mod line_work;
 mod pages;
+mod refusals;
 mod request;
 mod serving;
 mod streams;

@@ -33,8 +33,10 @@ of a line on which another station is busy it says fault 95 Busy.
 Exit status, as of run: 0 done, 1 a command was refused, 2 wrong usage, 3 a file
 or its form, 5 no memory. The highest that applies wins.
 
-Example:
-  sii_station plan line.toml script.toml";
+Examples:
+  sii_station plan line.toml script.toml
+  sii_station plan line.toml - < script.toml
+  sii_station plan line.toml script.toml --json";
 
 /// The help text on what `journal` prints, and on its exit status.
 const JOURNAL_ANSWERS: &str = "Answers:
@@ -86,7 +88,7 @@ const PLAN: Subcommand = Subcommand {
     about: "Says what a script would do to a line, and does nothing",
     long_about: "Reads what run would read, and prints how run would answer each command, which words of which slaves would change, how much \
         would be written, and the process image before and after if it would change. No file is written.",
-    after_help: "Example:\n  sii_station plan line.toml script.toml",
+    after_help: "Examples:\n  sii_station plan line.toml script.toml\n  sii_station plan line.toml - < script.toml",
     after_long_help: PLAN_ANSWERS,
     arguments: &[LINE, SCRIPT, TYPED_COMMANDS, JSON],
 };

@@ -1,9 +1,10 @@
 //! The subcommands that work on a line: `init`, `run` and `recover`.
 
-use crate::arguments::{LINE, QUIET, REPORT, SCRIPT, script_of};
+use crate::arguments::{JSON, LINE, QUIET, REPORT, SCRIPT, script_of};
 use command_line::{Argument, Kind, ParsedArguments, Subcommand, TYPED_COMMANDS};
 use line_changes::{Before, look_before, report_after};
-use station_files::{ExitStatus, Failures, Fault, Store, worse};
+use station_files::{ExitStatus, Fault, Store, worse};
+use station_rows::Form;
 use station_session::{AnswerStreams, Fuse, RunNames, Watch, recover_line, run_script};
 use std::alloc::Global;
 use std::io::Write;
@@ -18,6 +19,15 @@ pub(crate) struct RunTask<'a> {
     pub names: RunNames<'a>,
     /// A planned power cut, if there is one.
     pub fuse: Option<Fuse>,
+    /// Whether what has changed is printed at the end.
+    pub reports: bool,
+}
+
+/// What `recover` is asked for.
+#[derive(Clone, Copy)]
+pub(crate) struct RecoverTask<'a> {
+    /// The name of the line file.
+    pub line: &'a str,
     /// Whether what has changed is printed at the end.
     pub reports: bool,
 }
@@ -94,7 +104,7 @@ const INIT: Subcommand = Subcommand {
         must not be there yet.",
     after_help: "Example:\n  sii_station init line.toml",
     after_long_help: INIT_ANSWERS,
-    arguments: &[LINE],
+    arguments: &[LINE, JSON],
 };
 
 pub(crate) fn init_row() -> Subcommand {
@@ -108,7 +118,16 @@ const RUN: Subcommand = Subcommand {
         and prints the answer to each, brings them to the slaves by way of the journal, and saves images and journal.",
     after_help: "Examples:\n  sii_station run line.toml script.toml\n  sii_station run line.toml -e 'alias = { slave = 2, value = 7 }'",
     after_long_help: RUN_ANSWERS,
-    arguments: &[LINE, SCRIPT, TYPED_COMMANDS, FUSE, LEFT, REPORT, QUIET],
+    arguments: &[
+        LINE,
+        SCRIPT,
+        TYPED_COMMANDS,
+        FUSE,
+        LEFT,
+        REPORT,
+        JSON,
+        QUIET,
+    ],
 };
 
 pub(crate) fn run_row() -> Subcommand {
@@ -122,7 +141,7 @@ const RECOVER: Subcommand = Subcommand {
         images and journal. A journal of version 1 becomes one of version 2.",
     after_help: "Example:\n  sii_station recover line.toml",
     after_long_help: RECOVER_ANSWERS,
-    arguments: &[LINE, REPORT, QUIET],
+    arguments: &[LINE, REPORT, JSON, QUIET],
 };
 
 pub(crate) fn recover_row() -> Subcommand {
@@ -145,7 +164,7 @@ pub(crate) fn run_task<'a>(given: &ParsedArguments<'a>) -> Result<RunTask<'a>, &
     })
 }
 
-/// Runs a script, and prints what has changed if that is asked for.
+/// Runs a script, and prints what has changed, in this form, if that is asked for.
 pub(crate) fn serve_run<
     H: Wait + Threads + Clock + AllocGlobal + Sync,
     S: Store,
@@ -154,6 +173,7 @@ pub(crate) fn serve_run<
 >(
     watch: Watch<'_, T, H>,
     run: RunTask<'_>,
+    form: Form,
     store: &mut S,
     answers: AnswerStreams<'_, W>,
 ) -> ExitStatus {
@@ -165,38 +185,53 @@ pub(crate) fn serve_run<
         failures: &mut *failures,
     };
     let ended = run_script(watch, run.names, run.fuse, store, lent).map(|ran| ran.status);
-    end_report(alloc, looked, ended, store, output, failures)
+    end_report(
+        alloc,
+        form,
+        looked,
+        ended,
+        store,
+        AnswerStreams { output, failures },
+    )
 }
 
-/// Recovers a line, and prints what has changed if that is asked for.
+/// Recovers a line, and prints what has changed, in this form, if that is asked for.
 pub(crate) fn serve_recovery<H: Wait + Clock + AllocGlobal, S: Store, W: Write, T: Write>(
     watch: Watch<'_, T, H>,
-    line: &str,
-    reports: bool,
+    recovery: RecoverTask<'_>,
+    form: Form,
     store: &mut S,
     answers: AnswerStreams<'_, W>,
 ) -> ExitStatus {
     let alloc = watch.rt.alloc();
     let AnswerStreams { output, failures } = answers;
-    let looked = look_before(alloc, reports, line, store);
+    let looked = look_before(alloc, recovery.reports, recovery.line, store);
     let lent = AnswerStreams {
         output: &mut *output,
         failures: &mut *failures,
     };
-    let ended = recover_line(watch, line, store, lent).map(|recovery| recovery.status);
-    end_report(alloc, looked, ended, store, output, failures)
+    let ended = recover_line(watch, recovery.line, store, lent).map(|recovered| recovered.status);
+    end_report(
+        alloc,
+        form,
+        looked,
+        ended,
+        store,
+        AnswerStreams { output, failures },
+    )
 }
 
 /// Notes the fault that a run or a recovery ended with, if there is one, and prints what has changed if that is asked for.
 fn end_report<S: Store, W: Write>(
     alloc: Global,
+    form: Form,
     looked: Result<Option<Before>, Fault>,
     ended: Result<ExitStatus, Fault>,
     store: &mut S,
-    output: &mut W,
-    failures: &mut Failures,
+    answers: AnswerStreams<'_, W>,
 ) -> ExitStatus {
+    let AnswerStreams { output, failures } = answers;
     let status = failures.note_status(ended);
-    let reported = report_after(alloc, looked, status, store, output);
+    let reported = report_after(alloc, form, looked, status, store, output);
     worse(status, failures.note_end(reported))
 }

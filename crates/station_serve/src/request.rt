@@ -1,10 +1,14 @@
 //! What a command line asks for.
 
-use crate::arguments::{VERBOSE, form_of, script_of};
-use crate::images::{alias_row, alias_task, diff_row, diff_task, show_row, show_task};
+use crate::arguments::{VERBOSE, form_of, lines_form, script_of};
+use crate::images::{
+    alias_row, alias_task, diff_row, diff_task, show_row, show_task, verify_row, verify_task,
+    write_row, write_task,
+};
 use crate::line_listings::{journal_row, layout_row, plan_row};
-use crate::line_work::{RunTask, init_row, recover_row, run_row, run_task};
+use crate::line_work::{RecoverTask, RunTask, init_row, recover_row, run_row, run_task};
 use crate::pages::{MANUAL_HEAD, code_asked, completions_row, explain_row, man_row, shell_of};
+use crate::refusals::RunFiles;
 use command_line::{
     Argument, ParsedArguments, Program, Shell, Subcommand, Unread, completion_script, manual_page,
     read_typed, read_words, refuse,
@@ -39,6 +43,22 @@ pub enum Task<'a> {
     Show(ShowOptions<'a>),
     /// Prints what two images differ in.
     Diff(Compared<'a>),
+    /// Writes an image to a file with the words of a slave.
+    Write {
+        /// The name of the file.
+        name: &'a str,
+        /// The name of the image's file; `None` for standard input.
+        file: Option<&'a str>,
+        /// Whether the image may be that of another device.
+        any_device: bool,
+    },
+    /// Prints the words in which an image differs from another one.
+    Verify {
+        /// The name of the image's file; `None` for standard input.
+        found: Option<&'a str>,
+        /// The name of the other one's file; `None` for standard input.
+        wanted: Option<&'a str>,
+    },
     /// Makes an empty journal for a line.
     Init {
         /// The name of the line file.
@@ -47,12 +67,7 @@ pub enum Task<'a> {
     /// Runs a script on a line.
     Run(RunTask<'a>),
     /// Recovers a line.
-    Recover {
-        /// The name of the line file.
-        line: &'a str,
-        /// Whether what has changed is printed at the end.
-        reports: bool,
-    },
+    Recover(RecoverTask<'a>),
     /// Prints the process image of a line.
     Layout {
         /// The name of the line file.
@@ -99,6 +114,18 @@ impl<'a> Task<'a> {
             _ => None,
         }
     }
+
+    /// The files of a run, or of the plan of one.
+    pub(crate) fn run_files(self) -> Option<RunFiles<'a>> {
+        match self {
+            Task::Run(run) => Some(RunFiles {
+                line: run.names.line,
+                script: run.names.script,
+            }),
+            Task::Plan { line, script, .. } => Some(RunFiles { line, script }),
+            _ => None,
+        }
+    }
 }
 
 /// A command line that was read.
@@ -106,6 +133,8 @@ impl<'a> Task<'a> {
 pub(crate) struct Request<'a> {
     /// The subcommand with its arguments.
     pub task: Task<'a>,
+    /// How its lines are printed: as text, or as rows of JSON.
+    pub form: Form,
     /// The text of the script `TYPED`, where commands are typed in place of a script file.
     pub typed: Option<Vec<u8>>,
     /// Whether a second line is to follow the line of a fault.
@@ -116,11 +145,13 @@ pub(crate) struct Request<'a> {
 
 /// The subcommands, in the order of the help. A table that a function names becomes part of what is proved of it, so each row stands in a
 /// function of its own.
-fn rows() -> [Subcommand; 12] {
+fn rows() -> [Subcommand; 14] {
     [
         show_row(),
         diff_row(),
         alias_row(),
+        write_row(),
+        verify_row(),
         init_row(),
         plan_row(),
         run_row(),
@@ -173,6 +204,7 @@ pub(crate) fn read_arguments<'a>(
     match task_of(&given) {
         Ok(task) => Ok(Request {
             task,
+            form: lines_form(&given),
             typed: read_typed(alloc, program, &given)?,
             is_verbose: given.has("verbose"),
             is_quiet: given.has("quiet"),
@@ -188,13 +220,15 @@ fn task_of<'a>(given: &ParsedArguments<'a>) -> Result<Task<'a>, &'static str> {
     let task = match given.subcommand {
         "show" => show_task(given),
         "alias" => alias_task(given)?,
+        "write" => write_task(given),
+        "verify" => verify_task(given)?,
         "diff" => diff_task(given)?,
         "run" => Task::Run(run_task(given)?),
         "init" => Task::Init { line },
-        "recover" => Task::Recover {
+        "recover" => Task::Recover(RecoverTask {
             line,
             reports: given.has("report"),
-        },
+        }),
         "plan" => Task::Plan {
             line,
             script: script_of(given),

@@ -1,17 +1,20 @@
 //! The program as a function of its arguments and streams.
 
-use crate::images::alias_in_place;
+use crate::images::{alias_in_place, keep_images_separate, verify_image};
 use crate::line_work::{serve_recovery, serve_run};
 use crate::pages::{explanation, print_page};
+use crate::refusals::tell_refused;
 use crate::request::{Request, Task, completions_for, manual_of, read_arguments};
 use crate::streams::Streams;
 use command_line::{INPUT, InputScript, Script, Unread};
 use line_changes::{Compared, diff_images};
 use line_watch::Progress;
-use station_files::{ExitStatus, Failure, Failures, Fault, Store, report_fault, set_alias};
+use station_files::{
+    ExitStatus, Failure, Failures, Fault, Store, report_fault, set_alias, write_slave,
+};
 use station_line::init_line;
 use station_plan::{plan_script, show_journal};
-use station_rows::{ShowOptions, show_image, show_layout};
+use station_rows::{Form, LineRows, ShowOptions, show_image, show_layout};
 use station_session::{AnswerStreams, Watch};
 use station_troubles::{INPUT_OR_OUTPUT, Noting, OUTPUT, tell_more};
 use std::io::{Read, Write};
@@ -67,11 +70,16 @@ fn serve_request<
 ) -> ExitStatus {
     let Request {
         task,
+        form,
         typed,
         is_verbose,
         is_quiet,
     } = request;
-    let is_reported = terminal.is_some() || is_verbose;
+    let call = Call {
+        task,
+        form,
+        is_reported: terminal.is_some() || is_verbose,
+    };
     let terminal = if is_quiet { None } else { terminal };
     let begun = Progress::begin(rt, terminal);
     let watch = watch_of(rt, begun.as_ref());
@@ -81,7 +89,7 @@ fn serve_request<
         _ => None,
     };
     let mut joined = InputScript::new(store, script);
-    serve_and_tell(watch, task, is_reported, input, &mut joined, streams)
+    serve_and_tell(watch, call, input, &mut joined, streams)
 }
 
 /// The runtime, and the progress that counts what a task does.
@@ -89,8 +97,18 @@ fn watch_of<'a, T, H>(rt: &'a H, progress: Option<&'a Progress<T>>) -> Watch<'a,
     Watch { rt, progress }
 }
 
-/// Carries out a task, and then prints what has gone wrong. Where `is_reported` and that is a fault or a refusal of its own, a line more says what the
-/// first was about.
+/// A task, and how it is told.
+#[derive(Clone, Copy)]
+struct Call<'a> {
+    task: Task<'a>,
+    /// How its lines are printed.
+    form: Form,
+    /// Whether a fault or a refusal has a second line.
+    is_reported: bool,
+}
+
+/// Carries out a task, and then prints what has gone wrong. Where that has a second line, it says what the first was about, and one for each command
+/// that was refused says what to do. Rows of JSON say too what has gone wrong.
 fn serve_and_tell<
     H: Wait + Threads + Clock + AllocGlobal + Sync,
     R: Read,
@@ -100,21 +118,32 @@ fn serve_and_tell<
     T: Write + Send,
 >(
     watch: Watch<'_, T, H>,
-    task: Task<'_>,
-    is_reported: bool,
+    call: Call<'_>,
     input: &mut R,
     store: &mut S,
     streams: Streams<'_, W, E>,
 ) -> ExitStatus {
+    let Call {
+        task,
+        form,
+        is_reported,
+    } = call;
+    let alloc = watch.rt.alloc();
     let Streams { output, faults } = streams;
-    let mut noting = Noting::new(watch.rt.alloc(), store, is_reported);
+    let files = task.run_files();
+    let mut lines = LineRows::new(alloc, form, is_reported && files.is_some(), output);
+    let mut noting = Noting::new(alloc, store, is_reported);
     let mut failures = Failures::none();
     let answers = AnswerStreams {
-        output,
+        output: &mut lines,
         failures: &mut failures,
     };
-    let status = serve_task(watch, task, input, &mut noting, answers);
+    let status = serve_task(watch, call, input, &mut noting, answers);
     failures.print(faults);
+    if lines.is_json() {
+        failures.print(&mut lines);
+        let _ = lines.flush();
+    }
     match failures.first() {
         Some(failure) if is_reported => {
             let reported = noting.reported(failure.code(), streams_of(task));
@@ -122,14 +151,21 @@ fn serve_and_tell<
         }
         _ => {}
     }
+    if let Some(files) = files {
+        let refused = lines.refused();
+        tell_refused(alloc, "sii_station", files, refused, &mut noting, faults);
+    }
     status
 }
 
-/// What is told of the streams of a task, where one of them fails.
+/// What is reported of the streams of a task, where one of them fails.
 fn streams_of(task: Task<'_>) -> &'static str {
     match task {
         Task::Alias { file: None, .. }
         | Task::Show(ShowOptions { file: None, .. })
+        | Task::Write { file: None, .. }
+        | Task::Verify { found: None, .. }
+        | Task::Verify { wanted: None, .. }
         | Task::Diff(Compared { old: None, .. } | Compared { new: None, .. }) => INPUT_OR_OUTPUT,
         _ => OUTPUT,
     }
@@ -144,29 +180,38 @@ fn serve_task<
     T: Write + Send,
 >(
     watch: Watch<'_, T, H>,
-    task: Task<'_>,
+    call: Call<'_>,
     input: &mut R,
     store: &mut S,
     answers: AnswerStreams<'_, W>,
 ) -> ExitStatus {
     let alloc = watch.rt.alloc();
+    let form = call.form;
     let AnswerStreams { output, failures } = answers;
-    let ended = match task {
-        Task::Run(run) => return serve_run(watch, run, store, AnswerStreams { output, failures }),
-        Task::Recover { line, reports } => {
-            return serve_recovery(
-                watch,
-                line,
-                reports,
-                store,
-                AnswerStreams { output, failures },
-            );
+    if let Err(fault) = keep_images_separate(alloc, call.task, store) {
+        return failures.note(fault);
+    }
+    let ended = match call.task {
+        Task::Run(run) => {
+            return serve_run(watch, run, form, store, AnswerStreams { output, failures });
+        }
+        Task::Recover(recovery) => {
+            let lent = AnswerStreams { output, failures };
+            return serve_recovery(watch, recovery, form, store, lent);
         }
         Task::Alias { value, hex, file } => {
             done(set_alias(alloc, value, hex, file, input, store, output))
         }
         Task::AliasInPlace { value, hex, name } => {
             done(alias_in_place(alloc, value, hex, name, input, store))
+        }
+        Task::Write {
+            name,
+            file,
+            any_device,
+        } => done(write_slave(alloc, name, file, any_device, input, store)),
+        Task::Verify { found, wanted } => {
+            verify_image(alloc, found, wanted, input, store, output).map_err(Failure::from)
         }
         Task::Show(shown) => {
             show_image(alloc, shown, input, store, output).map_err(Failure::from)

@@ -1,3 +1,4 @@
+mod GivingUp
 mod Kept
 pub mod KeptWords
 mod Writing

@@ -102,7 +102,7 @@ pub(crate) fn validate_kept(
 }
 
 /// What a recovery with these live batches makes of slaves with these words.
-fn recovered(words: Vec<Words>, batches: &[Batch]) -> Plant
+pub(crate) fn recovered(words: Vec<Words>, batches: &[Batch]) -> Plant
     requires some { 1 ≤ length words.items }
     requires most { length words.items ≤ 64 }
     requires within { AllByRecursion (IsWithin (map length words.items)) batches.now }
@@ -306,7 +306,7 @@ fn mended(
     })
 }
 
-/// One command with all these edits, if there are any: so that none of them is judged on slaves that the others have yet to mend.
+/// One command with all these edits, if there are any: so that none of them is validated on slaves that the others have yet to mend.
 fn grouped(alloc: Global, edits: Vec<Edit>) -> Result<Vec<Command>, AllocError>
     ensures { IfOk result (λ commands. edits.items ≡ [] → commands.items ≡ []) }
 {

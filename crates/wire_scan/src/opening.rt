@@ -48,11 +48,11 @@ pub struct FoundWire<L> {
     pub journal: Vec<u8>,
     /// The lock of the journal, which keeps other stations away.
     pub lock: L,
-    /// What is to be told of the work.
+    /// What is to be reported of the work.
     pub tells: Tells,
 }
 
-/// Reads the line file `name`, locks the journal, brings up the line on this wire, and reads and judges the journal. No file changes, and no
+/// Reads the line file `name`, locks the journal, brings up the line on this wire, and reads and validates the journal. No file changes, and no
 /// word of a slave is written. Each slave has the size of its image file, where there is one. After a fault the EEPROMs are handed back.
 ///
 /// # Errors
@@ -121,7 +121,7 @@ fn bring_up_validated<R: Clock + AllocGlobal, W: Wire>(
     ensures most { IfOk result (λ found. length found.slaves.items ≤ 64) }
 {
     let sizes = sizes_of(images, asked.trusts_images);
-    // On a wire that is lent slaves may be in any state, and who has their EEPROMs is judged as they are opened.
+    // On a wire that is lent slaves may be in any state, and who has their EEPROMs is looked at as they are opened.
     if !asked.is_forced && !wire.is_lent() {
         let seen = look_along(wire)?;
         validate_states(&seen.states, usize::from(seen.slaves))?;

@@ -1,7 +1,8 @@
 //! What a command line asks for.
 
-use crate::arguments::form_of;
+use crate::arguments::{form_of, lines_form};
 use crate::pages::code_asked;
+use crate::refusals::RunFiles;
 use crate::wire::changing::{Change, New};
 use crate::wire::mends::mends_of;
 use crate::wire::one_slave::{Look, Purpose};
@@ -15,7 +16,7 @@ use std::alloc::Global;
 use std::time::Duration;
 use wire_bringup::Sizes;
 use wire_frames::{FRAME_BYTES, Room};
-use wire_scan::{CaptureNames, Named, ScanOptions, Tells};
+use wire_scan::{CaptureNames, Named, PendingOrder, ScanOptions, Tells};
 use wire_session::RunOrder;
 
 /// A command line: what it asks for, and where its text and its frames go.
@@ -31,6 +32,8 @@ pub struct Arguments<'a> {
     pub separate: Option<CaptureNames<'a>>,
     /// Whose the wire is.
     pub tenure: Tenure,
+    /// How lines are printed: as text, or as rows of JSON.
+    pub form: Form,
     /// Whether faults have a second line where standard error is no terminal, too.
     pub is_verbose: bool,
     /// Whether no line is drawn with the progress.
@@ -66,6 +69,13 @@ pub enum Task<'a> {
         folder: &'a str,
         /// What is asked for that isn't done where nothing is said.
         asked: ScanOptions,
+    },
+    /// Says what a recovery is still to write, and gives up a slave if that is said.
+    Pending {
+        /// The line file, where one is named, and what is asked for.
+        order: PendingOrder<'a>,
+        /// The folder of the last call that changed one slave, where no line file is named.
+        folder: Option<&'a str>,
     },
     /// Changes one slave.
     Change(Change<'a>),
@@ -120,6 +130,22 @@ pub enum Reading<'a> {
     },
 }
 
+impl<'a> Task<'a> {
+    /// The files of a run, or of the plan of one; no names where they aren't known.
+    pub(crate) fn run_files(self) -> RunFiles<'a> {
+        match self {
+            Task::Run { order, .. } | Task::Reads(Reading::Plan { order, .. }) => RunFiles {
+                line: order.named.line,
+                script: order.named.script,
+            },
+            _ => RunFiles {
+                line: "",
+                script: "",
+            },
+        }
+    }
+}
+
 /// Whose the wire is.
 #[derive(Clone, Copy)]
 pub enum Tenure {
@@ -149,6 +175,7 @@ pub fn read_arguments<'a>(alloc: Global, words: &'a [String]) -> Result<Argument
             capture: given.text("capture"),
             separate: separate_in(&given),
             tenure,
+            form: lines_form(&given),
             is_verbose: given.has("verbose"),
             is_quiet: given.has("quiet") || matches!(task, Task::Reads(Reading::Explain { .. })),
             task,
@@ -221,6 +248,7 @@ fn task_of<'a>(given: &ParsedArguments<'a>) -> Result<Task<'a>, &'static str> {
                 asked: asked_separate(given)?,
             },
         },
+        "pending" => pending_task(given)?,
         "alias" | "write" => Task::Change(change_of(given)?),
         _ => Task::Reads(reading_of(given)?),
     };
@@ -317,6 +345,32 @@ fn folder_in<'a>(given: &ParsedArguments<'a>) -> Result<&'a str, &'static str> {
     given.text("state").ok_or("--state DIR is needed, which the launcher gives where it isn't said")
 }
 
+/// The task of `pending`: of a line file that is named, or of the last call that changed one slave.
+fn pending_task<'a>(given: &ParsedArguments<'a>) -> Result<Task<'a>, &'static str> {
+    let order = PendingOrder {
+        line: given.word("LINE"),
+        asked: asked_separate(given)?,
+        gives_up: given_up(given)?,
+        form: form_of(given),
+    };
+    let folder = match given.text("LINE") {
+        Some(_) => None,
+        None => Some(folder_in(given)?),
+    };
+    Ok(Task::Pending { order, folder })
+}
+
+/// The slave that is given up, if one is.
+fn given_up(given: &ParsedArguments<'_>) -> Result<Option<u16>, &'static str> {
+    match given.text("give-up") {
+        None => Ok(None),
+        Some(text) => match small_in(text) {
+            Some(slave) => Ok(Some(slave)),
+            None => Err("--give-up is the number of a slave"),
+        },
+    }
+}
+
 /// The sizes of EEPROMs that are given.
 fn sizes_in(given: &ParsedArguments<'_>) -> Result<Sizes, &'static str> {
     sizes_of(given.word("words")).ok_or(
@@ -353,6 +407,7 @@ fn asked_in(given: &ParsedArguments<'_>) -> Result<ScanOptions, &'static str> {
         tells: Tells {
             report: given.has("report"),
             events: given.has("events"),
+            form: form_of(given),
         },
     })
 }

@@ -124,7 +124,7 @@ fn run_ready<
         asked,
     };
     match run_script(rt, wire, order, store, output).into_ended() {
-        Ok(ExitStatus::Done) => tell_changed(rt.alloc(), ready, store, output),
+        Ok(ExitStatus::Done) => tell_changed(rt.alloc(), asked.tells.form, ready, store, output),
         ended => ended,
     }
 }
@@ -389,25 +389,28 @@ fn make_last<S: Store>(
 /// Prints the words that a run has changed, and that all is done.
 fn tell_changed<S: Store, O: Write>(
     alloc: Global,
+    form: Form,
     ready: Ready,
     store: &mut S,
     output: &mut O,
 ) -> Result<ExitStatus, WireFault> {
     let Ready { line, words, .. } = ready;
     let line = load_line(alloc, line.as_str(), store)?;
-    all_done(tell_done(alloc, &Before { line, words }, store, output))
+    all_done(tell_done(alloc, form, &Before { line, words }, store, output))
 }
 
 /// Prints the words that have changed since, and that all is done.
 fn tell_done<S: Store, O: Write>(
     alloc: Global,
+    form: Form,
     before: &Before,
     store: &mut S,
     output: &mut O,
 ) -> Result<(), Fault> {
     let report = changes_since(alloc, before, store)?;
-    let mut rows = Rows::new(alloc, Form::Text);
+    let mut rows = Rows::new(alloc, form);
     put_changes(&mut rows, &report.changes)?;
-    rows.say(&[said("", "done"), named("words", report.changes.len())])?;
+    let row = [said("", "done"), named("words", report.changes.len())];
+    rows.put("done", &row)?;
     rows.write(output)
 }

@@ -1,11 +1,11 @@
 //! The subcommands that read one slave, without a line file: `read`, `show`, `diff` and `verify`.
-ghost use Rattle.std.specs.Prelude.{◌≡◌, ◌≤◌, length, IfOk};
+ghost use Rattle.std.specs.Prelude.{◌≤◌, length, IfOk};
 
+use crate::images::verify_image;
 use crate::wire::serving::all_done;
 use crate::wire::which::Which;
 use line_changes::{Compared, diff_images};
-use sii_words::ImageFile;
-use station_files::{Entry, ExitStatus, Fault, Place, Store, Wrong, read_image, write_complete};
+use station_files::{Entry, ExitStatus, Fault, Place, Store, Wrong, write_complete};
 use station_listing::Code;
 use station_rows::{Form, ShowOptions, show_image};
 use std::alloc::Global;
@@ -102,7 +102,9 @@ fn tell_image<S: Store, O: Write>(
     let ended = match purpose {
         Purpose::Read { file: None } => return all_done(write_complete(image, output)),
         Purpose::Read { file: Some(name) } => return all_done(write_new(alloc, name, image, store)),
-        Purpose::Verify { file } => verify(alloc, image, file, store, output),
+        Purpose::Verify { file } => {
+            verify_image(alloc, None, Some(file), &mut input, store, output)
+        }
         Purpose::Show { all, form } => {
             let shown = ShowOptions {
                 hex: false,
@@ -143,38 +145,4 @@ fn write_new<S: Store>(
             Err(Fault::Exists)
         }
     }
-}
-
-/// Prints the words in which a slave with this image differs from the image in a file, of those that both have.
-fn verify<S: Store, O: Write>(
-    alloc: Global,
-    image: &[u8],
-    file: &str,
-    store: &mut S,
-    output: &mut O,
-) -> Result<ExitStatus, Fault>
-    ensures { S.files store.new ≡ S.files store.old }
-{
-    let mut nothing: &[u8] = &[];
-    let wanted = read_image(alloc, false, Some(file), &mut nothing, store)?;
-    let found = ImageFile::from_bytes(alloc, image)?;
-    let count = found.as_slice().len().min(wanted.as_slice().len());
-    let mut wrong = 0usize;
-    for (at, (held, wanted)) in found.as_slice().iter().zip(wanted.as_slice()).enumerate() {
-        let (held, wanted) = (*held, *wanted);
-        if held != wanted {
-            writeln!(
-                output,
-                "word 0x{at:04x} found 0x{held:04x} expected 0x{wanted:04x}"
-            )?;
-            wrong = wrong.saturating_add(1);
-        }
-    }
-    writeln!(output, "words {count} wrong {wrong}")?;
-    output.flush()?;
-    Ok(if wrong == 0 {
-        ExitStatus::Done
-    } else {
-        ExitStatus::Refused
-    })
 }

@@ -3,8 +3,8 @@
 use crate::arguments::{JSON, LINE, REPORT, VERBOSE};
 use crate::pages::explain_row;
 use crate::wire::shared_arguments::{
-    ANY_DEVICE, BESIDE, CAPTURE, CARRY, EVENTS, EXCHANGED, FILE, FORCE, FOUND, QUIET, RESIZE,
-    SCRIPT, TAKE, TRUST, WORDS,
+    ANY_DEVICE, BESIDE, CAPTURE, CARRY, EVENTS, EXCHANGED, FILE, FORCE, FOUND, GIVE_UP, QUIET,
+    RESIZE, SCRIPT, TAKE, TRUST, WORDS,
 };
 use crate::wire::slave_rows::{alias_row, diff_row, read_row, show_row, verify_row, write_row};
 use command_line::{
@@ -113,6 +113,7 @@ const BACKUP: Subcommand = Subcommand {
         BACKED_LINE,
         FOLDER,
         WORDS,
+        JSON,
         BESIDE,
         CARRY,
         TAKE,
@@ -138,7 +139,7 @@ const INIT: Subcommand = Subcommand {
     long_about: "Brings up the line, and makes an empty journal for as many slaves. No word of a slave is written.",
     after_help: "Example:\n  sii_wire -i eth0 init line.toml",
     after_long_help: INIT_ANSWERS,
-    arguments: &[LINE, BESIDE, CARRY, TAKE, TRUST, CAPTURE, QUIET],
+    arguments: &[LINE, JSON, BESIDE, CARRY, TAKE, TRUST, CAPTURE, QUIET],
 };
 
 fn init_row() -> Subcommand {
@@ -172,9 +173,9 @@ line: each durable command is done as a whole.
 Before a word is written it is refused: an image file larger than its slave's EEPROM
 (fault 109), a slave above Pre-Operational (110), an EEPROM that its PDI has (111),
 a command that makes word 0x3e tell another size than the EEPROM has (112), an image of
-another vendor or product, or with fewer words than the EEPROM (114), and a slave that
-has other words than its image file (115), unless --found, --file or --exchanged names
-it. Commands of --file and --exchanged come first.";
+another vendor or product, or with fewer words than the EEPROM (114), unless the script
+says replace = true with it, and a slave that has other words than its image file
+(115), unless --found, --file or --exchanged names it. Commands of --file and --exchanged come first.";
 
 const RUN: Subcommand = Subcommand {
     name: "run",
@@ -197,6 +198,7 @@ const RUN: Subcommand = Subcommand {
         EXCHANGED,
         REPORT,
         EVENTS,
+        JSON,
         CAPTURE,
         QUIET,
     ],
@@ -298,6 +300,7 @@ const RECOVER: Subcommand = Subcommand {
         FILE,
         EXCHANGED,
         REPORT,
+        JSON,
         CAPTURE,
         QUIET,
     ],
@@ -307,9 +310,48 @@ fn recover_row() -> Subcommand {
     RECOVER
 }
 
+/// The help text on what `pending` prints and writes.
+const PENDING_ANSWERS: &str = "Answers:
+  slave P pending N
+                   recover is still to write N words of slave P; then a line for each:
+  slave P word 0xW has 0xH pending 0xV
+                   word W has the value H, and is to get V
+Nothing is written. With --give-up the line of that slave says given up; then the journal
+is replaced by one that has nothing for it, and the line is recovered, as recover says
+(with --json without a word). Where nothing is pending for the slave: fault 116. A call
+that was cut can be repeated, or ended by recover.
+
+A slave that has other words than its image file (fault 115) matters only where another
+one is given up.
+
+Without LINE it is the line on which alias or write was cut.";
+
+const PENDING: Subcommand = Subcommand {
+    name: "pending",
+    about: "Says what a recovery is still to write, and gives up a slave that can't be written",
+    long_about: "Brings up the line, and prints which words of each slave recover would write. Gives a slave up where that is said.",
+    after_help: "Examples:\n  sii_wire -i eth0 pending line.toml\n  sii_wire -i eth0 pending line.toml --give-up 2",
+    after_long_help: PENDING_ANSWERS,
+    arguments: &[
+        RECOVERED_LINE,
+        GIVE_UP,
+        JSON,
+        BESIDE,
+        CARRY,
+        TAKE,
+        TRUST,
+        CAPTURE,
+        QUIET,
+    ],
+};
+
+fn pending_row() -> Subcommand {
+    PENDING
+}
+
 /// The subcommands, in the order of the help. A table that a function names becomes part of what is proved of it, so each row stands in a
 /// function of its own.
-pub(crate) fn rows() -> [Subcommand; 13] {
+pub(crate) fn rows() -> [Subcommand; 14] {
     [
         scan_row(),
         read_row(),
@@ -323,6 +365,7 @@ pub(crate) fn rows() -> [Subcommand; 13] {
         run_row(),
         plan_row(),
         recover_row(),
+        pending_row(),
         explain_row(),
     ]
 }

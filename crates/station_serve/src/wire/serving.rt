@@ -1,14 +1,18 @@
 //! The program as a function of its arguments and streams.
 
 use crate::pages::{explanation, print_page};
+use crate::refusals::tell_refused;
 use crate::wire::arguments::{Arguments, Reading, Task, Tenure};
 use crate::wire::backups::{back_up, back_up_to};
 use crate::wire::capture::{begin_capture, end_capture};
 use crate::wire::changing::{change_slave, last_line, require_ended};
+use crate::wire::expecting::words_expected;
 use crate::wire::one_slave::look_at_slave;
 use command_line::{InputScript, Script};
 use line_watch::{Capture, Cleared, ObservedWire, Progress};
-use station_files::{ExitStatus, Failures, Fault, Store, report_fault};
+use site_file::RandomAccessFile;
+use station_files::{ExitStatus, Failure, Failures, Fault, Store, report_fault};
+use station_rows::LineRows;
 use station_troubles::{CAPTURE_OR_OUTPUT, Noting, OUTPUT};
 use std::alloc::Global;
 use std::io;
@@ -20,7 +24,8 @@ use std::time::Duration;
 use wire_faults::WireFault;
 use wire_frames::{EthernetWire, NumberedWire, TimedWire, Wire};
 use wire_scan::{
-    CaptureNames, Mend, Mends, ScanOptions, keep_capture_separate, scan_files, scan_line,
+    CaptureNames, Mend, Mends, PendingOrder, ScanOptions, keep_capture_separate, list_pending,
+    scan_files, scan_line,
 };
 use wire_session::{RunOrder, init_on_wire, mend_line, plan_on_wire, recover_line, run_script};
 
@@ -45,7 +50,7 @@ pub struct Screen<'a, E, T> {
 }
 
 /// Carries out a command line over this connection, and returns the exit status: `Done`; `Refused` where a command was refused; `File` for a
-/// file or its form; `Device` for the line; or `Memory`. Faults are printed to the screen's stream, those of the line with a second line behind
+/// file or its form; `Device` for the line; or `Memory`. Faults are printed to the screen's stream, those of the line with a second line after
 /// if the screen says so. A line on its terminal, if it has one, tells how far the work is.
 ///
 /// Each frame is written down in the file of the capture, if one is named, once it is sent or received. Where the capture can't begin, no
@@ -117,6 +122,7 @@ fn serve_job<
         separate,
         time_out,
         tenure,
+        form,
         is_quiet,
         ..
     } = arguments;
@@ -126,6 +132,7 @@ fn serve_job<
         terminal,
     } = screen;
     let Connection { wire, number } = connection;
+    let mut lines = LineRows::new(rt.alloc(), form, is_reported, output);
     match begin_separate(rt.alloc(), capture, separate, store) {
         Ok(begun) => {
             let job = WireJob {
@@ -135,21 +142,45 @@ fn serve_job<
                 number,
                 terminal: if is_quiet { None } else { terminal },
             };
-            let ended = do_observed(rt, job, begun.as_ref(), wire, store, output);
-            let status = status_of(ended, is_reported, store, faults);
-            let mut failures = Failures::none();
-            let status = end_capture(begun, status, &mut failures);
-            failures.print(faults);
-            status
+            let ended = do_observed(rt, job, begun.as_ref(), wire, store, &mut lines);
+            let status = status_of(ended, is_reported, store, &mut lines, faults);
+            let (refused, files) = (lines.refused(), task.run_files());
+            tell_refused(rt.alloc(), "sii_wire", files, refused, store, faults);
+            end_observed(begun, status, &mut lines, faults)
         }
         Err(fault) => {
             drop(wire);
+            put_fault(WireFault::Station(fault), &mut lines);
             let status = report_fault(fault, faults);
             if is_reported {
                 tell_file(fault, CAPTURE_OR_OUTPUT, store, faults);
             }
             status
         }
+    }
+}
+
+/// Ends the capture of a call that ends with this status, if there is one, and returns the status of both. A fault of the capture is printed.
+fn end_observed<F: RandomAccessFile + Drop, O: Write, E: Write>(
+    capture: Option<Capture<F>>,
+    status: ExitStatus,
+    lines: &mut LineRows<'_, O>,
+    faults: &mut E,
+) -> ExitStatus {
+    let mut failures = Failures::none();
+    let status = end_capture(capture, status, &mut failures);
+    failures.print(faults);
+    if let Some(Failure::Fault(fault)) = failures.first() {
+        put_fault(WireFault::Station(fault), lines);
+    }
+    status
+}
+
+/// Writes the row of a fault, if rows are written. An error of the output is ignored.
+fn put_fault<O: Write>(fault: WireFault, lines: &mut LineRows<'_, O>) {
+    if lines.is_json() {
+        let _ = writeln!(lines, "{fault}");
+        let _ = lines.flush();
     }
 }
 
@@ -188,7 +219,12 @@ fn do_observed<
         number,
         terminal,
     } = job;
-    let progress = Progress::begin(rt, terminal);
+    let mut progress = Progress::begin(rt, terminal);
+    if let Some(progress) = &mut progress {
+        if let Some(words) = words_expected(rt.alloc(), task.run_files(), store) {
+            progress.expect_words(words);
+        }
+    }
     let timed = TimedWire::new(wire, rt, time_out);
     let observed = ObservedWire::new(timed, capture, progress.as_ref(), rt);
     let numbered = numbered_wire(observed, number, tenure);
@@ -243,6 +279,7 @@ fn do_task<
         Task::Run { order, folder } => run(rt, wire, order, folder, store, output),
         Task::Recover { line, asked } => recover(rt, wire, line, asked, store, output),
         Task::RecoverLast { folder, asked } => recover_last(rt, wire, folder, asked, store, output),
+        Task::Pending { order, folder } => pending(rt, wire, order, folder, store, output),
         Task::Change(change) => change_slave(rt, wire, change, store, output),
     }
 }
@@ -339,6 +376,55 @@ fn recover<
     all_done(recover_line(rt, wire, line, asked, store, output).into_ended())
 }
 
+/// Prints what a recovery is still to write to a line, that of the last call that changed one slave where none is named, and gives up a slave and
+/// recovers the others, if that is said.
+fn pending<
+    H: Wait + Threads + Clock + AllocGlobal + Sync,
+    W: Wire + Send + Drop,
+    S: Store,
+    O: Write,
+>(
+    rt: &H,
+    wire: NumberedWire<W>,
+    order: PendingOrder<'_>,
+    folder: Option<&str>,
+    store: &mut S,
+    output: &mut O,
+) -> Result<ExitStatus, WireFault> {
+    let Some(folder) = folder else {
+        return list_or_give_up(rt, wire, order, store, output);
+    };
+    let line = last_line(rt.alloc(), folder)?;
+    let line = line.as_str();
+    list_or_give_up(rt, wire, PendingOrder { line, ..order }, store, output)
+}
+
+/// Prints what a recovery is still to write to a line, and gives up a slave and recovers the others, if that is said.
+fn list_or_give_up<
+    H: Wait + Threads + Clock + AllocGlobal + Sync,
+    W: Wire + Send + Drop,
+    S: Store,
+    O: Write,
+>(
+    rt: &H,
+    wire: NumberedWire<W>,
+    order: PendingOrder<'_>,
+    store: &mut S,
+    output: &mut O,
+) -> Result<ExitStatus, WireFault> {
+    let mut wire = wire;
+    match (
+        list_pending(rt, &mut wire, order, store, output),
+        order.gives_up,
+    ) {
+        (Ok(()), Some(_)) => recover(rt, wire, order.line, order.asked, store, output),
+        (ended, _) => {
+            drop(wire);
+            all_done(ended)
+        }
+    }
+}
+
 /// Whether image files are to be written to their slaves.
 fn writes_images(mends: &Mends) -> bool {
     mends
@@ -356,20 +442,26 @@ where
 }
 
 /// The exit status for a result: that of what was done, or that of the fault, which is printed, with what there is to tell of it if `is_reported`.
-fn status_of<S: Store, E: Write>(
+fn status_of<S: Store, O: Write, E: Write>(
     ended: Result<ExitStatus, WireFault>,
     is_reported: bool,
     store: &Noting<'_, S>,
+    lines: &mut LineRows<'_, O>,
     faults: &mut E,
 ) -> ExitStatus {
     match ended {
         Ok(status) => status,
         Err(fault) => {
             let _ = writeln!(faults, "{fault}");
+            put_fault(fault, lines);
             if is_reported {
-                let _ = fault.tell(faults);
-                if let WireFault::Station(fault) = fault {
-                    tell_file(fault, OUTPUT, store, faults);
+                match fault {
+                    WireFault::Station(station) if !matches!(station, Fault::SlaveDead { .. }) => {
+                        tell_file(station, OUTPUT, store, faults);
+                    }
+                    _ => {
+                        let _ = fault.tell(faults);
+                    }
                 }
             }
             fault.status()
@@ -377,16 +469,19 @@ fn status_of<S: Store, E: Write>(
     }
 }
 
-/// Prints which file a fault is about, what is wrong there and where, if it is about one; `streams` where it can be about these alone.
+/// Prints which file a fault is about, what is wrong there and where, if it is about one; `streams` where it can be about these alone; else what the
+/// fault means and what to do.
 fn tell_file<S: Store, E: Write>(
     fault: Fault,
     streams: &str,
     store: &Noting<'_, S>,
     faults: &mut E,
 ) {
-    if let Some(reported) = store.reported(fault.code(), streams) {
-        let _ = writeln!(faults, "{reported}; see sii_wire explain");
-    }
+    let code = fault.code();
+    let _ = match store.reported(code, streams) {
+        Some(reported) => writeln!(faults, "{reported}; see sii_wire explain {}", code.number()),
+        None => writeln!(faults, "{}", code.entry().explanation),
+    };
 }
 
 /// Prints why the file for the text can't be opened, and returns the exit status.

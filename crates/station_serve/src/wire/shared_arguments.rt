@@ -98,9 +98,9 @@ pub(crate) const QUIET: Argument = Argument {
     long_help: "Draws no line with the progress, and prints no second line of a fault, which says what
 was seen and what to do. Without this option, where standard error is a terminal
 and the work takes longer than a second, a line there says how many words were read
-and how many were written, each as often as that was done, and how many slaves are
-busy with one. It is drawn over itself ten times a second at most, and erased before
-anything else is printed and at the end.",
+and how many were written, of how many, how many slaves are busy with one, how many
+are done, and about how many seconds are left. It is drawn over itself ten times a
+second at most, and erased before anything else is printed and at the end.",
 };
 
 /// What happens, as it happens.
@@ -168,6 +168,24 @@ pub(crate) const FILE: Argument = Argument {
     kind: Kind::Text("SLAVE,.."),
     help: "The image files of these slaves are right",
     long_help: FILE_HELP,
+};
+
+/// The help text on a slave that is given up.
+const GIVE_UP_HELP: &str =
+    "Gives this slave up, as where its EEPROM is write protected: what is listed of it isn't
+done. It keeps the words that it has, also torn ones, and its image file gets them. The
+journal then has nothing for it, and the line is recovered: the other slaves get all
+that they are to have. A command may so be done in part.
+
+Example:
+  sii_wire -i eth0 pending line.toml --give-up 2";
+
+/// The slave that is given up.
+pub(crate) const GIVE_UP: Argument = Argument {
+    id: "give-up",
+    kind: Kind::Text("SLAVE"),
+    help: "Gives this slave up, and recovers the others",
+    long_help: GIVE_UP_HELP,
 };
 
 /// The help text on slaves that were exchanged.

@@ -1,0 +1,34 @@
+//! How much a run will write.
+
+use crate::refusals::RunFiles;
+use sii_edit::apply;
+use sii_words::Plant;
+use station_files::{Store, load_line, load_script, load_slaves};
+use std::alloc::Global;
+
+/// How many words each slave of a line writes in a run, by what its image files hold. None where that can't be told, as where there is no run.
+pub(crate) fn words_expected<S: Store>(
+    alloc: Global,
+    files: RunFiles<'_>,
+    store: &mut S,
+) -> Option<[u32; 64]> {
+    if files.script.is_empty() {
+        return None;
+    }
+    let commands = load_script(alloc, files.script, store).ok()?;
+    let line = load_line(alloc, files.line, store).ok()?;
+    let mut plant = Plant::of(load_slaves(alloc, &line, store).ok()?);
+    let mut words = [0u32; 64];
+    for command in &commands {
+        let Ok((next, runs)) = apply(alloc, &plant, command) else {
+            continue;
+        };
+        for run in &runs {
+            if let Some(count) = words.get_mut(usize::from(run.slave)) {
+                *count = count.saturating_add(run.words.as_slice().len() as u32);
+            }
+        }
+        plant = next;
+    }
+    Some(words)
+}
