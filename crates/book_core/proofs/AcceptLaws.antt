@@ -23,7 +23,7 @@ use Rattle.book_parts.specs.Shown.{Shown}
 use Rattle.book_core.specs.declared.step.Step.{Step}
 use Rattle.book_core.specs.declared.step.Step.TheVariants.{Resting, Payload, PayloadSync, OpenGate, OpenSync, CloseGate, CloseSync, FarGate, Mark, MarkSync, Version, VersionSync}
 use Rattle.book_core.specs.Parts.{doing_of, book_of}
-use Rattle.book_core.specs.Stands.{ErrandStands, live_for, IsAppending, StepStands, IsShown, Stands, as_found}
+use Rattle.book_core.specs.Stands.{OperationStands, live_for, IsAppending, StepStands, IsShown, Stands, as_found}
 use Rattle.book_core.specs.declared.book.Core.TheInside.{Inside}
 use Rattle.book_core.proofs.ShownLaws.{applied-few}
 
@@ -94,8 +94,8 @@ accepted-stands core command two stands =
       old_journal = λ old. absurd (not-old core.area.form two old);
       durable = omega (arith, stands.durable, length-append ledger.accepted (command ∷ []));
       cells = stands.cells;
-      errands = λ i inside.
-          subst (λ (l : List Entry). ErrandStands (named_for (core.found ++ l) i) (live_for core.work i) core.fault (slave_at core.work i)) (sym (front-kept ledger command ledger.durable durable)) (stands.errands i inside);
+      operations = λ i inside.
+          subst (λ (l : List Entry). OperationStands (named_for (core.found ++ l) i) (live_for core.work i) core.fault (slave_at core.work i)) (sym (front-kept ledger command ledger.durable durable)) (stands.operations i inside);
       live = stands.live;
       latest = record { gone = stands.latest.gone; all = stands.latest.all ∙ ap (λ (l : List Entry). map as_found core.found ++ l) (sym (front-kept ledger command ledger.durable durable)) };
       doing = step-kept core.step core.area ledger new core.work (appended-kept ledger command stands.durable) refl stands.doing;

@@ -68,7 +68,7 @@ append-stands core spot work rests two place payload room same stands =
       old_journal = stands.old_journal;
       durable = omega (arith, none, stands.durable, length-drop (core.ledger.durable + core.ledger.begun) (own core.ledger), length-entries 0 core.ledger.base core.ledger.accepted);
       cells = rw same.slaves stands.cells;
-      errands = rw (same.slaves, same.older, same.newer) stands.errands;
+      operations = rw (same.slaves, same.older, same.newer) stands.operations;
       live = record { older = rw same.older stands.live.older; newer = rw same.newer stands.live.newer };
       latest = record { gone = stands.latest.gone; all = rw (same.older, same.newer) stands.latest.all };
       doing = appending core spot work none two place payload room;

@@ -18,7 +18,7 @@ use Rattle.book_parts.specs.Line.{LineState, first_unsettled, OweNoMore}
 use Rattle.book_parts.specs.Ledger.{Ledger, own}
 use Rattle.book_core.specs.Stands.{as_found, AreLatest, applied_of}
 
--- ---- the first entry that isn't settled is the one behind the prefix
+-- ---- the first entry that isn't settled is the one after the prefix
 
 first-number : (cells : List (List Cell)) (es : List Entry) → first_unsettled cells es ≡ slice_get (map (λ (e : Entry). e.number) es) (settled_prefix cells es)
 first-number cells [] = refl
@@ -51,11 +51,11 @@ prefix-found cells (f ∷ fs) rest =
 
 -- ---- what is gone is settled
 
-from-free : (first : ℕ) (cells : List (List Cell)) (behind runs : List Run) → ((k at : ℕ) → length (cell_at cells k at).owed ≤ length (values behind (first + k) at)) → settled_from first cells behind runs ≡ true
-from-free first [] behind runs few = refl
-from-free first (c ∷ cs) behind runs few =
-    let here = settled-all c (namings behind first) (namings runs first) (λ at. subst (λ (n : ℕ). length (cell_of c at).owed ≤ length (values behind n at)) (omega arith) (few 0 at)) in
-    let later = from-free (suc first) cs behind runs (λ k at. subst (λ (n : ℕ). length (cell_at cs k at).owed ≤ length (values behind n at)) (omega arith) (few (suc k) at)) in
+from-vacant : (first : ℕ) (cells : List (List Cell)) (afterwards runs : List Run) → ((k at : ℕ) → length (cell_at cells k at).owed ≤ length (values afterwards (first + k) at)) → settled_from first cells afterwards runs ≡ true
+from-vacant first [] afterwards runs few = refl
+from-vacant first (c ∷ cs) afterwards runs few =
+    let here = settled-all c (namings afterwards first) (namings runs first) (λ at. subst (λ (n : ℕ). length (cell_of c at).owed ≤ length (values afterwards n at)) (omega arith) (few 0 at)) in
+    let later = from-vacant (suc first) cs afterwards runs (λ k at. subst (λ (n : ℕ). length (cell_at cs k at).owed ≤ length (values afterwards n at)) (omega arith) (few (suc k) at)) in
     rw (here, later) refl
 
 pub prefix-gone : (cells : List (List Cell)) (gone live : List Entry) → ((k at : ℕ) → length (cell_at cells k at).owed ≤ length (values (runs_of live) k at))
@@ -65,7 +65,7 @@ prefix-gone cells (g ∷ gone) live few =
     let all : runs_of (gone ++ live) ≡ runs_of gone ++ runs_of live = runs_of-append gone live in
     let here : runs_settled cells (runs_of (gone ++ live)) g.runs ≡ true =
     ap (λ (l : List Run). runs_settled cells l g.runs) all
-    ∙ from-free 0 cells (runs_of gone ++ runs_of live) g.runs
+    ∙ from-vacant 0 cells (runs_of gone ++ runs_of live) g.runs
     (λ k at. let z : k ≡ 0 + k = omega arith in
     subst (λ (n : ℕ). length (cell_at cells k at).owed ≤ length (values (runs_of gone ++ runs_of live) n at)) z
     (omega (arith, few k at, ap length (values-append (runs_of gone) (runs_of live) k at), length-append (values (runs_of gone) k at) (values (runs_of live) k at)))) in
@@ -73,9 +73,9 @@ prefix-gone cells (g ∷ gone) live few =
 
 -- ---- the number of an entry
 
-get-behind : (xs ys : List ℕ) (k : ℕ) → slice_get (xs ++ ys) (length xs + k) ≡ slice_get ys k
-get-behind [] ys k = rw (zero-add k) refl
-get-behind (x ∷ xs) ys k = rw (suc-add (length xs) k) (get-behind xs ys k)
+get-afterwards : (xs ys : List ℕ) (k : ℕ) → slice_get (xs ++ ys) (length xs + k) ≡ slice_get ys k
+get-afterwards [] ys k = rw (zero-add k) refl
+get-afterwards (x ∷ xs) ys k = rw (suc-add (length xs) k) (get-afterwards xs ys k)
 
 -- its number, where there is one
 abbrev pub number_or : Option ℕ → ℕ → ℕ
@@ -120,7 +120,7 @@ applied-is found ledger work latest few durable =
     let is : k ≡ length latest.gone + settled_prefix cells live = ap (settled_prefix cells) (sym latest.all) ∙ prefix-gone cells latest.gone live few in
     let number : first_unsettled cells live ≡ slice_get (map (λ (e : Entry). e.number) all) k =
     first-number cells live
-    ∙ sym (get-behind (map (λ (e : Entry). e.number) latest.gone) (map (λ (e : Entry). e.number) live) (settled_prefix cells live))
+    ∙ sym (get-afterwards (map (λ (e : Entry). e.number) latest.gone) (map (λ (e : Entry). e.number) live) (settled_prefix cells live))
     ∙ ap (λ (n : ℕ). slice_get (map (λ (e : Entry). e.number) latest.gone ++ map (λ (e : Entry). e.number) live) (n + settled_prefix cells live)) (length-map latest.gone (λ (e : Entry). e.number))
     ∙ ap (slice_get (map (λ (e : Entry). e.number) latest.gone ++ map (λ (e : Entry). e.number) live)) (sym is)
     ∙ ap (λ (l : List ℕ). slice_get l k) (sym (map-append (λ (e : Entry). e.number) latest.gone live))

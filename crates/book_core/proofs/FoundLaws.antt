@@ -25,7 +25,7 @@ use Rattle.book_parts.specs.declared.spot.Spot.{Spot}
 use Rattle.book_parts.specs.declared.spot.Spot.TheVariants.{InOlder, InNewer}
 use Rattle.book_parts.specs.Spot.{as_place}
 use Rattle.book_core.specs.Stands.{as_found, cell_counts}
-use Rattle.book_core.specs.Found.{AreFound, older_part, newer_part, Joined, TakenUp}
+use Rattle.book_core.specs.OpenedState.{AreFound, older_part, newer_part, Joined, TakenUp}
 use Rattle.book_core.proofs.InsideLaws.{entries-inside, sizes-redone}
 
 -- ---- each of them
@@ -199,8 +199,8 @@ ahead-more spot batches now old mid new at d left entries ahead within is joined
 pub older-first : (batches : List Batch) (count : ℕ) → live (halves_in batches) ≡ batches → count ≡ length (halves_in batches).older → take count batches ≡ (halves_in batches).older
 older-first batches count all is = ap (take count) (sym all) ∙ take_at (halves_in batches).older (halves_in batches).newer count (sym is)
 
-pub newer-behind : (batches : List Batch) (count : ℕ) → live (halves_in batches) ≡ batches → count ≡ length (halves_in batches).older → drop count batches ≡ (halves_in batches).newer
-newer-behind batches count all is = ap (drop count) (sym all) ∙ drop_at (halves_in batches).older (halves_in batches).newer count (sym is)
+pub newer-after : (batches : List Batch) (count : ℕ) → live (halves_in batches) ≡ batches → count ≡ length (halves_in batches).older → drop count batches ≡ (halves_in batches).newer
+newer-after batches count all is = ap (drop count) (sym all) ∙ drop_at (halves_in batches).older (halves_in batches).newer count (sym is)
 
 pub none-found : (line : LineState) → line.older ≡ [] → line.newer ≡ [] → AreFound line
 none-found line older newer = record {

@@ -67,7 +67,7 @@ entries-are ledger MarkSync place entries is = none-some (place, entries) (entri
 entries-are ledger Version place entries is = none-some (place, entries) (entries ≡ appended ledger) is
 entries-are ledger VersionSync place entries is = none-some (place, entries) (entries ≡ appended ledger) is
 
--- the ledger appends the commands right behind the durable ones
+-- the ledger appends the commands right after the durable ones
 pub appends-next : (core : Inside) → Stands core → AppendsNext (book_of core)
 appends-next core stands place entries is =
     let ledger = core.ledger in

@@ -14,7 +14,7 @@ use Rattle.book_model.specs.Cells.{Cell, cell_of}
 use Rattle.book_model.specs.declared.fault.Fault.{Fault}
 use Rattle.book_model.specs.Pending.{namings_settled}
 use Rattle.book_model.specs.Entries.{namings, runs_of, entries_of, values}
-use Rattle.book_model.specs.Book.{Slave, Errand, nobody, all_cells, cell_at, IsAbout}
+use Rattle.book_model.specs.Book.{Slave, Operation, nobody, all_cells, cell_at, IsAbout}
 use Rattle.book_model.specs.Open.{owing_words, owing_slaves}
 use Rattle.book_model.specs.Reading.{settled_prefix}
 use Rattle.book_model.specs.Fits.{OwesNoMore}
@@ -31,7 +31,7 @@ use Rattle.book_parts.specs.Ledger.{Ledger, own, appended, gone_durable}
 use Rattle.book_parts.specs.Shown.{Shown}
 use Rattle.book_core.specs.declared.step.Step.{Step}
 use Rattle.book_core.specs.declared.step.Step.TheVariants.{Resting}
-use Rattle.book_core.specs.Stands.{as_found, ErrandStands, ErrandsStand, runs_each, HasLive, AreLatest, OwesLast, applied_of, live_for, named_since, PartsStand}
+use Rattle.book_core.specs.Stands.{as_found, OperationStands, OperationsStand, runs_each, HasLive, AreLatest, OwesLast, applied_of, live_for, named_since, PartsStand}
 use Rattle.book_core.specs.Live.{joined, with_live}
 use Rattle.book_core.proofs.WearLaws.{last-left, last-owing, owed-owing}
 
@@ -41,27 +41,27 @@ pub joined-slaves : (place : Place) (line : LineState) (entries : List Entry) �
 joined-slaves InOlder line entries = refl
 joined-slaves InNewer line entries = refl
 
-errand-owed : (named : ℕ) (live : List (ℕ × ℕ)) (fault : Option Fault) (runs : List Run) (i : ℕ) (old : Slave) → SameButOwed old (owed-slave runs i old) → ErrandStands named live fault old
-    → ErrandStands (named + length (namings runs i)) (live ++ namings runs i) fault (owed-slave runs i old)
-errand-owed named live fault runs i old same stands = record {
-  word = λ at is. let inside : at < length old.cells = stands.word at (subst (λ (e : Errand). IsAbout e at) same.errand is) in omega (arith, same.words);
+operation-owed : (named : ℕ) (live : List (ℕ × ℕ)) (fault : Option Fault) (runs : List Run) (i : ℕ) (old : Slave) → SameButOwed old (owed-slave runs i old) → OperationStands named live fault old
+    → OperationStands (named + length (namings runs i)) (live ++ namings runs i) fault (owed-slave runs i old)
+operation-owed named live fault runs i old same stands = record {
+  word = λ at is. let inside : at < length old.cells = stands.word at (subst (λ (e : Operation). IsAbout e at) same.operation is) in omega (arith, same.words);
   issues = λ none at. rw (same.known at) (stands.issues none at);
-  others = λ none at not. rw (same.known at) (stands.others none at (λ is. not (subst (λ (e : Errand). IsAbout e at) (sym same.errand) is)));
+  others = λ none at not. rw (same.known at) (stands.others none at (λ is. not (subst (λ (e : Operation). IsAbout e at) (sym same.operation) is)));
   worn = worn-owing named (is_some fault) old runs i stands.worn;
-  owed = owed-owing runs i old.cells old.errand stands.owed;
+  owed = owed-owing runs i old.cells old.operation stands.owed;
   last = last-owing runs i live old.cells stands.last;
 }
 
-pub errands-owed : (named : ℕ → ℕ) (live : ℕ → List (ℕ × ℕ)) (fault : Option Fault) (runs : List Run) (slaves later : List Slave) → later ≡ owing_slaves runs 0 slaves
-    → ((i : ℕ) → i < length slaves → ErrandStands (named i) (live i) fault (get_or slaves i nobody)) → (i : ℕ) → i < length later
-    → ErrandStands (named i + length (namings runs i)) (live i ++ namings runs i) fault (get_or later i nobody)
-errands-owed named live fault runs slaves later is stand i inside =
+pub operations-owed : (named : ℕ → ℕ) (live : ℕ → List (ℕ × ℕ)) (fault : Option Fault) (runs : List Run) (slaves later : List Slave) → later ≡ owing_slaves runs 0 slaves
+    → ((i : ℕ) → i < length slaves → OperationStands (named i) (live i) fault (get_or slaves i nobody)) → (i : ℕ) → i < length later
+    → OperationStands (named i + length (namings runs i)) (live i ++ namings runs i) fault (get_or later i nobody)
+operations-owed named live fault runs slaves later is stand i inside =
     let within : i < length slaves = omega (arith, ap length is, length-owing_slaves runs 0 slaves) in
     let old = get_or slaves i nobody in
     let new_is : get_or later i nobody ≡ owed-slave runs i old =
     ap (λ (l : List Slave). get_or l i nobody) is ∙ slave-owing runs 0 slaves i within ∙ ap (λ (n : ℕ). owed-slave runs n old) (omega arith) in
     let same : SameButOwed old (owed-slave runs i old) = subst (SameButOwed old) (ap (λ (l : List Slave). get_or l i nobody) (sym is) ∙ new_is) (owing-keeps runs 0 slaves i) in
-    subst (ErrandStands (named i + length (namings runs i)) (live i ++ namings runs i) fault) (sym new_is) (errand-owed (named i) (live i) fault runs i old same (stand i within))
+    subst (OperationStands (named i + length (namings runs i)) (live i ++ namings runs i) fault) (sym new_is) (operation-owed (named i) (live i) fault runs i old same (stand i within))
 
 -- what is named since the open, and what is live, once the batch has gone live
 named-joined : (found : List Entry) (ledger : Ledger) (i : ℕ) → named_since found ledger i + length (namings (runs_of (appended ledger)) i) ≡ named_since found (gone_durable ledger) i
@@ -73,16 +73,16 @@ named-joined found ledger i =
     ap (λ (l : List Run). namings l i) (runs_of-append before (appended ledger)) ∙ namings-append (runs_of before) (runs_of (appended ledger)) i in
     sym (length-append (namings (runs_of before) i) (namings (runs_of (appended ledger)) i)) ∙ sym (ap length both) ∙ ap (λ (l : List Entry). named_for l i) all
 
-errands-joined : (place : Place) (found : List Entry) (ledger : Ledger) (fault : Option Fault) (work : LineState) → (joined place work (appended ledger)).older ++ (joined place work (appended ledger)).newer ≡ (work.older ++ work.newer) ++ appended ledger
-    → ErrandsStand found ledger fault work → ErrandsStand found (gone_durable ledger) fault (joined place work (appended ledger))
-errands-joined place found ledger fault work behind stand = λ i inside.
+operations-joined : (place : Place) (found : List Entry) (ledger : Ledger) (fault : Option Fault) (work : LineState) → (joined place work (appended ledger)).older ++ (joined place work (appended ledger)).newer ≡ (work.older ++ work.newer) ++ appended ledger
+    → OperationsStand found ledger fault work → OperationsStand found (gone_durable ledger) fault (joined place work (appended ledger))
+operations-joined place found ledger fault work after stand = λ i inside.
     let runs = runs_of (appended ledger) in
     let new = joined place work (appended ledger) in
-    let here = errands-owed (named_since found ledger) (live_for work) fault runs work.slaves new.slaves (joined-slaves place work (appended ledger)) stand i inside in
+    let here = operations-owed (named_since found ledger) (live_for work) fault runs work.slaves new.slaves (joined-slaves place work (appended ledger)) stand i inside in
     let live_is : live_for work i ++ namings runs i ≡ live_for new i =
-    sym (namings-append (runs_of (work.older ++ work.newer)) runs i) ∙ ap (λ (l : List Run). namings l i) (sym (runs_of-append (work.older ++ work.newer) (appended ledger)) ∙ ap runs_of (sym behind)) in
-    subst (λ (n : ℕ). ErrandStands n (live_for new i) fault (get_or new.slaves i nobody)) (named-joined found ledger i)
-    (subst (λ (l : List (ℕ × ℕ)). ErrandStands (named_since found ledger i + length (namings runs i)) l fault (get_or new.slaves i nobody)) live_is here)
+    sym (namings-append (runs_of (work.older ++ work.newer)) runs i) ∙ ap (λ (l : List Run). namings l i) (sym (runs_of-append (work.older ++ work.newer) (appended ledger)) ∙ ap runs_of (sym after)) in
+    subst (λ (n : ℕ). OperationStands n (live_for new i) fault (get_or new.slaves i nobody)) (named-joined found ledger i)
+    (subst (λ (l : List (ℕ × ℕ)). OperationStands (named_since found ledger i + length (namings runs i)) l fault (get_or new.slaves i nobody)) live_is here)
 
 pub owes-word : (runs : List Run) (slave first : ℕ) (cells : List Cell) (k : ℕ)
     → length (cell_of (owing_words runs slave first cells) k).owed ≤ length (cell_of cells k).owed + length (values runs slave (first + k))
@@ -123,17 +123,17 @@ no-entries (e ∷ es) is = absurd (cc is)
 pub none-newer : (halves : Halves) (work : LineState) → HasLive halves work → halves.newer ≡ [] → work.newer ≡ []
 none-newer halves work has none = no-entries work.newer (has.newer ∙ ap (λ (l : List Batch). runs_each (entries_of l)) none)
 
-behind-all : (place : Place) (work : LineState) (entries : List Entry) → (place ≡ InOlder → work.newer ≡ []) → (joined place work entries).older ++ (joined place work entries).newer ≡ (work.older ++ work.newer) ++ entries
-behind-all InOlder work entries alone =
+after-all : (place : Place) (work : LineState) (entries : List Entry) → (place ≡ InOlder → work.newer ≡ []) → (joined place work entries).older ++ (joined place work entries).newer ≡ (work.older ++ work.newer) ++ entries
+after-all InOlder work entries alone =
     let none = alone refl in
     ap (λ (l : List Entry). (work.older ++ entries) ++ l) none ∙ append-nil (work.older ++ entries)
     ∙ ap (λ (l : List Entry). l ++ entries) (sym (append-nil work.older) ∙ ap (λ (l : List Entry). work.older ++ l) (sym none))
-behind-all InNewer work entries alone = sym (append_assoc work.older work.newer entries)
+after-all InNewer work entries alone = sym (append_assoc work.older work.newer entries)
 
 latest-joined : (place : Place) (found : List Entry) (ledger : Ledger) (work : LineState) → (place ≡ InOlder → work.newer ≡ []) → AreLatest found ledger work → AreLatest found (gone_durable ledger) (joined place work (appended ledger))
 latest-joined place found ledger work alone latest = record {
   gone = latest.gone;
-  all = ap (λ (l : List Entry). latest.gone ++ l) (behind-all place work (appended ledger) alone) ∙ sym (append_assoc latest.gone (work.older ++ work.newer) (appended ledger))
+  all = ap (λ (l : List Entry). latest.gone ++ l) (after-all place work (appended ledger) alone) ∙ sym (append_assoc latest.gone (work.older ++ work.newer) (appended ledger))
       ∙ ap (λ (l : List Entry). l ++ appended ledger) latest.all ∙ append_assoc (map as_found found) (take ledger.durable (own ledger)) (appended ledger)
       ∙ ap (λ (l : List Entry). map as_found found ++ l) (sym (take-add ledger.durable ledger.begun (own ledger)));
 }
@@ -160,7 +160,7 @@ live-stands words found area step ledger work shown fault place alone stands = r
   old_journal = stands.old_journal;
   durable = omega (arith, stands.durable);
   cells = ap (λ (l : List Slave). map (λ (s : Slave). length s.cells) l) (joined-slaves place work (appended ledger)) ∙ sizes-owing (runs_of (appended ledger)) 0 work.slaves ∙ stands.cells;
-  errands = errands-joined place found ledger fault work (behind-all place work (appended ledger) alone) stands.errands;
+  operations = operations-joined place found ledger fault work (after-all place work (appended ledger) alone) stands.operations;
   live = live-joined place area.halves work (appended ledger) stands.live;
   latest = latest-joined place found ledger work alone stands.latest;
   doing = refl;
@@ -174,8 +174,8 @@ live-left halves [] work same = record { older = same; newer = refl }
 live-left halves (b ∷ newer) work same = record { older = same; newer = refl }
 
 -- the live namings are those of the newer half then
-errands-left : (found : List Entry) (ledger : Ledger) (fault : Option Fault) (work : LineState) → is_settled work ≡ true → ErrandsStand found ledger fault work → ErrandsStand found ledger fault (retired work)
-errands-left found ledger fault work settled stand = λ i inside.
+operations-left : (found : List Entry) (ledger : Ledger) (fault : Option Fault) (work : LineState) → is_settled work ≡ true → OperationsStand found ledger fault work → OperationsStand found ledger fault (retired work)
+operations-left found ledger fault work settled stand = λ i inside.
     let s = stand i inside in
     let cells = (slave_at work i).cells in
     let older = namings (runs_of work.older) i in
@@ -203,7 +203,7 @@ retired-stands words found area step ledger work shown fault none settled stands
   old_journal = stands.old_journal;
   durable = stands.durable;
   cells = stands.cells;
-  errands = errands-left found ledger fault work settled stands.errands;
+  operations = operations-left found ledger fault work settled stands.operations;
   live = live-left area.halves area.halves.newer work stands.live.newer;
   latest = record {
     gone = stands.latest.gone ++ work.older;
@@ -223,7 +223,7 @@ migrated-stands words found area step ledger work shown fault none stands = reco
   old_journal = λ is. absurd (cc is);
   durable = stands.durable;
   cells = stands.cells;
-  errands = stands.errands;
+  operations = stands.operations;
   live = record { older = stands.live.older; newer = stands.live.newer };
   latest = record { gone = stands.latest.gone; all = stands.latest.all };
   doing = none;
@@ -239,12 +239,12 @@ failed-stands words found area step ledger work shown fault first stands = recor
   old_journal = stands.old_journal;
   durable = stands.durable;
   cells = stands.cells;
-  errands = λ i inside.
-      let s = stands.errands i inside in record {
+  operations = λ i inside.
+      let s = stands.operations i inside in record {
         word = s.word;
         issues = λ none at. absurd (cc none);
         others = λ none at not. absurd (cc none);
-        worn = worn-failed (named_since found ledger i) (is_some fault) (slave_at work i) (slave_at work i).errand s.worn;
+        worn = worn-failed (named_since found ledger i) (is_some fault) (slave_at work i) (slave_at work i).operation s.worn;
         owed = s.owed;
         last = s.last;
       };

@@ -17,7 +17,7 @@ use Rattle.jrn_format.specs.Halves.{live}
 use Rattle.jrn_format.specs.Live.{halves_in, FitForm}
 use Rattle.book_model.specs.Cells.{since, cell_of, opened}
 use Rattle.book_model.specs.Entries.{namings, runs_of, entries_of, live_runs, sizes_of}
-use Rattle.book_model.specs.Book.{Slave, Free, nobody}
+use Rattle.book_model.specs.Book.{Slave, NoOperation, nobody}
 use Rattle.book_model.specs.Open.{opened_slave, owing_slaves}
 use Rattle.book_model.specs.Worn.{named_for, owed_in}
 use Rattle.book_parts.specs.Line.{LineState}
@@ -27,9 +27,9 @@ use Rattle.book_parts.specs.Ledger.{Ledger}
 use Rattle.book_parts.specs.Ledger as ledgers
 use Rattle.book_parts.specs.Shown.{Shown}
 use Rattle.book_core.specs.declared.step.Step.TheVariants as steps
-use Rattle.book_core.specs.Stands.{as_found, cell_counts, runs_each, ErrandStands, ErrandsStand, live_for, PartsStand}
-use Rattle.book_core.specs.Found.{TakenUp, IsTaken}
-use Rattle.book_core.proofs.LiveLaws.{errands-owed}
+use Rattle.book_core.specs.Stands.{as_found, cell_counts, runs_each, OperationStands, OperationsStand, live_for, PartsStand}
+use Rattle.book_core.specs.OpenedState.{TakenUp, IsTaken}
+use Rattle.book_core.proofs.LiveLaws.{operations-owed}
 use Rattle.book_core.proofs.RunLaws.{same-runs}
 
 -- ---- the batches stand in their halves
@@ -73,10 +73,10 @@ counts-opened (w ∷ ws) = ap (λ (n : ℕ). n ∷ cell_counts (map opened_slave
 pub opened-counts : (line : LineState) (words : List (List ℕ)) → line.slaves ≡ map opened_slave words → cell_counts line.slaves ≡ sizes_of words
 opened-counts line words is = ap cell_counts is ∙ counts-opened words
 
-opened-free : (words : List (List ℕ)) (i : ℕ) → (get_or (map opened_slave words) i nobody).errand ≡ Free
-opened-free [] i = refl
-opened-free (w ∷ ws) zero = refl
-opened-free (w ∷ ws) (suc i) = opened-free ws i
+opened-vacant : (words : List (List ℕ)) (i : ℕ) → (get_or (map opened_slave words) i nobody).operation ≡ NoOperation
+opened-vacant [] i = refl
+opened-vacant (w ∷ ws) zero = refl
+opened-vacant (w ∷ ws) (suc i) = opened-vacant ws i
 
 word-known : (values : List ℕ) (at : ℕ) → since (cell_of (map opened values) at).known ≡ 0
 word-known [] at = refl
@@ -98,8 +98,8 @@ word-owed (v ∷ vs) zero = refl
 word-owed (v ∷ vs) (suc at) = word-owed vs at
 
 -- a slave whose words were just read: nothing was named for it yet
-errand-read : (values : List ℕ) → ErrandStands 0 [] None (opened_slave values)
-errand-read values = record {
+operation-read : (values : List ℕ) → OperationStands 0 [] None (opened_slave values)
+operation-read values = record {
   word = λ at is. absurd is;
   issues = λ none at. omega (arith, word-known values at);
   others = λ none at not. omega (arith, word-known values at);
@@ -113,24 +113,24 @@ errand-read values = record {
   last = λ at w some. let none : length (cell_of (map opened values) at).owed ≡ 0 = ap (λ (l : List ℕ). length l) (word-owed values at) in absurd (omega (arith, some, none));
 }
 
-errand-opened : (runs : List Run) (words : List (List ℕ)) (i : ℕ) → i < length (owing_slaves runs 0 (map opened_slave words))
-    → ErrandStands (length (namings runs i)) (namings runs i) None (get_or (owing_slaves runs 0 (map opened_slave words)) i nobody)
-errand-opened runs words i inside =
+operation-opened : (runs : List Run) (words : List (List ℕ)) (i : ℕ) → i < length (owing_slaves runs 0 (map opened_slave words))
+    → OperationStands (length (namings runs i)) (namings runs i) None (get_or (owing_slaves runs 0 (map opened_slave words)) i nobody)
+operation-opened runs words i inside =
     let count : 0 + length (namings runs i) ≡ length (namings runs i) = omega arith in
-    subst (λ (n : ℕ). ErrandStands n (namings runs i) None (get_or (owing_slaves runs 0 (map opened_slave words)) i nobody)) count
-    (errands-owed (λ k. 0) (λ k. []) None runs (map opened_slave words) (owing_slaves runs 0 (map opened_slave words)) refl
-    (λ k within. subst (ErrandStands 0 [] None) (sym (get_or-map opened_slave words k [] nobody (omega (arith, within, length-map words opened_slave)))) (errand-read (get_or words k []))) i inside)
+    subst (λ (n : ℕ). OperationStands n (namings runs i) None (get_or (owing_slaves runs 0 (map opened_slave words)) i nobody)) count
+    (operations-owed (λ k. 0) (λ k. []) None runs (map opened_slave words) (owing_slaves runs 0 (map opened_slave words)) refl
+    (λ k within. subst (OperationStands 0 [] None) (sym (get_or-map opened_slave words k [] nobody (omega (arith, within, length-map words opened_slave)))) (operation-read (get_or words k []))) i inside)
 
 -- the errands of a book that was just opened
-errands-found : (batches : List Batch) (words : List (List ℕ)) (work : LineState) → work.slaves ≡ owing_slaves (live_runs batches) 0 (map opened_slave words) → runs_of (work.older ++ work.newer) ≡ live_runs batches
-    → ErrandsStand (entries_of batches) (ledgers.opened (redone words (live_runs batches))) None work
-errands-found batches words work slaves runs = λ i inside.
+operations-found : (batches : List Batch) (words : List (List ℕ)) (work : LineState) → work.slaves ≡ owing_slaves (live_runs batches) 0 (map opened_slave words) → runs_of (work.older ++ work.newer) ≡ live_runs batches
+    → OperationsStand (entries_of batches) (ledgers.opened (redone words (live_runs batches))) None work
+operations-found batches words work slaves runs = λ i inside.
     let within : i < length (owing_slaves (live_runs batches) 0 (map opened_slave words)) = subst (λ (l : List Slave). i < length l) slaves inside in
     let named : length (namings (live_runs batches) i) ≡ named_for (entries_of batches ++ []) i = ap (λ (l : List Entry). named_for l i) (sym (append-nil (entries_of batches))) in
-    subst (λ (l : List Slave). ErrandStands (named_for (entries_of batches ++ []) i) (live_for work i) None (get_or l i nobody)) (sym slaves)
-    (subst (λ (n : ℕ). ErrandStands n (live_for work i) None (get_or (owing_slaves (live_runs batches) 0 (map opened_slave words)) i nobody)) named
-    (subst (λ (l : List (ℕ × ℕ)). ErrandStands (length (namings (live_runs batches) i)) l None (get_or (owing_slaves (live_runs batches) 0 (map opened_slave words)) i nobody)) (ap (λ (l : List Run). namings l i) (sym runs))
-    (errand-opened (live_runs batches) words i within)))
+    subst (λ (l : List Slave). OperationStands (named_for (entries_of batches ++ []) i) (live_for work i) None (get_or l i nobody)) (sym slaves)
+    (subst (λ (n : ℕ). OperationStands n (live_for work i) None (get_or (owing_slaves (live_runs batches) 0 (map opened_slave words)) i nobody)) named
+    (subst (λ (l : List (ℕ × ℕ)). OperationStands (length (namings (live_runs batches) i)) l None (get_or (owing_slaves (live_runs batches) 0 (map opened_slave words)) i nobody)) (ap (λ (l : List Run). namings l i) (sym runs))
+    (operation-opened (live_runs batches) words i within)))
 
 -- ---- all of it
 
@@ -162,7 +162,7 @@ first-stands words form capacity batches work all taken = record {
   old_journal = λ is. refl;
   durable = omega arith;
   cells = ap cell_counts taken.slaves ∙ sizes-owing (live_runs batches) 0 (map opened_slave words) ∙ counts-opened words;
-  errands = errands-found batches words work taken.slaves
+  operations = operations-found batches words work taken.slaves
       (ap runs_of (all-found batches work words all taken ∙ append-nil (map as_found (entries_of batches)))
       ∙ same-runs (map as_found (entries_of batches)) (entries_of batches) (each-found (entries_of batches)));
   live = record {

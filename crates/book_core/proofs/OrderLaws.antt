@@ -34,8 +34,8 @@ all-order found base commands = λ i j d le within. one i j d le within (cases_l
     rest : List Entry
     rest = entries_from 0 base commands
 
-    behind : (i : ℕ) (d : Entry) → length found ≤ i → i < length (front ++ rest) → (get_or (front ++ rest) i d).number ≡ i - length found
-    behind i d le within =
+    afterwards : (i : ℕ) (d : Entry) → length found ≤ i → i < length (front ++ rest) → (get_or (front ++ rest) i d).number ≡ i - length found
+    afterwards i d le within =
         let inside : i - length found < length commands = omega (arith, length-append front rest, length-map found as_found, length-entries 0 base commands) in
         ap (λ (e : Entry). e.number) (get_or-append_right front rest (length found) i d (length-map found as_found) le) ∙ number-at 0 base commands (i - length found) d inside ∙ omega arith
 
@@ -44,7 +44,7 @@ all-order found base commands = λ i j d le within. one i j d le within (cases_l
         let is : (get_or (front ++ rest) i d).number ≡ 0 =
         ap (λ (e : Entry). e.number) (get_or_append_left front rest d i (omega (arith, length-map found as_found)) ∙ get_or-map as_found found i d d early) in
         omega (arith, is)
-    one i j d le within (inr late) = omega (arith, behind i d late (omega arith), behind j d (omega arith) within)
+    one i j d le within (inr late) = omega (arith, afterwards i d late (omega arith), afterwards j d (omega arith) within)
 
 -- once the next commands are live too
 pub order-next : (found : List Entry) (ledger : Ledger) (work : LineState) → AreLatest found ledger work → NeverFall ((work.older ++ work.newer) ++ appended ledger)

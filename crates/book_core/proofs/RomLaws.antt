@@ -8,7 +8,7 @@ use Rattle.book_model.specs.Pending.{first, last_of}
 use Rattle.book_model.specs.Pending as pending
 use Rattle.book_model.specs.declared.next.RomNext.TheVariants as next
 use Rattle.book_model.specs.Entries.{runs_of, namings}
-use Rattle.book_model.specs.Book.{Book, Slave, Free, slave_at}
+use Rattle.book_model.specs.Book.{Book, Slave, NoOperation, slave_at}
 use Rattle.book_model.specs.RomSteps.{rom_next, to_do, with_issue, without_work}
 use Rattle.book_parts.specs.Line.{LineState}
 use Rattle.book_parts.specs.Line as line
@@ -47,15 +47,15 @@ has-none : (l : List (ℕ × ℕ)) → first l ≡ None → l ≡ []
 has-none [] is = refl
 has-none (n ∷ ns) is = absurd (cc is)
 
-pub next-issue : (book : Book) (i : ℕ) (w : ℕ × ℕ) → i < length book.slaves → (slave_at book i).errand ≡ Free → is_some book.fault ≡ false → first (to_do book i) ≡ Some w
+pub next-issue : (book : Book) (i : ℕ) (w : ℕ × ℕ) → i < length book.slaves → (slave_at book i).operation ≡ NoOperation → is_some book.fault ≡ false → first (to_do book i) ≡ Some w
     → rom_next book i ≡ (next.Issue w.0 w.1, with_issue book i w)
-next-issue book i w within free none is =
+next-issue book i w within vacant none is =
     let t : nat_lt i (length book.slaves) ≡ true = lt-ltb i (length book.slaves) (omega arith) in
     let some = has-first (to_do book i) w is in
-    rw (t, free, none, some.1) refl
+    rw (t, vacant, none, some.1) refl
 
-pub next-none : (book : Book) (i : ℕ) → i < length book.slaves → (slave_at book i).errand ≡ Free → is_some book.fault ≡ false → first (to_do book i) ≡ None
+pub next-none : (book : Book) (i : ℕ) → i < length book.slaves → (slave_at book i).operation ≡ NoOperation → is_some book.fault ≡ false → first (to_do book i) ≡ None
     → rom_next book i ≡ (without_work book, book)
-next-none book i within free none is =
+next-none book i within vacant none is =
     let t : nat_lt i (length book.slaves) ≡ true = lt-ltb i (length book.slaves) (omega arith) in
-    rw (t, free, none, has-none (to_do book i) is) refl
+    rw (t, vacant, none, has-none (to_do book i) is) refl

@@ -15,25 +15,25 @@ use Rattle.book_core.specs.Stands.{as_found, AreLatest}
 use Rattle.book_core.proofs.AppliedLaws.{prefix-found, prefix-gone}
 
 -- what is found says whether the prefix is whole
-abbrev Whole : Option ℕ → (prefix all : ℕ) → Type 0
-Whole None prefix all = prefix ≡ all
-Whole (Some number) prefix all = prefix < all
+abbrev Complete : Option ℕ → (prefix all : ℕ) → Type 0
+Complete None prefix all = prefix ≡ all
+Complete (Some number) prefix all = prefix < all
 
-whole-live : (cells : List (List Cell)) (es : List Entry) → Whole (first_unsettled cells es) (settled_prefix cells es) (length es)
-whole-live cells [] = refl
-whole-live cells (e ∷ es) = one (runs_settled cells (runs_of es) e.runs) (first_unsettled cells es) (whole-live cells es)
+entire-live : (cells : List (List Cell)) (es : List Entry) → Complete (first_unsettled cells es) (settled_prefix cells es) (length es)
+entire-live cells [] = refl
+entire-live cells (e ∷ es) = one (runs_settled cells (runs_of es) e.runs) (first_unsettled cells es) (entire-live cells es)
   where
-    one : (b : Bool) (o : Option ℕ) → Whole o (settled_prefix cells es) (length es)
-        → Whole (if b then o else Some e.number) (if b then suc (settled_prefix cells es) else 0) (suc (length es))
+    one : (b : Bool) (o : Option ℕ) → Complete o (settled_prefix cells es) (length es)
+        → Complete (if b then o else Some e.number) (if b then suc (settled_prefix cells es) else 0) (suc (length es))
     one true None same = ap suc same
     one true (Some number) less = omega arith
     one false o any = omega arith
 
-whole-more : (o : Option ℕ) (before prefix all : ℕ) → Whole o prefix all → Whole o (before + prefix) (before + all)
-whole-more None before prefix all same = ap (λ (n : ℕ). before + n) same
-whole-more (Some number) before prefix all less = omega arith
+entire-more : (o : Option ℕ) (before prefix all : ℕ) → Complete o prefix all → Complete o (before + prefix) (before + all)
+entire-more None before prefix all same = ap (λ (n : ℕ). before + n) same
+entire-more (Some number) before prefix all less = omega arith
 
-tells : (o : Option ℕ) (prefix all : ℕ) → Whole o prefix all → is_none o ≡ (prefix == all)
+tells : (o : Option ℕ) (prefix all : ℕ) → Complete o prefix all → is_none o ≡ (prefix == all)
 tells None prefix all same = sym (eq-eqb prefix all same)
 tells (Some number) prefix all less = sym (ne_eqb prefix all (λ same. absurd (omega (arith, same, less))))
 
@@ -46,7 +46,7 @@ settled-book words found ledger work base latest few unsettled is =
     let cells = all_cells work.slaves in
     let live = work.older ++ work.newer in
     let done = take ledger.durable (own ledger) in
-    let here = whole-more (first_unsettled cells live) (length latest.gone) (settled_prefix cells live) (length live) (whole-live cells live) in
+    let here = entire-more (first_unsettled cells live) (length latest.gone) (settled_prefix cells live) (length live) (entire-live cells live) in
     let count : length latest.gone + length live ≡ length (found ++ done) =
     omega (arith, ap length latest.all, length-append latest.gone live, length-append (map as_found found) done, length-map found as_found, length-append found done) in
     let prefix : length latest.gone + settled_prefix cells live ≡ settled_prefix cells (found ++ done) =

@@ -34,8 +34,8 @@ pub size-alone : (entry : Entry) → entries_size (entry ∷ []) ≡ 8 + entry_s
 size-alone entry = omega (arith, payload_one_more [] entry, payload_size [])
 
 -- a batch of the queue and one command more
-pub size-behind : (entries : List Entry) (entry : Entry) → entries_size (entries ++ entry ∷ []) ≡ entries_size entries + entry_size entry.runs
-size-behind entries entry = omega (arith, payload_one_more entries entry)
+pub size-after : (entries : List Entry) (entry : Entry) → entries_size (entries ++ entry ∷ []) ≡ entries_size entries + entry_size entry.runs
+size-after entries entry = omega (arith, payload_one_more entries entry)
 
 -- ---- the halves with the batch that is being appended
 
@@ -101,19 +101,19 @@ full-is core runs given stands few more place =
     (is_none (place_of (half_room core.area) (with_appended core.area.halves (book.appended b.doing)) (book.queued b ++ entry_for b runs ∷ [])))
     (subst (λ (l : List Entry). nat_le QUEUE (length l) ≡ false) same short) left
 
--- behind the batch that is being appended
-pub full-behind : (core : Inside) (runs : List Run) (given : Option Spot) (spot : Spot) → Stands core → length (queued core.ledger) < QUEUE → length core.ledger.accepted < 2 ^ 64 - 1 → place_appended core.step ≡ Some (as_place spot)
+-- after the batch that is being appended
+pub full-after : (core : Inside) (runs : List Run) (given : Option Spot) (spot : Spot) → Stands core → length (queued core.ledger) < QUEUE → length core.ledger.accepted < 2 ^ 64 - 1 → place_appended core.step ≡ Some (as_place spot)
     → ((first entries : List Entry) → entries_size first ≡ entries_size (appended core.ledger) → entries_size entries ≡ entries_size (queued core.ledger) + entry_size runs
     → option_map as_place given ≡ place_of (half_room core.area) (with_batch core.area.halves (as_place spot) (batch_in core.area.halves (as_place spot) first)) entries)
     → is_none given ≡ is_full (book_of core) runs
-full-behind core runs given spot stands few more at place =
+full-after core runs given spot stands few more at place =
     let entry = entry_for (book_of core) runs in
     let entries = queued core.ledger ++ entry ∷ [] in
     full-is core runs given stands few more
-    (place (appended core.ledger) entries refl (size-behind (queued core.ledger) entry)
+    (place (appended core.ledger) entries refl (size-after (queued core.ledger) entry)
     ∙ ap (λ (h : Halves). place_of (half_room core.area) h entries) (sym (halves-appended core.area.halves (appended core.ledger) core.step spot at)))
 
--- behind the live batches
+-- after the live batches
 pub full-alone : (core : Inside) (runs : List Run) (given : Option Spot) → Stands core → length (queued core.ledger) < QUEUE → length core.ledger.accepted < 2 ^ 64 - 1 → place_appended core.step ≡ None
     → ((entries : List Entry) → entries_size entries ≡ entries_size (queued core.ledger) + entry_size runs
     → option_map as_place given ≡ place_of (half_room core.area) core.area.halves entries)
@@ -122,7 +122,7 @@ full-alone core runs given stands few more at place =
     let entry = entry_for (book_of core) runs in
     let entries = queued core.ledger ++ entry ∷ [] in
     full-is core runs given stands few more
-    (place entries (size-behind (queued core.ledger) entry)
+    (place entries (size-after (queued core.ledger) entry)
     ∙ ap (λ (h : Halves). place_of (half_room core.area) h entries) (sym (halves-alone core.area.halves (appended core.ledger) core.step at)))
 
 -- ---- the answer

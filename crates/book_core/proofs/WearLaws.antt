@@ -9,7 +9,7 @@ use Rattle.book_model.specs.Cells.{Cell, Known, Holds, Unsure, nothing, cell_of,
 use Rattle.book_model.specs.Pending.{first, last_of, values_of, namings_settled}
 use Rattle.book_model.specs.Pending as pending
 use Rattle.book_model.specs.Entries.{entries_from, namings, values}
-use Rattle.book_model.specs.Book.{Errand, Free, Issuing, Unsettled, Settling}
+use Rattle.book_model.specs.Book.{Operation, NoOperation, Issuing, Unsettled, Settling}
 use Rattle.book_model.specs.Open.{owing_words}
 use Rattle.book_model.proofs.EndLaws.{values-append}
 use Rattle.book_model.proofs.SettledLaws.{word-settled}
@@ -112,8 +112,8 @@ owes-cell runs i at [] word value is = is
 owes-cell runs i at (c ∷ cs) zero value is = (is.0, among-named c.known c.owed (values runs i at) value is.0 is.1)
 owes-cell runs i at (c ∷ cs) (suc word) value is = owes-cell runs i (suc at) cs word value is
 
-pub owed-owing : (runs : List Run) (i : ℕ) (cells : List Cell) (errand : Errand) → IsOwed errand cells → IsOwed errand (owing_words runs i 0 cells)
-owed-owing runs i cells Free is = tt
+pub owed-owing : (runs : List Run) (i : ℕ) (cells : List Cell) (operation : Operation) → IsOwed operation cells → IsOwed operation (owing_words runs i 0 cells)
+owed-owing runs i cells NoOperation is = tt
 owed-owing runs i cells (Issuing word value) is = owes-cell runs i 0 cells word value is
 owed-owing runs i cells (Unsettled word value taken) is = owes-cell runs i 0 cells word value is
 owed-owing runs i cells (Settling word value taken) is = owes-cell runs i 0 cells word value is
@@ -134,5 +134,5 @@ pub few-issued : (core : Inside) → Stands core → IssuesFew (book_of core)
 few-issued core stands = λ i inside.
     worn-few (book_of core) i
     (λ k within. subst (λ (b : List (List ℕ)). SlaveWorn (named_for (core.found ++ take core.ledger.durable (entries_from 0 b core.ledger.accepted)) k) (is_some core.fault) (slave_at core.work k))
-    stands.base (stands.errands k within).worn)
+    stands.base (stands.operations k within).worn)
     inside

@@ -9,7 +9,7 @@ use Rattle.book_model.specs.Cells.{Cell}
 use Rattle.book_model.specs.declared.fault.Fault.{Fault}
 use Rattle.book_model.specs.Entries.{runs_of, namings}
 use Rattle.book_model.specs.Pending.{first}
-use Rattle.book_model.specs.Book.{Slave, Errand, Free, all_cells, IsAbout, Settling}
+use Rattle.book_model.specs.Book.{Slave, Operation, NoOperation, all_cells, IsAbout, Settling}
 use Rattle.book_model.specs.Reading.{runs_settled, settled_prefix}
 use Rattle.book_model.specs.Fits.{OwesNoMore}
 use Rattle.book_model.proofs.BookLaws.{length-all_cells}
@@ -20,8 +20,8 @@ use Rattle.book_parts.specs.Ledger.{Ledger, own}
 use Rattle.book_parts.specs.Shown.{Shown}
 use Rattle.book_core.specs.declared.step.Step.{Step}
 use Rattle.book_core.specs.declared.step.Step.TheVariants.{Resting, Payload, PayloadSync, OpenGate, OpenSync, CloseGate, CloseSync, FarGate, Mark, MarkSync, Version, VersionSync}
-use Rattle.book_core.specs.Stands.{cell_counts, runs_each, ErrandStands, ErrandsStand, IsAppending, IsRetiring, StepStands, applied_of, live_for, named_since, PartsStand}
-use Rattle.book_core.proofs.SlaveLaws.{GoesOn, counts-set, owes-set, errands-set, issued_slave, issued-goes, errand-issued, written_slave, written-goes, errand-written}
+use Rattle.book_core.specs.Stands.{cell_counts, runs_each, OperationStands, OperationsStand, IsAppending, IsRetiring, StepStands, applied_of, live_for, named_since, PartsStand}
+use Rattle.book_core.proofs.SlaveLaws.{GoesOn, counts-set, owes-set, operations-set, issued_slave, issued-goes, operation-issued, written_slave, written-goes, operation-written}
 use Rattle.book_core.proofs.RomLaws.{to_do-inside}
 use Rattle.book_core.proofs.WearLaws.{issue-owed}
 
@@ -55,14 +55,14 @@ was-yes : (b : Bool) (n m : ℕ) → suc n ≤ (if b then suc m else 0) → b �
 was-yes true n m le = refl
 was-yes false n m le = absurd (omega arith)
 
-pub settled-later : (cells later : List (List Cell)) (behind : List Entry) (runs : List Run) → length later ≡ length cells → OwesNoMore cells later []
-    → runs_settled cells (runs_of behind) runs ≡ true → runs_settled later (runs_of behind) runs ≡ true
-settled-later cells later behind runs same owes is =
+pub settled-later : (cells later : List (List Cell)) (after : List Entry) (runs : List Run) → length later ≡ length cells → OwesNoMore cells later []
+    → runs_settled cells (runs_of after) runs ≡ true → runs_settled later (runs_of after) runs ≡ true
+settled-later cells later after runs same owes is =
     let first : Entry = record { number = 0; runs = runs } in
-    let le : settled_prefix cells (first ∷ behind) ≤ settled_prefix later ((first ∷ behind) ++ []) = prefix-stays cells later (first ∷ behind) [] same owes in
-    let all : settled_prefix cells (first ∷ behind) ≤ settled_prefix later (first ∷ behind) = subst (λ (l : List Entry). settled_prefix cells (first ∷ behind) ≤ settled_prefix later l) (append-nil (first ∷ behind)) le in
-    was-yes (runs_settled later (runs_of behind) runs) (settled_prefix cells behind) (settled_prefix later behind)
-    (subst (λ (b : Bool). (if b then suc (settled_prefix cells behind) else 0) ≤ settled_prefix later (first ∷ behind)) is all)
+    let le : settled_prefix cells (first ∷ after) ≤ settled_prefix later ((first ∷ after) ++ []) = prefix-stays cells later (first ∷ after) [] same owes in
+    let all : settled_prefix cells (first ∷ after) ≤ settled_prefix later (first ∷ after) = subst (λ (l : List Entry). settled_prefix cells (first ∷ after) ≤ settled_prefix later l) (append-nil (first ∷ after)) le in
+    was-yes (runs_settled later (runs_of after) runs) (settled_prefix cells after) (settled_prefix later after)
+    (subst (λ (b : Bool). (if b then suc (settled_prefix cells after) else 0) ≤ settled_prefix later (first ∷ after)) is all)
 
 pub applied-later : (found : List Entry) (ledger : Ledger) (old new : LineState) → Moves old new → applied_of found ledger old ≤ applied_of found ledger new
 applied-later found ledger old new moves =
@@ -105,13 +105,13 @@ step-later VersionSync area ledger old new moves is = is
 -- ---- all of it
 
 pub moved-stands : (words : List (List ℕ)) (found : List Entry) (area : Room) (step : Step) (ledger : Ledger) (old new : LineState) (shown : Shown) (fault later : Option Fault)
-    → Moves old new → ErrandsStand found ledger later new → PartsStand words found area step ledger old shown fault → PartsStand words found area step ledger new shown later
-moved-stands words found area step ledger old new shown fault later moves errands stands = record {
+    → Moves old new → OperationsStand found ledger later new → PartsStand words found area step ledger old shown fault → PartsStand words found area step ledger new shown later
+moved-stands words found area step ledger old new shown fault later moves operations stands = record {
   base = stands.base;
   old_journal = stands.old_journal;
   durable = stands.durable;
   cells = moves.counts ∙ stands.cells;
-  errands = errands;
+  operations = operations;
   live = record { older = ap runs_each moves.older ∙ stands.live.older; newer = ap runs_each moves.newer ∙ stands.live.newer };
   latest = record { gone = stands.latest.gone; all = rw (moves.older, moves.newer) stands.latest.all };
   doing = step-later step area ledger old new moves stands.doing;
@@ -120,34 +120,34 @@ moved-stands words found area step ledger old new shown fault later moves errand
 
 -- one slave goes on
 pub slave-stands : (words : List (List ℕ)) (found : List Entry) (area : Room) (step : Step) (ledger : Ledger) (work : LineState) (shown : Shown) (fault later : Option Fault) (i : ℕ) (s : Slave)
-    → (is_some later ≡ false → is_some fault ≡ false) → i < length work.slaves → GoesOn (slave_at work i) s → ErrandStands (named_since found ledger i) (live_for work i) later s
+    → (is_some later ≡ false → is_some fault ≡ false) → i < length work.slaves → GoesOn (slave_at work i) s → OperationStands (named_since found ledger i) (live_for work i) later s
     → PartsStand words found area step ledger work shown fault → PartsStand words found area step ledger (with_slave work i s) shown later
-slave-stands words found area step ledger work shown fault later i s same within goes errand stands =
-    moved-stands words found area step ledger work (with_slave work i s) shown fault later (moves-one work i s within goes) (errands-set found ledger fault later work i s same within stands.errands errand) stands
+slave-stands words found area step ledger work shown fault later i s same within goes operation stands =
+    moved-stands words found area step ledger work (with_slave work i s) shown fault later (moves-one work i s within goes) (operations-set found ledger fault later work i s same within stands.operations operation) stands
 
 -- another errand of a slave
-pub errand-stands : (words : List (List ℕ)) (found : List Entry) (area : Room) (step : Step) (ledger : Ledger) (work : LineState) (shown : Shown) (fault later : Option Fault) (i : ℕ) (errand : Errand)
-    → (is_some later ≡ false → is_some fault ≡ false) → i < length work.slaves → ErrandStands (named_since found ledger i) (live_for work i) later (record (slave_at work i) { errand = errand })
-    → PartsStand words found area step ledger work shown fault → PartsStand words found area step ledger (with_slave work i (record (slave_at work i) { errand = errand })) shown later
-errand-stands words found area step ledger work shown fault later i errand same within here stands =
-    slave-stands words found area step ledger work shown fault later i (record (slave_at work i) { errand = errand }) same within (record { words = refl; owed = λ at. omega arith }) here stands
+pub operation-stands : (words : List (List ℕ)) (found : List Entry) (area : Room) (step : Step) (ledger : Ledger) (work : LineState) (shown : Shown) (fault later : Option Fault) (i : ℕ) (operation : Operation)
+    → (is_some later ≡ false → is_some fault ≡ false) → i < length work.slaves → OperationStands (named_since found ledger i) (live_for work i) later (record (slave_at work i) { operation = operation })
+    → PartsStand words found area step ledger work shown fault → PartsStand words found area step ledger (with_slave work i (record (slave_at work i) { operation = operation })) shown later
+operation-stands words found area step ledger work shown fault later i operation same within here stands =
+    slave-stands words found area step ledger work shown fault later i (record (slave_at work i) { operation = operation }) same within (record { words = refl; owed = λ at. omega arith }) here stands
 
 -- a free slave's next word is handed out to be issued
 pub issue-stands : (words : List (List ℕ)) (found : List Entry) (area : Room) (step : Step) (ledger : Ledger) (work : LineState) (shown : Shown) (fault : Option Fault) (i : ℕ) (o : Option (ℕ × ℕ))
-    → o ≡ first (to_do work i) → i < length work.slaves → (slave_at work i).errand ≡ Free → is_some fault ≡ false
+    → o ≡ first (to_do work i) → i < length work.slaves → (slave_at work i).operation ≡ NoOperation → is_some fault ≡ false
     → PartsStand words found area step ledger work shown fault → PartsStand words found area step ledger (with_issue work i o) shown fault
-issue-stands words found area step ledger work shown fault i None is within free none stands = stands
-issue-stands words found area step ledger work shown fault i (Some w) is within free none stands =
+issue-stands words found area step ledger work shown fault i None is within vacant none stands = stands
+issue-stands words found area step ledger work shown fault i (Some w) is within vacant none stands =
     let inside : w.0 < length (slave_at work i).cells = to_do-inside (slave_at work i).cells (namings (runs_of (work.older ++ work.newer)) i) w (sym is) in
-    let owed = issue-owed (live_for work i) (slave_at work i).cells w (stands.errands i within).last (sym is) in
+    let owed = issue-owed (live_for work i) (slave_at work i).cells w (stands.operations i within).last (sym is) in
     slave-stands words found area step ledger work shown fault fault i (issued_slave (slave_at work i) w.0 w.1) (λ none. none) within (issued-goes (slave_at work i) w.0 w.1 inside)
-    (errand-issued (named_since found ledger i) (live_for work i) fault (slave_at work i) w.0 w.1 free none inside owed.0 owed.1 (stands.errands i within)) stands
+    (operation-issued (named_since found ledger i) (live_for work i) fault (slave_at work i) w.0 w.1 vacant none inside owed.0 owed.1 (stands.operations i within)) stands
 
 -- the errand's word is written
 pub write-stands : (words : List (List ℕ)) (found : List Entry) (area : Room) (step : Step) (ledger : Ledger) (work : LineState) (shown : Shown) (fault : Option Fault) (i word value : ℕ) (taken : Bool)
-    → i < length work.slaves → (slave_at work i).errand ≡ Settling word value taken
+    → i < length work.slaves → (slave_at work i).operation ≡ Settling word value taken
     → PartsStand words found area step ledger work shown fault → PartsStand words found area step ledger (with_written work i word value) shown fault
 write-stands words found area step ledger work shown fault i word value taken within is stands =
-    let inside : word < length (slave_at work i).cells = (stands.errands i within).word word (subst (λ (e : Errand). IsAbout e word) (sym is) refl) in
+    let inside : word < length (slave_at work i).cells = (stands.operations i within).word word (subst (λ (e : Operation). IsAbout e word) (sym is) refl) in
     slave-stands words found area step ledger work shown fault fault i (written_slave (slave_at work i) word value) (λ none. none) within (written-goes (slave_at work i) word value inside)
-    (errand-written (named_since found ledger i) (live_for work i) fault (slave_at work i) word value taken is inside (stands.errands i within)) stands
+    (operation-written (named_since found ledger i) (live_for work i) fault (slave_at work i) word value taken is inside (stands.operations i within)) stands

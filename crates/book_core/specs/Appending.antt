@@ -4,7 +4,7 @@ use Rattle.jrn_format.specs.declared.journal.Entry.{Entry}
 use Rattle.jrn_format.specs.Halves.{Place}
 use Rattle.book_model.specs.Book.{Book, own, appended}
 
--- If entries are being appended, they are those of the accepted commands right behind the durable ones.
+-- If entries are being appended, they are those of the accepted commands right after the durable ones.
 abbrev pub AppendsNext : Book → Type 0
 AppendsNext book = (place : Place) (entries : List Entry) → appended book.doing ≡ Some (place, entries)
     → take (length entries) (drop book.durable (own book)) ≡ entries

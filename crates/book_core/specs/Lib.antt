@@ -5,7 +5,7 @@ pub mod Live
 pub mod Submit
 pub mod Plan
 pub mod Handing
-pub mod Found
+pub mod OpenedState
 pub mod Settled
 pub mod Wear
 pub mod Appending

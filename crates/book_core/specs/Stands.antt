@@ -10,7 +10,7 @@ use Rattle.book_model.specs.Cells.{Cell, since, cell_of}
 use Rattle.book_model.specs.declared.fault.Fault.{Fault}
 use Rattle.book_model.specs.Pending.{values_of}
 use Rattle.book_model.specs.Entries.{namings, runs_of, entries_of, sizes_of}
-use Rattle.book_model.specs.Book.{Slave, Errand, Free, Issuing, Unsettled, Settling, IsAbout, all_cells, is_version_2}
+use Rattle.book_model.specs.Book.{Slave, Operation, NoOperation, Issuing, Unsettled, Settling, IsAbout, all_cells, is_version_2}
 use Rattle.book_model.specs.Reading.{settled_prefix}
 use Rattle.book_model.specs.Owed.{IsAmong, IsUnsure, due}
 use Rattle.book_model.specs.Worn.{named_for, SlaveWorn}
@@ -30,8 +30,8 @@ abbrev pub cell_counts : List Slave → List ℕ
 cell_counts slaves = map (λ (s : Slave). length s.cells) slaves
 
 -- The errand's word is owed its value, and what the word holds is unknown.
-abbrev pub IsOwed : Errand → List Cell → Type 0
-IsOwed Free cells = Unit {0}
+abbrev pub IsOwed : Operation → List Cell → Type 0
+IsOwed NoOperation cells = Unit {0}
 IsOwed (Issuing word value) cells = IsUnsure (cell_of cells word).known × IsAmong value (cell_of cells word).owed
 IsOwed (Unsettled word value taken) cells = IsUnsure (cell_of cells word).known × IsAmong value (cell_of cells word).owed
 IsOwed (Settling word value taken) cells = IsUnsure (cell_of cells word).known × IsAmong value (cell_of cells word).owed
@@ -43,12 +43,12 @@ OwesLast live cells = (at word : ℕ) → 0 < length (cell_of cells at).owed →
 -- The errand is about a word of the slave, and its value is owed. Without a fault, no word has had more than three issues since it was
 -- known, and a word that the errand isn't about at most two. So the slave is spared wear. `named`: how many words were named for it
 -- since the open. `live`: the namings that are live.
-pub record ErrandStands (named : ℕ) (live : List (ℕ × ℕ)) (fault : Option Fault) (slave : Slave) : Type 0 where
-  pub word : (at : ℕ) → IsAbout slave.errand at → at < length slave.cells
+pub record OperationStands (named : ℕ) (live : List (ℕ × ℕ)) (fault : Option Fault) (slave : Slave) : Type 0 where
+  pub word : (at : ℕ) → IsAbout slave.operation at → at < length slave.cells
   pub issues : is_some fault ≡ false → (at : ℕ) → since (cell_of slave.cells at).known ≤ 3
-  pub others : is_some fault ≡ false → (at : ℕ) → ¬ (IsAbout slave.errand at) → since (cell_of slave.cells at).known ≤ 2
+  pub others : is_some fault ≡ false → (at : ℕ) → ¬ (IsAbout slave.operation at) → since (cell_of slave.cells at).known ≤ 2
   pub worn : SlaveWorn named (is_some fault) slave
-  pub owed : IsOwed slave.errand slave.cells
+  pub owed : IsOwed slave.operation slave.cells
   pub last : OwesLast live slave.cells
 
 -- How many words the entries found at the open and the durable commands name for slave i.
@@ -60,9 +60,9 @@ abbrev pub live_for : LineState → ℕ → List (ℕ × ℕ)
 live_for work i = namings (runs_of (work.older ++ work.newer)) i
 
 -- This holds of each slave of the line.
-abbrev pub ErrandsStand : List Entry → Ledger → Option Fault → LineState → Type 0
-ErrandsStand found ledger fault work = (i : ℕ) → i < length work.slaves
-    → ErrandStands (named_since found ledger i) (live_for work i) fault (slave_at work i)
+abbrev pub OperationsStand : List Entry → Ledger → Option Fault → LineState → Type 0
+OperationsStand found ledger fault work = (i : ℕ) → i < length work.slaves
+    → OperationStands (named_since found ledger i) (live_for work i) fault (slave_at work i)
 
 -- ---- the live entries
 
@@ -139,7 +139,7 @@ pub record PartsStand (words : List (List ℕ)) (found : List Entry) (area : Roo
   pub old_journal : is_version_2 area.form ≡ false → ledger.accepted ≡ []
   pub durable : ledger.durable + ledger.begun ≤ length ledger.accepted
   pub cells : cell_counts work.slaves ≡ sizes_of words
-  pub errands : ErrandsStand found ledger fault work
+  pub operations : OperationsStand found ledger fault work
   pub live : HasLive area.halves work
   pub latest : AreLatest found ledger work
   pub doing : StepStands step area ledger work

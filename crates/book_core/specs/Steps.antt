@@ -16,18 +16,18 @@ place_appended (OpenSync spot) = Some (as_place spot)
 place_appended step = None
 
 -- The step after closing the first gate of half 1: a migration that was cut has left its mark.
-abbrev pub behind_far_gate : Form → Step
-behind_far_gate Moving = MarkSync
-behind_far_gate form = Mark
+abbrev pub after_far_gate : Form → Step
+after_far_gate Moving = MarkSync
+after_far_gate form = Mark
 
 -- The step after each step.
-abbrev pub step_behind : Form → Step → Step
-step_behind form (Payload spot) = PayloadSync spot
-step_behind form (PayloadSync spot) = OpenGate spot
-step_behind form (OpenGate spot) = OpenSync spot
-step_behind form CloseGate = CloseSync
-step_behind form FarGate = behind_far_gate form
-step_behind form Mark = MarkSync
-step_behind form MarkSync = Version
-step_behind form Version = VersionSync
-step_behind form step = Resting
+abbrev pub step_after : Form → Step → Step
+step_after form (Payload spot) = PayloadSync spot
+step_after form (PayloadSync spot) = OpenGate spot
+step_after form (OpenGate spot) = OpenSync spot
+step_after form CloseGate = CloseSync
+step_after form FarGate = after_far_gate form
+step_after form Mark = MarkSync
+step_after form MarkSync = Version
+step_after form Version = VersionSync
+step_after form step = Resting

@@ -75,7 +75,7 @@ impl Core {
     }
 
     /// The commands accepted since the open, in order. Each is valid on the contents after those before it. Those that are being
-    /// appended are the ones right behind the durable ones.
+    /// appended are the ones right after the durable ones.
     pub fn accepted(&self) -> &[Command]
         ensures commands { result.now ≡ self.now.accepted }
         ensures each { AreAccepted (base_of self.now) self.now.accepted }

@@ -15,7 +15,7 @@ const VERSION_AT: usize = 1;
 /// The mark of a migration.
 const MARK: [u8; 4] = *b"MIG2";
 
-/// The byte of the journal's file at which the mark begins, behind the first gate.
+/// The byte of the journal's file at which the mark begins, after the first gate.
 const MARK_AT: usize = 9;
 
 /// A write of these bytes, from byte `at` of the journal's file on.
@@ -152,7 +152,7 @@ impl Core {
         }
     }
 
-    /// Hands out the write of a batch behind its gate: the batch that is being appended, else one of the whole queue.
+    /// Hands out the write of a batch after its gate: the batch that is being appended, else one of the whole queue.
     fn write_payload(&mut self, spot: Spot) -> Result<DiskNext, CoreFault>
         requires { IsNext self.old (Step.Payload spot) }
         ensures { HandsOut self.old self.new result }

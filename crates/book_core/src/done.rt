@@ -88,7 +88,7 @@ impl Core {
                 self.step = Step::Resting;
                 self.is_migrating = false;
             }
-            step => self.step = step.behind(self.area.form()),
+            step => self.step = step.after(self.area.form()),
         }
     }
 }

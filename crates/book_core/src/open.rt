@@ -6,7 +6,7 @@ ghost use Rattle.jrn_format.specs.Halves.{live};
 ghost use Rattle.jrn_format.specs.Live.{halves_in};
 ghost use Rattle.book_model.specs.Entries.{entries_of, live_runs, sizes_of};
 ghost use Rattle.book_parts.specs.Ledger.{opened};
-ghost use Rattle.book_core.specs.Found.{IsTaken};
+ghost use Rattle.book_core.specs.OpenedState.{IsTaken};
 
 use crate::book::Core;
 use crate::step::Step;
@@ -61,7 +61,7 @@ fn shown_and_ledger(alloc: Global, contents: Plant) -> Result<(Shown, Ledger), A
 
 /// What a book is opened with.
 #[derive(Drop)]
-struct Found {
+struct OpenedState {
     /// The entries of the live batches.
     entries: History<Entry>,
     /// What remains to be written to each slave.
@@ -71,7 +71,7 @@ struct Found {
 }
 
 /// Redoes the live batches over the words as they were read, and starts with the contents after them.
-fn found_in(alloc: Global, words: Plant, batches: Vec<Batch>) -> Result<Found, AllocError>
+fn found_in(alloc: Global, words: Plant, batches: Vec<Batch>) -> Result<OpenedState, AllocError>
     requires within { AllByRecursion (IsWithin (sizes_of words)) batches.items }
     requires halves { live (halves_in batches.items) ≡ batches.items }
     ensures entries { IfOk result (λ found. found.entries ≡ entries_of batches.items) }
@@ -88,7 +88,7 @@ fn found_in(alloc: Global, words: Plant, batches: Vec<Batch>) -> Result<Found, A
         drop(work);
         return Err(AllocError);
     };
-    Ok(Found {
+    Ok(OpenedState {
         entries: found,
         work,
         shown,
@@ -123,7 +123,7 @@ impl Core {
         let area = Area::open(form, capacity, batches.as_slice());
         let plant = Plant::of(slaves);
         let words = Snapshot::of(&plant);
-        let Found {
+        let OpenedState {
             entries,
             work,
             shown,

@@ -2,7 +2,7 @@ ghost use Rattle.std.specs.Prelude.{◌≡◌, ◌<◌, Bool, length, true, fals
 
 use crate::book::Core;
 use book_model::{Fault, RomNext, RomOutcome};
-use book_parts::Errand;
+use book_parts::Operation;
 use site_core::{Issued, Settled};
 
 /// How often a word is issued at most before its slave is given up.
@@ -12,7 +12,7 @@ impl Core {
     ghost use Rattle.book_model.specs.Book as book;
     ghost use Rattle.book_model.specs.Book.{slave_at, with_fault, IsAbout};
     ghost use Rattle.book_core.specs.Wear.{IssuesFew};
-    ghost use Rattle.book_model.specs.RomSteps.{rom_next, rom_done, without_work, with_errand, with_written, with_again};
+    ghost use Rattle.book_model.specs.RomSteps.{rom_next, rom_done, without_work, with_operation, with_written, with_again};
 
     /// Hands out the next action for the slave, numbered from 0. `rom_done` reports its outcome; until then the answer is `Idle`.
     ///
@@ -39,10 +39,10 @@ impl Core {
         if slave >= self.work.len() {
             return RomNext::Stop;
         }
-        match self.work.errand(slave) {
-            Errand::Free => self.issue(slave),
-            Errand::Unsettled { word, value, taken } => self.settle(slave, word, value, taken),
-            Errand::Issuing { .. } | Errand::Settling { .. } => RomNext::Idle,
+        match self.work.operation(slave) {
+            Operation::NoOperation => self.issue(slave),
+            Operation::Unsettled { word, value, taken } => self.settle(slave, word, value, taken),
+            Operation::Issuing { .. } | Operation::Settling { .. } => RomNext::Idle,
         }
     }
 
@@ -56,7 +56,7 @@ impl Core {
     /// Hands out the next word of an idle slave.
     fn issue(&mut self, slave: usize) -> RomNext
         requires slave { slave < length self.old.slaves }
-        requires free { (slave_at self.old slave).errand ≡ book.Free }
+        requires vacant { (slave_at self.old slave).operation ≡ book.NoOperation }
         ensures answer { result ≡ (rom_next self.old slave).0 }
         ensures book { self.new ≡ (rom_next self.old slave).1 }
     {
@@ -72,7 +72,7 @@ impl Core {
     /// Hands out the settle of the word that was issued.
     fn settle(&mut self, slave: usize, word: u16, value: u16, taken: bool) -> RomNext
         requires slave { slave < length self.old.slaves }
-        requires unsettled { (slave_at self.old slave).errand ≡ book.Unsettled word value taken }
+        requires unsettled { (slave_at self.old slave).operation ≡ book.Unsettled word value taken }
         ensures answer { result ≡ (rom_next self.old slave).0 }
         ensures book { self.new ≡ (rom_next self.old slave).1 }
     {
@@ -80,7 +80,7 @@ impl Core {
             return RomNext::Stop;
         }
         self.work
-            .set_errand(slave, Errand::Settling { word, value, taken });
+            .set_operation(slave, Operation::Settling { word, value, taken });
         RomNext::Settle { taken }
     }
 
@@ -103,24 +103,24 @@ impl Core {
         if usize::from(slave) >= self.work.len() {
             return;
         }
-        match self.work.errand(usize::from(slave)) {
-            Errand::Issuing { word, value } => self.issued(slave, word, value, outcome),
-            Errand::Settling { word, value, .. } => self.settled(slave, word, value, outcome),
-            Errand::Free | Errand::Unsettled { .. } => {}
+        match self.work.operation(usize::from(slave)) {
+            Operation::Issuing { word, value } => self.issued(slave, word, value, outcome),
+            Operation::Settling { word, value, .. } => self.settled(slave, word, value, outcome),
+            Operation::NoOperation | Operation::Unsettled { .. } => {}
         }
     }
 
     /// Takes in the outcome of an issue.
     fn issued(&mut self, slave: u16, word: u16, value: u16, outcome: RomOutcome)
         requires slave { slave < length self.old.slaves }
-        requires issuing { (slave_at self.old slave).errand ≡ book.Issuing word value }
+        requires issuing { (slave_at self.old slave).operation ≡ book.Issuing word value }
         ensures { self.new ≡ rom_done self.old slave outcome }
     {
         match outcome {
             RomOutcome::Issued(issued) => {
                 let taken = issued == Issued::Taken;
-                let errand = Errand::Unsettled { word, value, taken };
-                self.work.set_errand(usize::from(slave), errand);
+                let operation = Operation::Unsettled { word, value, taken };
+                self.work.set_operation(usize::from(slave), operation);
             }
             RomOutcome::Stopped => self.give_up(slave, Fault::Stopped),
             RomOutcome::Settled(_) => {}
@@ -130,7 +130,7 @@ impl Core {
     /// Takes in the outcome of a settle.
     fn settled(&mut self, slave: u16, word: u16, value: u16, outcome: RomOutcome)
         requires slave { slave < length self.old.slaves }
-        requires settling { (taken : Bool) × ((slave_at self.old slave).errand ≡ book.Settling word value taken) }
+        requires settling { (taken : Bool) × ((slave_at self.old slave).operation ≡ book.Settling word value taken) }
         ensures { self.new ≡ rom_done self.old slave outcome }
     {
         match outcome {
@@ -147,22 +147,24 @@ impl Core {
     /// The word must be issued again; a slave is given up if its word has had all its issues.
     fn again(&mut self, slave: u16, word: u16)
         requires slave { slave < length self.old.slaves }
-        requires about { IsAbout (slave_at self.old slave).errand word }
+        requires about { IsAbout (slave_at self.old slave).operation word }
         ensures { self.new ≡ with_again self.old slave word }
     {
         if self.work.issues(usize::from(slave), word) >= MOST_ISSUES {
             self.give_up(slave, Fault::SlaveDead { slave });
         } else {
-            self.work.set_errand(usize::from(slave), Errand::Free);
+            self.work
+                .set_operation(usize::from(slave), Operation::NoOperation);
         }
     }
 
     /// Ends what is being done with the slave; the book has a fault.
     fn give_up(&mut self, slave: u16, fault: Fault)
         requires { slave < length self.old.slaves }
-        ensures { self.new ≡ with_fault (with_errand self.old slave book.Free) fault }
+        ensures { self.new ≡ with_fault (with_operation self.old slave book.NoOperation) fault }
     {
-        self.work.set_errand(usize::from(slave), Errand::Free);
+        self.work
+            .set_operation(usize::from(slave), Operation::NoOperation);
         self.fault = Some(self.fault.unwrap_or(fault));
     }
 }

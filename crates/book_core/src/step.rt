@@ -8,7 +8,7 @@ use jrn_format::Form;
 pub(crate) enum Step {
     /// No step.
     Resting,
-    /// Append: the batch is written behind its gate, with a closed gate at its end.
+    /// Append: the batch is written after its gate, with a closed gate at its end.
     Payload(Spot),
     /// Append: the batch is synced.
     PayloadSync(Spot),
@@ -35,7 +35,7 @@ pub(crate) enum Step {
 impl Step {
     ghost use Rattle.std.specs.Option.{option_map};
     ghost use Rattle.book_parts.specs.Spot.{as_place};
-    ghost use Rattle.book_core.specs.Steps.{place_appended, step_behind};
+    ghost use Rattle.book_core.specs.Steps.{place_appended, step_after};
 
     /// Where the batch goes that is being appended; `None` if none is.
     pub(crate) fn spot(self) -> Option<Spot>
@@ -51,8 +51,8 @@ impl Step {
     }
 
     /// The step after this one, in a journal of this form.
-    pub(crate) fn behind(self, form: Form) -> Step
-        ensures { result ≡ step_behind form self }
+    pub(crate) fn after(self, form: Form) -> Step
+        ensures { result ≡ step_after form self }
     {
         match self {
             Step::Payload(spot) => Step::PayloadSync(spot),

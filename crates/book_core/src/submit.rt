@@ -43,8 +43,8 @@ impl Core {
         if self.area.form() != Form::Two {
             return Err(SubmitRefusal::OldJournal);
         }
-        let change = self.ledger.judge(command)?;
-        self.judge_room(&change)?;
+        let change = self.ledger.validate(command)?;
+        self.validate_room(&change)?;
         let number = self.accept(command, change)?;
         Ok(number)
     }
@@ -54,7 +54,7 @@ impl Core {
     /// # Errors
     ///
     /// `TooLarge`: an empty half can't hold it, or it has more runs than can be counted. Then `Full`.
-    fn judge_room(&self, change: &Change) -> Result<(), SubmitRefusal>
+    fn validate_room(&self, change: &Change) -> Result<(), SubmitRefusal>
         requires form { self.now.form ≡ Form.Two }
         requires short { All IsShort change.now.runs.items }
         ensures { result ≡ room_for self.now change.now.runs.items }
@@ -72,7 +72,7 @@ impl Core {
         Ok(())
     }
 
-    /// Whether there is no room for a command of `bytes` bytes behind the queue. A batch that is being appended counts as live.
+    /// Whether there is no room for a command of `bytes` bytes after the queue. A batch that is being appended counts as live.
     fn is_full(&self, bytes: u64) -> bool
         requires form { self.now.form ≡ Form.Two }
         requires few { bytes < 2 ^ 32 }
@@ -85,7 +85,7 @@ impl Core {
         let spot = match self.step.spot() {
             Some(spot) => self
                 .area
-                .place_behind(spot, self.ledger.appended_bytes(), bytes),
+                .place_after(spot, self.ledger.appended_bytes(), bytes),
             None => self.area.place_of(bytes),
         };
         spot.is_none()

@@ -10,7 +10,7 @@ ghost use Rattle.book_model.specs.Entries.{runs_of, entries_of, live_runs, sizes
 ghost use Rattle.book_parts.specs.Line.{AreOfLine, NeverFall};
 ghost use Rattle.book_parts.specs.Spot.{as_place};
 ghost use Rattle.book_core.specs.Stands.{as_found, cell_counts};
-ghost use Rattle.book_core.specs.Found.{AreFound, Joined, TakenUp};
+ghost use Rattle.book_core.specs.OpenedState.{AreFound, Joined, TakenUp};
 
 use book_parts::{LineWork, Spot};
 use jrn_format::{Batch, Entry};

@@ -5,7 +5,7 @@ use Rattle.std.proofs.lemmas.List.{length-take-le}
 use Rattle.jrn_format.specs.declared.journal.Entry.{Entry}
 use Rattle.jrn_format.specs.declared.journal.Batch.{Batch}
 use Rattle.jrn_format.specs.declared.journal.Spelling.TheVariants.{WithGeneration}
-use Rattle.jrn_format.specs.Batch.{spelt_behind, CanStand}
+use Rattle.jrn_format.specs.Batch.{spelt_after, CanStand}
 use Rattle.jrn_format.specs.Area.{spelt_batches, IsLive}
 use Rattle.jrn_format.specs.Halves.{Halves, other, Place, InOlder, InNewer, half_of, batches_in, batch_in, with_batch, next_generation, left_of, retired, HalvesStand, HasNext, StandsBeside}
 use Rattle.jrn_format.proofs.HalvesLaws.{other_twice, stand-more, next_live}
@@ -29,10 +29,10 @@ one-range disk start count n none same = rw (none, same) refl
 pub record PlaceIs (frame : JournalFrame) (halves : Halves) (place : Place) (bytes : List ℕ) : Type 0 where
   pub gate : ℕ
   pub closed : gate ≢ 0xA5
-  pub behind : List ℕ
+  pub after : List ℕ
   pub beside : List ℕ
   pub can : AllByRecursion (CanStand WithGeneration (half_of halves place)) (batches_in halves place)
-  pub framed : IsFramed frame (half_of halves place) (spelt_batches WithGeneration (batches_in halves place) ++ (gate ∷ behind)) beside bytes
+  pub framed : IsFramed frame (half_of halves place) (spelt_batches WithGeneration (batches_in halves place) ++ (gate ∷ after)) beside bytes
   pub stands : StandsBeside halves place beside
 
 of_live : (frame : JournalFrame) (half at : ℕ) (area beside bytes : List ℕ) (batches : List Batch) (lives : IsLive WithGeneration half area batches) → IsFramed frame at area beside bytes
@@ -46,7 +46,7 @@ place_is frame halves InOlder disk none r =
     record {
       gate = lives.ends.0;
       closed = lives.ends.2;
-      behind = lives.ends.1;
+      after = lives.ends.1;
       beside = r.newer;
       can = lives.starts.can_stand;
       framed = of_live frame halves.at halves.at r.older r.newer disk.bytes halves.older lives r.framed;
@@ -64,7 +64,7 @@ place_is frame halves InNewer disk none r =
     record {
       gate = lives.ends.0;
       closed = lives.ends.2;
-      behind = lives.ends.1;
+      after = lives.ends.1;
       beside = r.older;
       can = lives.starts.can_stand;
       framed = of_live frame (other halves.at) (other halves.at) r.newer r.older disk.bytes halves.newer lives framed;
@@ -86,21 +86,21 @@ payload-begun frame halves place count disk none r enough =
     let p = place_is frame halves place disk none r in
     let spelt = spelt_batches WithGeneration (batches_in halves place) in
     let size = p.framed.room in
-    let fits : count ≤ length p.behind = omega (arith, size, enough, length-append spelt (p.gate ∷ p.behind)) in
-    let long : length (take count p.behind) ≡ count = length-take-le count p.behind fits in
-    let split : spelt ++ (p.gate ∷ p.behind) ≡ (spelt ++ p.gate ∷ []) ++ (take count p.behind ++ drop count p.behind) =
-    ap (λ (l : List ℕ). spelt ++ (p.gate ∷ l)) (sym (take-append-drop count p.behind)) ∙ sym (append_assoc spelt (p.gate ∷ []) (take count p.behind ++ drop count p.behind)) in (
-      take count p.behind,
+    let fits : count ≤ length p.after = omega (arith, size, enough, length-append spelt (p.gate ∷ p.after)) in
+    let long : length (take count p.after) ≡ count = length-take-le count p.after fits in
+    let split : spelt ++ (p.gate ∷ p.after) ≡ (spelt ++ p.gate ∷ []) ++ (take count p.after ++ drop count p.after) =
+    ap (λ (l : List ℕ). spelt ++ (p.gate ∷ l)) (sym (take-append-drop count p.after)) ∙ sym (append_assoc spelt (p.gate ∷ []) (take count p.after ++ drop count p.after)) in (
+      take count p.after,
       long,
       record {
         gate = p.gate;
         closed = p.closed;
         can = p.can;
-        rest = drop count p.behind;
+        rest = drop count p.after;
         beside = p.beside;
         framed = subst (λ (a : List ℕ). IsFramed frame (half_of halves place) a p.beside disk.bytes) split p.framed;
-        one = one-range disk (gate_at frame halves place + 1) count (length (take count p.behind)) r.synced long;
-        whole = r.whole;
+        one = one-range disk (gate_at frame halves place + 1) count (length (take count p.after)) r.synced long;
+        entire = r.entire;
         stands = p.stands;
       },
     )
@@ -126,9 +126,9 @@ payload-done frame halves place payload over disk p long =
       beside = p.beside;
       framed = subst (λ (n : ℕ). IsFramed frame half (spelt ++ (over ++ p.rest)) p.beside (overlaid disk.bytes n over)) (sym start) file;
       one = rw long p.one;
-      whole =
+      entire =
           let same = ap (λ (n : ℕ). length (overlaid disk.bytes n over)) start ∙ written_size frame half spelt payload over p.rest p.beside disk.bytes small p.framed long in
-          omega (arith, same, p.whole);
+          omega (arith, same, p.entire);
       stands = p.stands;
     }
 
@@ -152,20 +152,20 @@ payload-failed frame halves place payload disk new p failed =
         beside = p.beside;
         framed = t.framed;
         one = failed.unsynced ∙ p.one ∙ rw t.long refl;
-        whole = omega (arith, same, p.whole, failed.synced_length);
+        entire = omega (arith, same, p.entire, failed.synced_length);
         stands = p.stands;
       },
     )
 
 -- 3. a payload that was written is synced
 pub payload-synced : (frame : JournalFrame) (halves : Halves) (place : Place) (entries : List Entry) (disk : Disk) → CanStand WithGeneration (half_of halves place) (batch_in halves place entries)
-    → HasPayload frame halves place (spelt_behind WithGeneration (batch_in halves place entries).generation (batch_in halves place entries).entries ++ 0 ∷ []) disk
+    → HasPayload frame halves place (spelt_after WithGeneration (batch_in halves place entries).generation (batch_in halves place entries).entries ++ 0 ∷ []) disk
     → HasBatch frame halves place entries (synced disk)
 payload-synced frame halves place entries disk next p =
     let half = half_of halves place in
     let spelt = spelt_batches WithGeneration (batches_in halves place) in
     let batch = batch_in halves place entries in
-    let over = spelt_behind WithGeneration batch.generation batch.entries ++ 0 ∷ [] in
+    let over = spelt_after WithGeneration batch.generation batch.entries ++ 0 ∷ [] in
     let is : (spelt ++ p.gate ∷ []) ++ (over ++ p.rest) ≡ spelt ++ (p.gate ∷ (over ++ p.rest)) = append_assoc spelt (p.gate ∷ []) (over ++ p.rest) in
     record {
       gate = p.gate;
@@ -175,7 +175,7 @@ payload-synced frame halves place entries disk next p =
       next = subst (λ (a : List ℕ). HasNext half a (batches_in halves place) batch p.gate) is (payload_written half (batches_in halves place) batch p.gate p.rest p.can next);
       framed = subst (λ (a : List ℕ). IsFramed frame half a p.beside disk.bytes) is p.framed;
       synced = refl;
-      whole = omega arith;
+      entire = omega arith;
       stands = p.stands;
     }
 
@@ -183,7 +183,7 @@ payload-synced frame halves place entries disk next p =
 pub gate-begun : (frame : JournalFrame) (halves : Halves) (place : Place) (entries : List Entry) (disk : Disk) → HasBatch frame halves place entries disk
     → (gate : ℕ) × HasGate frame halves place entries gate (write_begun disk (gate_at frame halves place) 1)
 gate-begun frame halves place entries disk n =
-    (n.gate, record { rest = n.rest; beside = n.beside; next = n.next; framed = n.framed; one = one-range disk (gate_at frame halves place) 1 1 n.synced refl; whole = n.whole; stands = n.stands })
+    (n.gate, record { rest = n.rest; beside = n.beside; next = n.next; framed = n.framed; one = one-range disk (gate_at frame halves place) 1 1 n.synced refl; entire = n.entire; stands = n.stands })
 
 -- 5. and written
 pub gate-done : (frame : JournalFrame) (halves : Halves) (place : Place) (entries : List Entry) (gate over : ℕ) (disk : Disk) → HasGate frame halves place entries gate disk
@@ -198,7 +198,7 @@ gate-done frame halves place entries gate over disk g =
       next = regate half (batches_in halves place) (batch_in halves place entries) gate over g.rest g.next;
       framed = written_file frame half spelt (gate ∷ []) (over ∷ []) g.rest g.beside disk.bytes small g.framed refl;
       one = g.one;
-      whole = let same = written_size frame half spelt (gate ∷ []) (over ∷ []) g.rest g.beside disk.bytes small g.framed refl in omega (arith, same, g.whole);
+      entire = let same = written_size frame half spelt (gate ∷ []) (over ∷ []) g.rest g.beside disk.bytes small g.framed refl in omega (arith, same, g.entire);
       stands = g.stands;
     }
 
@@ -225,7 +225,7 @@ gate-failed frame halves place entries gate disk new g failed =
         next = regate half (batches_in halves place) (batch_in halves place entries) gate s.0 g.rest g.next;
         framed = framed;
         one = failed.unsynced ∙ g.one;
-        whole = omega (arith, same, g.whole, failed.synced_length);
+        entire = omega (arith, same, g.entire, failed.synced_length);
         stands = g.stands;
       },
     )
@@ -236,7 +236,7 @@ pub gate-synced : (frame : JournalFrame) (halves : Halves) (place : Place) (entr
 gate-synced frame halves InOlder entries disk g =
     let area = spelt_batches WithGeneration halves.older ++ (0xA5 ∷ g.rest) in
     let lives = (next_live halves.at area halves.older (batch_in halves InOlder entries) 0xA5 g.next).1 refl in
-    record { older = area; newer = g.beside; framed = g.framed; stands = stand-more halves InOlder entries area g.beside g.stands lives; synced = refl; whole = omega arith }
+    record { older = area; newer = g.beside; framed = g.framed; stands = stand-more halves InOlder entries area g.beside g.stands lives; synced = refl; entire = omega arith }
 gate-synced frame halves InNewer entries disk g =
     let area = spelt_batches WithGeneration halves.newer ++ (0xA5 ∷ g.rest) in
     let lives = (next_live (other halves.at) area halves.newer (batch_in halves InNewer entries) 0xA5 g.next).1 refl in
@@ -246,7 +246,7 @@ gate-synced frame halves InNewer entries disk g =
       framed = record { file = as_halves halves InNewer (head frame) area g.beside frame.last disk.bytes g.stands.at g.framed.file; room = sym g.framed.file.equal ∙ g.framed.room };
       stands = stand-more halves InNewer entries area g.beside g.stands lives;
       synced = refl;
-      whole = omega arith;
+      entire = omega arith;
     }
 
 -- ---- a retire
@@ -254,7 +254,7 @@ gate-synced frame halves InNewer entries disk g =
 -- 1. the first gate of the older half is begun
 opened_area : (half : ℕ) (area : List ℕ) (batches : List Batch) → batches ≢ [] → IsLive WithGeneration half area batches → (rest : List ℕ) × (area ≡ 0xA5 ∷ rest)
 opened_area half area [] some lives = absurd (some refl)
-opened_area half area (b ∷ batches) some lives = ((spelt_behind WithGeneration b.generation b.entries ++ spelt_batches WithGeneration batches) ++ lives.rest, lives.starts.spelt)
+opened_area half area (b ∷ batches) some lives = ((spelt_after WithGeneration b.generation b.entries ++ spelt_batches WithGeneration batches) ++ lives.rest, lives.starts.spelt)
 
 pub close-begun : (frame : JournalFrame) (halves : Halves) (disk : Disk) → AtRest frame halves disk → halves.older ≢ [] → HasClosing frame halves 0xA5 (write_begun disk (8 + halves.at * room frame) 1)
 close-begun frame halves disk r some =
@@ -264,7 +264,7 @@ close-begun frame halves disk r some =
       newer = r.newer;
       framed = subst (λ (a : List ℕ). IsFramed frame halves.at a r.newer disk.bytes) o.1 r.framed;
       one = one-range disk (8 + halves.at * room frame) 1 1 r.synced refl;
-      whole = r.whole;
+      entire = r.entire;
       stands = subst (λ (a : List ℕ). HalvesStand halves a r.newer) o.1 r.stands;
     }
 
@@ -281,9 +281,9 @@ close-done frame halves gate over disk c =
       framed = subst (λ (n : ℕ). IsFramed frame halves.at (over ∷ c.rest) c.newer (overlaid disk.bytes n (over ∷ []))) (sym start)
           (written_file frame halves.at [] (gate ∷ []) (over ∷ []) c.rest c.newer disk.bytes c.stands.at c.framed refl);
       one = c.one;
-      whole =
+      entire =
           let same = ap (λ (n : ℕ). length (overlaid disk.bytes n (over ∷ []))) start ∙ written_size frame halves.at [] (gate ∷ []) (over ∷ []) c.rest c.newer disk.bytes c.stands.at c.framed refl in
-          omega (arith, same, c.whole);
+          omega (arith, same, c.entire);
       stands = c.stands;
     }
 
@@ -296,7 +296,7 @@ close-failed frame halves gate disk new c failed =
     let s = single t.middle t.long in
     let framed : IsFramed frame halves.at (s.0 ∷ c.rest) c.newer new.bytes = subst (λ (m : List ℕ). IsFramed frame halves.at (m ++ c.rest) c.newer new.bytes) s.1 t.framed in
     let same = framed_size frame halves.at (gate ∷ c.rest) c.newer disk.bytes (s.0 ∷ c.rest) new.bytes c.stands.at c.framed framed in
-    (s.0, record { rest = c.rest; newer = c.newer; framed = framed; one = failed.unsynced ∙ c.one; whole = omega (arith, same, c.whole, failed.synced_length); stands = c.stands })
+    (s.0, record { rest = c.rest; newer = c.newer; framed = framed; one = failed.unsynced ∙ c.one; entire = omega (arith, same, c.entire, failed.synced_length); stands = c.stands })
 
 pub close-synced : (frame : JournalFrame) (halves : Halves) (gate : ℕ) (disk : Disk) → HasClosing frame halves gate disk → gate ≢ 0xA5 → AtRest frame (retired halves) (synced disk)
 close-synced frame halves gate disk c closed = by_newer halves.newer refl
@@ -309,7 +309,7 @@ close-synced frame halves gate disk c closed = by_newer halves.newer refl
             older = gate ∷ c.rest;
             newer = c.newer;
             synced = refl;
-            whole = omega arith;
+            entire = omega arith;
             framed = subst (λ (n : ℕ). IsFramed frame n (gate ∷ c.rest) c.newer disk.bytes) first c.framed;
             stands = record { at = omega arith; generation = omega arith; older_live = closed_area 0 gate c.rest closed; newer_live = empty_again (other halves.at) 1 c.newer was; older_of = tt; newer_of = tt };
           }
@@ -319,7 +319,7 @@ close-synced frame halves gate disk c closed = by_newer halves.newer refl
                 older = c.newer;
                 newer = gate ∷ c.rest;
                 synced = refl;
-                whole = omega arith;
+                entire = omega arith;
                 framed = record { file = record { equal = sym framed.file.equal; is = framed.file.is }; room = sym framed.file.equal ∙ framed.room };
                 stands = record { at = omega arith; generation = omega arith; older_live = empty_again (other halves.at) 0 c.newer was; newer_live = closed_area 1 gate c.rest closed; older_of = tt; newer_of = tt };
               }
@@ -328,7 +328,7 @@ close-synced frame halves gate disk c closed = by_newer halves.newer refl
       older = c.newer;
       newer = gate ∷ c.rest;
       synced = refl;
-      whole = omega arith;
+      entire = omega arith;
       framed = record {
         file = record { equal = sym c.framed.file.equal; is = c.framed.file.is ∙ ap (λ (l : List ℕ). head frame ++ (l ++ frame.last)) (sym (swap_joined halves.at c.newer (gate ∷ c.rest) c.stands.at)) };
         room = sym c.framed.file.equal ∙ c.framed.room;

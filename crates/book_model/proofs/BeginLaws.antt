@@ -6,7 +6,7 @@ use Rattle.std.specs.Int.{w32, to_le_bytes}
 use Rattle.jrn_format.specs.declared.journal.Entry.{Entry}
 use Rattle.jrn_format.specs.declared.journal.Batch.{Batch}
 use Rattle.jrn_format.specs.declared.journal.Spelling.TheVariants.{WithGeneration}
-use Rattle.jrn_format.specs.Batch.{spelt_payload, spelt_behind, PayloadFits, CanStand}
+use Rattle.jrn_format.specs.Batch.{spelt_payload, spelt_after, PayloadFits, CanStand}
 use Rattle.jrn_format.specs.Halves.{Halves, Place, InOlder, InNewer, live, half_of, batches_in, batch_in, fits, size, entries_size, place_in, place_of}
 use Rattle.site_core.specs.Disk.{Disk, write_begun}
 use Rattle.book_model.specs.Cells.{is_any}
@@ -90,9 +90,9 @@ queued-resting : (book : Book) → book.doing ≡ Resting → queued book ≡ dr
 queued-resting book is =
     ap (λ (d : Doing). drop (book.durable + length (being_appended (appended d))) (own book)) is ∙ ap (λ (n : ℕ). drop n (own book)) (omega arith)
 
-behind-long : (generation : ℕ) (entries : List Entry) → length (spelt_behind WithGeneration generation entries ++ 0 ∷ []) ≡ entries_size entries
-behind-long generation entries =
-    omega (arith, length-append (spelt_behind WithGeneration generation entries) (0 ∷ []), length-append (generation ∷ []) (to_le_bytes w32 (length (spelt_payload entries)) ++ spelt_payload entries), length-append (to_le_bytes w32 (length (spelt_payload entries))) (spelt_payload entries), four (length (spelt_payload entries)))
+after-long : (generation : ℕ) (entries : List Entry) → length (spelt_after WithGeneration generation entries ++ 0 ∷ []) ≡ entries_size entries
+after-long generation entries =
+    omega (arith, length-append (spelt_after WithGeneration generation entries) (0 ∷ []), length-append (generation ∷ []) (to_le_bytes w32 (length (spelt_payload entries)) ++ spelt_payload entries), length-append (to_le_bytes w32 (length (spelt_payload entries))) (spelt_payload entries), four (length (spelt_payload entries)))
   where
     four : (n : ℕ) → length (to_le_bytes w32 n) ≡ 4
     four n = refl
@@ -105,7 +105,7 @@ append-begins frame book place disk is_frame same resting few can some is rest =
     let entries = queued book in
     let own_is = queued-resting book resting in
     let there = room-for (room frame) book.halves entries place is in
-    let long : length (payload_bytes book place entries) ≡ entries_size entries = behind-long (batch_in book.halves place entries).generation entries in
+    let long : length (payload_bytes book place entries) ≡ entries_size entries = after-long (batch_in book.halves place entries).generation entries in
     let most = is_frame.is_capacity in
     let payload : PayloadFits entries = record { some = some-is entries some; count = can.count; each = can.each; bytes = omega (arith, there.fits, most) } in
     let p = payload-begun frame book.halves place (length (payload_bytes book place entries)) disk there.in_older rest (omega (arith, there.fits, long)) in

@@ -5,7 +5,7 @@ use Rattle.jrn_format.specs.declared.journal.Entry.{Entry}
 use Rattle.jrn_format.specs.Halves.{Place, InOlder, live, with_batch, batch_in}
 use Rattle.book_model.specs.Cells.{Cell, asked, written, nothing, cell_of}
 use Rattle.book_model.specs.Entries.{runs_of, live_runs}
-use Rattle.book_model.specs.Book.{Book, Slave, Errand, Free, Issuing, OpenSync, CloseSync, base_of, own, all_cells, nobody, slave_at, with_slave}
+use Rattle.book_model.specs.Book.{Book, Slave, Operation, NoOperation, Issuing, OpenSync, CloseSync, base_of, own, all_cells, nobody, slave_at, with_slave}
 use Rattle.book_model.specs.Open.{owing_words, owing_slaves}
 use Rattle.book_model.specs.DiskSteps.{went_on}
 use Rattle.book_model.specs.RomSteps.{with_issue, with_written}
@@ -55,11 +55,11 @@ length-all_cells [] = refl
 length-all_cells (t ∷ slaves) = omega (arith, length-all_cells slaves)
 
 -- a word's cell changes
-word-fits : (book : Book) (gone : List Run) (i word : ℕ) (cell : Cell) (errand : Errand) (issues : ℕ) → BookFits book gone → i < length book.slaves → word < length (slave_at book i).cells
+word-fits : (book : Book) (gone : List Run) (i word : ℕ) (cell : Cell) (operation : Operation) (issues : ℕ) → BookFits book gone → i < length book.slaves → word < length (slave_at book i).cells
     → ((target : ℕ) → CellFits (live_runs (live book.halves)) i word target (cell_of (slave_at book i).cells word) → CellFits (live_runs (live book.halves)) i word target cell)
-    → BookFits (with_slave book i (record { cells = set (slave_at book i).cells word cell; errand = errand; issues = issues })) gone
-word-fits book gone i word cell errand issues fits within inside step =
-    let slave : Slave = record { cells = set (slave_at book i).cells word cell; errand = errand; issues = issues } in
+    → BookFits (with_slave book i (record { cells = set (slave_at book i).cells word cell; operation = operation; issues = issues })) gone
+word-fits book gone i word cell operation issues fits within inside step =
+    let slave : Slave = record { cells = set (slave_at book i).cells word cell; operation = operation; issues = issues } in
     let is = cells_of book.slaves i in
     let there : word < length (get_or (all_cells book.slaves) i []) = omega (arith, ap length is) in
     let all : all_cells (set book.slaves i slave) ≡ with_cell (all_cells book.slaves) i word cell =
@@ -79,5 +79,5 @@ issued-fits book gone i w fits within inside some =
 pub written-word-fits : (book : Book) (gone : List Run) (i word value : ℕ) → BookFits book gone → i < length book.slaves → word < length (slave_at book i).cells → IsUnsure (cell_of (slave_at book i).cells word).known
     → BookFits (with_written book i word value) gone
 written-word-fits book gone i word value fits within inside unsure =
-    word-fits book gone i word (written (cell_of (slave_at book i).cells word) value) Free (slave_at book i).issues fits within inside
+    word-fits book gone i word (written (cell_of (slave_at book i).cells word) value) NoOperation (slave_at book i).issues fits within inside
     (λ target fit. written-fits (live_runs (live book.halves)) i word target value unsure.0 (cell_of (slave_at book i).cells word) unsure.1 fit)

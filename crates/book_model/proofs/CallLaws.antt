@@ -22,7 +22,7 @@ up-finished frame book state took m up =
       slaves = up.slaves;
       pending = record { each = up.pending.each; within = up.pending.within; few = up.pending.few };
       ordered = up.ordered;
-      behind = up.behind;
+      after = up.after;
       no_command = up.no_command;
       no_migration = up.no_migration;
     }
@@ -52,7 +52,7 @@ up-asked frame book state took m up old =
       slaves = up.slaves;
       pending = record { each = up.pending.each; within = up.pending.within; few = up.pending.few };
       ordered = up.ordered;
-      behind = up.behind;
+      after = up.after;
       no_command = up.no_command;
       no_migration = λ two. absurd cc;
     }

@@ -2,7 +2,7 @@
 use Rattle.std.proofs.Common.{◌≡◌, inl, inr, ℕ, Bool, true, false, List, [], ◌∷◌, ◌++◌, length, sym, subst}
 use Rattle.jrn_format.specs.declared.journal.Entry.{Entry}
 use Rattle.jrn_format.specs.declared.journal.Spelling.TheVariants.{WithGeneration}
-use Rattle.jrn_format.specs.Batch.{spelt_behind}
+use Rattle.jrn_format.specs.Batch.{spelt_after}
 use Rattle.jrn_format.specs.Halves.{Halves, Place, batch_in}
 use Rattle.site_core.specs.Disk.{Disk}
 use Rattle.book_model.specs.Book.{Book, Doing, Resting, Payload, PayloadSync, OpenGate, OpenSync, CloseGate, CloseSync, FarGate, Mark, MarkSync, Version, VersionSync}
@@ -12,7 +12,7 @@ use Rattle.book_model.specs.Doing.{Appending, Retiring, OpensGate, DoingFits}
 
 -- the payload of a batch in these halves
 abbrev bytes_in : Halves → Place → List Entry → List ℕ
-bytes_in halves place entries = spelt_behind WithGeneration (batch_in halves place entries).generation entries ++ 0 ∷ []
+bytes_in halves place entries = spelt_after WithGeneration (batch_in halves place entries).generation entries ++ 0 ∷ []
 
 -- a later book has the same halves, and what was to be appended or retired still is
 pub record Carries (book later : Book) : Type 0 where

@@ -15,7 +15,7 @@ use Rattle.site_core.specs.State.{State}
 use Rattle.book_model.specs.declared.refusal.TheConstants.{QUEUE}
 use Rattle.book_model.specs.Entries.{runs_of, live_runs, sizes_of}
 use Rattle.book_model.specs.Book.{Book, Doing, Resting, Payload, PayloadSync, OpenGate, OpenSync, CloseGate, CloseSync, FarGate, Mark, MarkSync, Version, VersionSync, base_of, own, appended, being_appended, all_cells}
-use Rattle.book_model.specs.DiskSteps.{behind_far_gate, went_on, disk_done}
+use Rattle.book_model.specs.DiskSteps.{after_far_gate, went_on, disk_done}
 use Rattle.book_model.specs.Machine.{Machine}
 use Rattle.book_model.proofs.FitLaws.{entries-in, step-retired}
 use Rattle.book_model.proofs.BookLaws.{open-sync-fits}
@@ -27,9 +27,9 @@ use Rattle.book_model.proofs.FormLaws.{journal-ends}
 use Rattle.book_model.specs.Steps.{acknowledged_by}
 use Rattle.book_model.specs.Up.{Up}
 use Rattle.book_model.proofs.OwingLaws.{slaves-owe, same-owing}
-use Rattle.book_model.proofs.DiskEventLaws.{all-behind, taken_by, up-doing}
+use Rattle.book_model.proofs.DiskEventLaws.{all-after, taken_by, up-doing}
 use Rattle.book_model.proofs.KeptLaws.{left-live}
-use Rattle.sii_words.proofs.Quantifiers.{all_append, all_behind}
+use Rattle.sii_words.proofs.Quantifiers.{all_append, all_after}
 
 -- what is to become live
 pub appends-of : (frame : JournalFrame) (book : Book) (disk : Disk) (place : Place) (entries : List Entry) → book.doing ≡ OpenSync place entries → (form : Form) → FormFits form frame book disk → Appending book place entries
@@ -54,7 +54,7 @@ up-acknowledged frame book state took m up = record {
   slaves = up.slaves;
   pending = up.pending;
   ordered = up.ordered;
-  behind = up.behind;
+  after = up.after;
   no_command = up.no_command;
   no_migration = up.no_migration;
 }
@@ -66,18 +66,18 @@ up-steps : (frame : JournalFrame) (book : Book) (state : State) (took : List Boo
 up-steps frame book state took m disk doing up same fits =
     let n : book.durable + taken_by book.doing ≡ book.durable + taken_by doing = ap (λ (a : Option (Place × List Entry)). book.durable + length (being_appended a)) same in
     up-doing frame book state took (acknowledged_by book m) doing false book.fault disk (up-acknowledged frame book state took m up) fits
-    (λ entries there. up.behind entries (same ∙ there))
+    (λ entries there. up.after entries (same ∙ there))
     (subst (λ (k : ℕ). length (drop k (own book)) ≤ QUEUE) n up.pending.few)
 
 -- ---- a batch becomes live
 
-some-behind : (older : List Batch) (batch : Batch) → older ++ batch ∷ [] ≢ []
-some-behind [] batch is = absurd cc
-some-behind (b ∷ older) batch is = absurd cc
+some-after : (older : List Batch) (batch : Batch) → older ++ batch ∷ [] ≢ []
+some-after [] batch is = absurd cc
+some-after (b ∷ older) batch is = absurd cc
 
 ordered-live : (halves : Halves) (place : Place) (batch : Batch) → (place ≡ InNewer → halves.older ≢ []) → (with_batch halves place batch).older ≡ [] → (with_batch halves place batch).newer ≡ []
-ordered-live halves InOlder batch behind none = absurd (some-behind halves.older batch none)
-ordered-live halves InNewer batch behind none = absurd (behind refl none)
+ordered-live halves InOlder batch after none = absurd (some-after halves.older batch none)
+ordered-live halves InNewer batch after none = absurd (after refl none)
 
 up-live : (frame : JournalFrame) (book : Book) (state : State) (took : List Bool) (m : Machine) (disk : Disk) (place : Place) (entries : List Entry) → Up frame book state took m → book.doing ≡ OpenSync place entries
     → JournalFits frame (went_on (rested book) (OpenSync place entries)) disk
@@ -102,12 +102,12 @@ up-live frame book state took m disk place entries up is fits =
       disk = fits;
       slaves = slaves-owe state.halves book.slaves took (runs_of entries) up.slaves;
       pending = record {
-        each = all-behind EntryFits book.durable (length entries) (own book) up.pending.each;
-        within = all-behind (LieWithin sizes) book.durable (length entries) (own book) up.pending.within;
+        each = all-after EntryFits book.durable (length entries) (own book) up.pending.each;
+        within = all-after (LieWithin sizes) book.durable (length entries) (own book) up.pending.within;
         few = subst (λ (n : ℕ). length (drop n (own book)) ≤ QUEUE) (sym count) up.pending.few;
       };
-      ordered = ordered-live book.halves place batch (λ newer. up.behind entries (ap appended is ∙ ap (λ (p : Place). Some (p, entries)) newer));
-      behind = λ others there. absurd cc;
+      ordered = ordered-live book.halves place batch (λ newer. up.after entries (ap appended is ∙ ap (λ (p : Place). Some (p, entries)) newer));
+      after = λ others there. absurd cc;
       no_command = up.no_command;
       no_migration = up.no_migration;
     }
@@ -130,7 +130,7 @@ up-retired frame book state took m disk up is fits =
         is_frame = up.line.is_frame;
         slaves = up.line.slaves;
         capacity = up.line.capacity;
-        within = subst (AllByRecursion (IsWithin sizes)) (sym (left-live halves halves.newer)) (all_behind (IsWithin sizes) halves.older halves.newer up.line.within);
+        within = subst (AllByRecursion (IsWithin sizes)) (sym (left-live halves halves.newer)) (all_after (IsWithin sizes) halves.older halves.newer up.line.within);
       };
       of = record { base = up.of.base; accepted = up.of.accepted; acknowledged = refl };
       gone = up.gone ++ live_runs halves.older;
@@ -140,14 +140,14 @@ up-retired frame book state took m disk up is fits =
       slaves = up.slaves;
       pending = record { each = up.pending.each; within = up.pending.within; few = subst (λ (n : ℕ). length (drop n (own book)) ≤ QUEUE) (sym count) up.pending.few };
       ordered = λ none. left-newer halves halves.newer;
-      behind = λ others there. absurd cc;
+      after = λ others there. absurd cc;
       no_command = up.no_command;
       no_migration = up.no_migration;
     }
 
 -- ---- the journal is migrated
 
-pub none-appended : (form : Form) → appended (behind_far_gate form) ≡ None
+pub none-appended : (form : Form) → appended (after_far_gate form) ≡ None
 none-appended One = refl
 none-appended Two = refl
 none-appended Moving = refl
@@ -166,7 +166,7 @@ up-migrated frame book state took m disk up is fits =
       slaves = up.slaves;
       pending = record { each = up.pending.each; within = up.pending.within; few = subst (λ (n : ℕ). length (drop n (own book)) ≤ QUEUE) (sym count) up.pending.few };
       ordered = up.ordered;
-      behind = λ others there. absurd cc;
+      after = λ others there. absurd cc;
       no_command = λ old. absurd cc;
       no_migration = λ two. refl;
     }
@@ -179,14 +179,14 @@ UpAfter frame later state took m disk = Up frame later (record state { disk = di
 up-went : (frame : JournalFrame) (book : Book) (state : State) (took : List Bool) (m : Machine) (disk : Disk) (doing : Doing) → Up frame book state took m → book.doing ≡ doing
     → JournalFits frame (went_on (rested book) doing) disk → UpAfter frame (went_on (rested book) doing) state took m disk
 up-went frame book state took m disk Resting up is fits =
-    up-doing frame book state took (acknowledged_by book m) book.doing false book.fault disk (up-acknowledged frame book state took m up) fits up.behind up.pending.few
+    up-doing frame book state took (acknowledged_by book m) book.doing false book.fault disk (up-acknowledged frame book state took m up) fits up.after up.pending.few
 up-went frame book state took m disk (Payload place entries) up is fits = up-steps frame book state took m disk (PayloadSync place entries) up (ap appended is) fits
 up-went frame book state took m disk (PayloadSync place entries) up is fits = up-steps frame book state took m disk (OpenGate place entries) up (ap appended is) fits
 up-went frame book state took m disk (OpenGate place entries) up is fits = up-steps frame book state took m disk (OpenSync place entries) up (ap appended is) fits
 up-went frame book state took m disk (OpenSync place entries) up is fits = up-live frame book state took m disk place entries up is fits
 up-went frame book state took m disk CloseGate up is fits = up-steps frame book state took m disk CloseSync up (ap appended is) fits
 up-went frame book state took m disk CloseSync up is fits = up-retired frame book state took m disk up is fits
-up-went frame book state took m disk FarGate up is fits = up-steps frame book state took m disk (behind_far_gate book.form) up (ap appended is ∙ sym (none-appended book.form)) fits
+up-went frame book state took m disk FarGate up is fits = up-steps frame book state took m disk (after_far_gate book.form) up (ap appended is ∙ sym (none-appended book.form)) fits
 up-went frame book state took m disk Mark up is fits = up-steps frame book state took m disk MarkSync up (ap appended is) fits
 up-went frame book state took m disk MarkSync up is fits = up-steps frame book state took m disk Version up (ap appended is) fits
 up-went frame book state took m disk Version up is fits = up-steps frame book state took m disk VersionSync up (ap appended is) fits

@@ -31,15 +31,15 @@ use Rattle.book_model.proofs.BeginLaws.{BegunAs, appends, retires, migrates, res
 use Rattle.book_model.specs.OldDoing.{JournalFits}
 use Rattle.book_model.specs.OldQueue.{OldCanBegin, FormCanBegin, JournalCanBegin}
 use Rattle.book_model.proofs.FormLaws.{journal-begins, journal-fails}
-use Rattle.book_model.specs.Up.{AppendsBehind, Up}
+use Rattle.book_model.specs.Up.{AppendsAfter, Up}
 
 all-drop : {A : Type 0} (P : A → Type 0) (k : ℕ) (xs : List A) → AllByRecursion P xs → AllByRecursion P (drop k xs)
 all-drop P zero xs all = all
 all-drop P (suc k) [] all = tt
 all-drop P (suc k) (x ∷ xs) all = all-drop P k xs all.1
 
-pub all-behind : {A : Type 0} (P : A → Type 0) (n k : ℕ) (xs : List A) → AllByRecursion P (drop n xs) → AllByRecursion P (drop (n + k) xs)
-all-behind P n k xs all = subst (AllByRecursion P) (drop-drop k n xs) (all-drop P k (drop n xs) all)
+pub all-after : {A : Type 0} (P : A → Type 0) (n k : ℕ) (xs : List A) → AllByRecursion P (drop n xs) → AllByRecursion P (drop (n + k) xs)
+all-after P n k xs all = subst (AllByRecursion P) (drop-drop k n xs) (all-drop P k (drop n xs) all)
 
 -- how many commands are being appended
 abbrev pub taken_by : Doing → ℕ
@@ -50,7 +50,7 @@ drop-nil zero = refl
 drop-nil (suc n) = refl
 
 of-queue : (P : Entry → Type 0) (book : Book) → AllByRecursion P (drop book.durable (own book)) → AllByRecursion P (queued book)
-of-queue P book all = all-behind P book.durable (taken_by book.doing) (own book) all
+of-queue P book all = all-after P book.durable (taken_by book.doing) (own book) all
 
 -- nothing is queued on an old journal
 none-queued : (book : Book) → book.accepted ≡ [] → queued book ≡ []
@@ -84,9 +84,9 @@ up-can_begin frame book state took m up = in_form book.form refl
 
 -- the book does something else with the disk
 pub up-doing : (frame : JournalFrame) (book : Book) (state : State) (took : List Bool) (m : Machine) (doing : Doing) (out : Bool) (fault : Option Fault) (disk : Disk) → Up frame book state took m
-    → JournalFits frame (record book { doing = doing; is_handed_out = out; fault = fault }) disk → AppendsBehind book.halves doing → length (queued (record book { doing = doing; is_handed_out = out; fault = fault })) ≤ QUEUE
+    → JournalFits frame (record book { doing = doing; is_handed_out = out; fault = fault }) disk → AppendsAfter book.halves doing → length (queued (record book { doing = doing; is_handed_out = out; fault = fault })) ≤ QUEUE
     → Up frame (record book { doing = doing; is_handed_out = out; fault = fault }) (record state { disk = disk }) took m
-up-doing frame book state took m doing out fault disk up fits behind few = record {
+up-doing frame book state took m doing out fault disk up fits after few = record {
   line = record { is_frame = up.line.is_frame; slaves = up.line.slaves; capacity = up.line.capacity; within = up.line.within };
   of = record { base = up.of.base; accepted = up.of.accepted; acknowledged = up.of.acknowledged };
   gone = up.gone;
@@ -96,7 +96,7 @@ up-doing frame book state took m doing out fault disk up fits behind few = recor
   slaves = up.slaves;
   pending = record { each = up.pending.each; within = up.pending.within; few = few };
   ordered = up.ordered;
-  behind = behind;
+  after = after;
   no_command = up.no_command;
   no_migration = up.no_migration;
 }
@@ -106,7 +106,7 @@ up-doing frame book state took m doing out fault disk up fits behind few = recor
 pub up-fails : (frame : JournalFrame) (book : Book) (state : State) (took : List Bool) (m : Machine) (new : Disk) (fault : Fault) → Up frame book state took m → book.is_handed_out ≡ true → FailsOn (in_progress book) state.disk new
     → Up frame (with_fault (rested book) fault) (record state { disk = new }) took m
 up-fails frame book state took m new fault up out fails =
-    up-doing frame book state took m book.doing false (with_fault (rested book) fault).fault new up (journal-fails frame book state.disk new fault up.line.capacity out up.disk fails) up.behind up.pending.few
+    up-doing frame book state took m book.doing false (with_fault (rested book) fault).fault new up (journal-fails frame book state.disk new fault up.line.capacity out up.disk fails) up.after up.pending.few
 
 -- ---- a beginning
 
@@ -136,14 +136,14 @@ next-few book = elim (next-is book book.doing) [
   | inr same ↦ omega (arith, ap (λ (d : Doing). length (drop (book.durable + taken_by d) (own book))) same)
 ]
 
--- ---- the newer half is begun behind the older one
+-- ---- the newer half is begun after the older one
 
 not_first : (c : Bool) → (if c then Some InOlder else if c then Some InNewer else None) ≢ Some InNewer
 not_first true is = absurd cc
 not_first false is = absurd cc
 
-newer-behind : (room : ℕ) (halves : Halves) (entries : List Entry) → (halves.older ≡ [] → halves.newer ≡ []) → place_of room halves entries ≡ Some InNewer → halves.older ≢ []
-newer-behind room halves entries ordered is none =
+newer-after : (room : ℕ) (halves : Halves) (entries : List Entry) → (halves.older ≡ [] → halves.newer ≡ []) → place_of room halves entries ≡ Some InNewer → halves.older ≢ []
+newer-after room halves entries ordered is none =
     let first : place_in room [] halves.newer entries ≡ Some InNewer = subst (λ (l : List Batch). place_in room l halves.newer entries ≡ Some InNewer) none is in
     not_first (fits room [] entries) (subst (λ (l : List Batch). place_in room [] l entries ≡ Some InNewer) (ordered none) first)
 
@@ -155,16 +155,16 @@ place_or None = InOlder
 same-place : (place : Place) (entries others : List Entry) → appended (Payload place entries) ≡ Some (InNewer, others) → place ≡ InNewer
 same-place place entries others is = ap place_or is
 
-begun-behind : (book : Book) (doing : Doing) → (book.halves.older ≡ [] → book.halves.newer ≡ []) → BegunAs book doing → AppendsBehind book.halves doing
-begun-behind book doing ordered (appends place some is so) = subst (AppendsBehind book.halves) (sym so) (λ entries there. newer-behind (book_room book) book.halves (queued book) ordered (is ∙ ap Some (same-place place (queued book) entries there)))
-begun-behind book doing ordered (retires may so) = subst (AppendsBehind book.halves) (sym so) (λ entries there. absurd cc)
-begun-behind book doing ordered (migrates may so) = subst (AppendsBehind book.halves) (sym so) (λ entries there. absurd cc)
-begun-behind book doing ordered (rests so) = subst (AppendsBehind book.halves) (sym so) (λ entries there. absurd cc)
+begun-after : (book : Book) (doing : Doing) → (book.halves.older ≡ [] → book.halves.newer ≡ []) → BegunAs book doing → AppendsAfter book.halves doing
+begun-after book doing ordered (appends place some is so) = subst (AppendsAfter book.halves) (sym so) (λ entries there. newer-after (book_room book) book.halves (queued book) ordered (is ∙ ap Some (same-place place (queued book) entries there)))
+begun-after book doing ordered (retires may so) = subst (AppendsAfter book.halves) (sym so) (λ entries there. absurd cc)
+begun-after book doing ordered (migrates may so) = subst (AppendsAfter book.halves) (sym so) (λ entries there. absurd cc)
+begun-after book doing ordered (rests so) = subst (AppendsAfter book.halves) (sym so) (λ entries there. absurd cc)
 
-next-behind : (book : Book) → (book.halves.older ≡ [] → book.halves.newer ≡ []) → AppendsBehind book.halves book.doing → AppendsBehind book.halves (doing_next book book.doing)
-next-behind book ordered behind = elim (next-is book book.doing) [
-  | inl idle ↦ subst (λ (d : Doing). AppendsBehind book.halves (doing_next book d)) (sym idle) (begun-behind book (begun book) ordered (begun-as book))
-  | inr same ↦ subst (AppendsBehind book.halves) (sym same) behind
+next-after : (book : Book) → (book.halves.older ≡ [] → book.halves.newer ≡ []) → AppendsAfter book.halves book.doing → AppendsAfter book.halves (doing_next book book.doing)
+next-after book ordered after = elim (next-is book book.doing) [
+  | inl idle ↦ subst (λ (d : Doing). AppendsAfter book.halves (doing_next book d)) (sym idle) (begun-after book (begun book) ordered (begun-as book))
+  | inr same ↦ subst (AppendsAfter book.halves) (sym same) after
 ]
 
 -- what is answered, and the book that is left
@@ -188,12 +188,12 @@ up-as : (frame : JournalFrame) (book : Book) (state : State) (took : List Bool) 
     → Up frame (disk_next book).1 (record state { disk = disk }) took m
 up-as frame book state took m disk up fits (same is) =
     subst (λ (b : Book). Up frame b (record state { disk = disk }) took m) (sym is)
-    (up-doing frame book state took m book.doing book.is_handed_out book.fault disk up (subst (λ (b : Book). JournalFits frame b disk) is fits) up.behind up.pending.few)
+    (up-doing frame book state took m book.doing book.is_handed_out book.fault disk up (subst (λ (b : Book). JournalFits frame b disk) is fits) up.after up.pending.few)
 up-as frame book state took m disk up fits (goes is) =
     let few = next-few book in
     let before = up.pending.few in
     subst (λ (b : Book). Up frame b (record state { disk = disk }) took m) (sym is)
-    (up-doing frame book state took m (doing_next book book.doing) true book.fault disk up (subst (λ (b : Book). JournalFits frame b disk) is fits) (next-behind book up.ordered up.behind) (omega (arith, few, before)))
+    (up-doing frame book state took m (doing_next book book.doing) true book.fault disk up (subst (λ (b : Book). JournalFits frame b disk) is fits) (next-after book up.ordered up.after) (omega (arith, few, before)))
 
 pub up-begins : (frame : JournalFrame) (book : Book) (state : State) (took : List Bool) (m : Machine) → Up frame book state took m
     → Up frame (disk_next book).1 (record state { disk = begun_on (Some (disk_next book).0) state.disk }) took m

@@ -3,7 +3,7 @@ use Rattle.std.proofs.Common.{◌≡◌, ◌≢◌, inl, inr, ℕ, ◌+◌, ◌*
 use Rattle.std.specs.Prelude.{Ok, is_some}
 use Rattle.jrn_format.specs.declared.journal.Entry.{Entry}
 use Rattle.jrn_format.specs.declared.journal.Spelling.TheVariants.{WithGeneration}
-use Rattle.jrn_format.specs.Batch.{spelt_behind}
+use Rattle.jrn_format.specs.Batch.{spelt_after}
 use Rattle.jrn_format.specs.Halves.{Place, InOlder, InNewer, batch_in}
 use Rattle.site_core.specs.Disk.{Disk, WriteFailed, written, synced}
 use Rattle.book_model.specs.declared.fault.Fault.{Fault}
@@ -46,7 +46,7 @@ went frame book disk same (PayloadSync place entries) is f =
     let batch = batch_in book.halves place entries in (
       f.0,
       opens-later frame book place entries (is_some book.fault) (synced disk) (payload-synced frame book.halves place entries disk f.0.can
-          (subst (λ (l : List Entry). HasPayload frame book.halves place (spelt_behind WithGeneration batch.generation l ++ 0 ∷ []) disk) (sym (entries-in book.halves place entries)) f.1)),
+          (subst (λ (l : List Entry). HasPayload frame book.halves place (spelt_after WithGeneration batch.generation l ++ 0 ∷ []) disk) (sym (entries-in book.halves place entries)) f.1)),
     )
 went frame book disk same (OpenGate place entries) is f = (
   f.0,

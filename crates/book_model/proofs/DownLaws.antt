@@ -20,14 +20,14 @@ down-more {X} f old now shift i d within same done rest =
     let one : get_or now (shift + i) d ∷ drop (shift + i + 1) now ≡ get_or old (shift + i) d ∷ drop (shift + i + 1) old =
     sym (drop_more now (shift + i) d (omega (arith, same))) ∙ rest ∙ drop_more old (shift + i) d within in
     let item : get_or now (shift + i) d ≡ get_or old (shift + i) d = cc in
-    let behind : drop (shift + i + 1) now ≡ drop (shift + i + 1) old = cc in
+    let after : drop (shift + i + 1) now ≡ drop (shift + i + 1) old = cc in
     let there : shift + (i + 1) ≡ shift + i + 1 = omega arith in (
       take_more_set now i (f (get_or now (shift + i) d)) (omega (arith, same))
           ∙ ap (λ (l : List X). l ++ f (get_or now (shift + i) d) ∷ []) done
           ∙ ap (λ (x : X). map f (take i (drop shift old)) ++ f x ∷ []) (item ∙ sym (get_or-drop shift old i d))
           ∙ sym (map-append f (take i (drop shift old)) (get_or (drop shift old) i d ∷ []))
           ∙ sym (ap (map f) (take_more (drop shift old) i d (omega (arith, length-drop shift old)))),
-      ap (λ (n : ℕ). drop n (set now i (f (get_or now (shift + i) d)))) there ∙ drop-set-lt (shift + i + 1) now i (f (get_or now (shift + i) d)) (omega arith) ∙ behind ∙ sym (ap (λ (n : ℕ). drop n old) there),
+      ap (λ (n : ℕ). drop n (set now i (f (get_or now (shift + i) d)))) there ∙ drop-set-lt (shift + i + 1) now i (f (get_or now (shift + i) d)) (omega arith) ∙ after ∙ sym (ap (λ (n : ℕ). drop n old) there),
     )
 
 -- WHAT IS OWED STAYS

@@ -33,7 +33,7 @@ flat-all : (head : List ℕ) (gate : ℕ) (mark first : List ℕ) (far : ℕ) (s
     → head ++ (((gate ∷ (mark ++ first)) ++ (far ∷ second)) ++ last) ≡ (head ++ gate ∷ []) ++ ((mark ++ (first ++ far ∷ [])) ++ (second ++ last))
 flat-all head gate mark first far second last = simp append_assoc refl
 
--- the bytes of a mark, those behind it, and a far gate
+-- the bytes of a mark, those after it, and a far gate
 record Parts (count : ℕ) (middle : List ℕ) : Type 0 where
   pub mark : List ℕ
   pub first : List ℕ

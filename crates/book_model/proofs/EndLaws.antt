@@ -1,4 +1,4 @@
--- The place behind a word's last naming.
+-- The place after a word's last naming.
 use Rattle.std.proofs.Common.{◌≡◌, ◌≢◌, inl, inr, ℕ, zero, suc, ◌-◌, ◌<◌, ◌≤◌, true, false, List, [], ◌∷◌, ◌++◌, length, drop, get_or, refl, ◌∙◌, ap, arith}
 use Rattle.std.specs.Prelude.{◌==◌, nat_le}
 use Rattle.std.proofs.lemmas.Bool.{cases_eq, eq-eqb, ne_eqb, le-leb, lt-leb}
@@ -44,17 +44,17 @@ shifted-none : (k : ℕ) → shifted k ≤ 0 → k ≤ 0
 shifted-none zero le = omega arith
 shifted-none (suc k) le = absurd (omega arith)
 
--- nothing is named behind a word's last naming
-pub none-behind : (at m : ℕ) (live : List (ℕ × ℕ)) → end_of at live ≤ m → values_of at (drop m live) ≡ []
-none-behind at zero [] le = refl
-none-behind at (suc m) [] le = refl
-none-behind at zero (n ∷ ns) le = elim (cases_eq n.0 at) [
+-- nothing is named after a word's last naming
+pub none-after : (at m : ℕ) (live : List (ℕ × ℕ)) → end_of at live ≤ m → values_of at (drop m live) ≡ []
+none-after at zero [] le = refl
+none-after at (suc m) [] le = refl
+none-after at zero (n ∷ ns) le = elim (cases_eq n.0 at) [
   | inl is ↦ let t = same_test n.0 at is in let l = rw t at le in absurd (omega arith)
-  | inr not ↦ let t = other_test n.0 at not in let l = rw t at le in rw t (none-behind at zero ns (shifted-none (end_of at ns) l))
+  | inr not ↦ let t = other_test n.0 at not in let l = rw t at le in rw t (none-after at zero ns (shifted-none (end_of at ns) l))
 ]
-none-behind at (suc m) (n ∷ ns) le = elim (cases_eq n.0 at) [
-  | inl is ↦ let t = same_test n.0 at is in let l = rw t at le in none-behind at m ns (omega arith)
-  | inr not ↦ let t = other_test n.0 at not in let l = rw t at le in none-behind at m ns (shifted-under (end_of at ns) m l)
+none-after at (suc m) (n ∷ ns) le = elim (cases_eq n.0 at) [
+  | inl is ↦ let t = same_test n.0 at is in let l = rw t at le in none-after at m ns (omega arith)
+  | inr not ↦ let t = other_test n.0 at not in let l = rw t at le in none-after at m ns (shifted-under (end_of at ns) m l)
 ]
 
 shifted-over : (k m : ℕ) → suc m < shifted k → m < k

@@ -13,9 +13,9 @@ use Rattle.jrn_format.specs.Header.{header_bytes, field_at, IsForm}
 use Rattle.jrn_format.specs.Journal.{HasLive, IsJournal}
 use Rattle.jrn_format.specs.Halves.{Halves, live}
 use Rattle.jrn_format.specs.Live.{halves_in}
-use Rattle.jrn_format.specs.File.{StandWhole}
+use Rattle.jrn_format.specs.File.{StandComplete}
 use Rattle.jrn_format.proofs.OpenLaws.{StandIn, all_stand, halves_in-split, stated_capacity, journal-can-be-live}
-use Rattle.jrn_format.proofs.WholeLaws.{journal-whole}
+use Rattle.jrn_format.proofs.CompleteLaws.{journal-entire}
 use Rattle.site_core.specs.Disk.{Disk}
 use Rattle.book_model.specs.Entries.{sizes_of}
 use Rattle.book_model.specs.Book.{Book, is_version_2}
@@ -52,7 +52,7 @@ pub record FoundDisk (form : Form) (sizes : List ℕ) (batches : List Batch) (di
 
 found-disk : (form : Form) (sizes : List ℕ) (batches : List Batch) (disk : Disk) → IsJournal disk.bytes sizes (record { form = form; batches = batches }) → disk.unsynced ≡ [] → length disk.bytes ≤ disk.synced_length
     → FoundDisk form sizes batches disk
-found-disk form sizes batches disk j synced whole =
+found-disk form sizes batches disk j synced entire =
     let h = j.has_area in
     let all = j.area ++ h.rest in
     let most = h.capacity in
@@ -65,7 +65,7 @@ found-disk form sizes batches disk j synced whole =
     let same : j.area ≡ area frame (take n all) (take n (drop n all)) = sym (take_at j.area h.rest (length j.area) refl) ∙ ap (take (length j.area)) split in
     record {
       frame = frame;
-      is_frame = record { slaves_fit = h.header.slaves_fit; is_capacity = most; whole = omega (arith, long, length-drop (n + n) all) };
+      is_frame = record { slaves_fit = h.header.slaves_fit; is_capacity = most; entire = omega (arith, long, length-drop (n + n) all) };
       slaves = refl;
       capacity = stated_capacity disk.bytes (length sizes) form j.area h;
       rests = record {
@@ -79,7 +79,7 @@ found-disk form sizes batches disk j synced whole =
         is_form = subst (λ (l : List ℕ). IsForm h.version l form) split h.is_form;
         live = subst (λ (l : List ℕ). HasLive form l batches) same j.live;
         synced = synced;
-        whole = whole;
+        entire = entire;
       };
     }
 
@@ -125,25 +125,25 @@ two-found : (batches : List Batch) (words : List (List ℕ)) (disk : Disk) → I
 two-found batches words disk j synced long =
     let journal : Journal = record { form = Two; batches = batches } in
     let sizes = sizes_of words in
-    let whole : StandWhole (length sizes) (field_at w32 4 disk.bytes) (halves_in batches) disk.bytes = journal-whole disk.bytes sizes batches j in
-    let frame : JournalFrame = record { slaves = length sizes; capacity = field_at w32 4 disk.bytes; last = whole.inside.last } in
-    let all = whole.whole in
-    let half = whole.half in
-    let equal = whole.inside.file.equal in
+    let entire : StandComplete (length sizes) (field_at w32 4 disk.bytes) (halves_in batches) disk.bytes = journal-entire disk.bytes sizes batches j in
+    let frame : JournalFrame = record { slaves = length sizes; capacity = field_at w32 4 disk.bytes; last = entire.inside.last } in
+    let all = entire.entire in
+    let half = entire.half in
+    let equal = entire.inside.file.equal in
     let lives : live (halves_in batches) ≡ batches = (journal-can-be-live disk.bytes sizes journal j).fit.1 in
     record {
       frame = frame;
-      line = of-line frame words journal disk (record { slaves_fit = whole.slaves_fit; is_capacity = whole.is_capacity; whole = omega (arith, all, half, equal) }) refl refl lives j.within;
-      fits = record { older = whole.inside.older; newer = whole.inside.newer; framed = record { file = whole.inside.file; room = half }; stands = whole.inside.stands; synced = synced; whole = long };
+      line = of-line frame words journal disk (record { slaves_fit = entire.slaves_fit; is_capacity = entire.is_capacity; entire = omega (arith, all, half, equal) }) refl refl lives j.within;
+      fits = record { older = entire.inside.older; newer = entire.inside.newer; framed = record { file = entire.inside.file; room = half }; stands = entire.inside.stands; synced = synced; entire = long };
       lives = lives;
     }
 
 found-in : (form : Form) (batches : List Batch) (words : List (List ℕ)) (disk : Disk) → IsJournal disk.bytes (sizes_of words) (record { form = form; batches = batches }) → disk.unsynced ≡ [] → length disk.bytes ≤ disk.synced_length
     → Found words (record { form = form; batches = batches }) disk
-found-in One batches words disk j synced whole = old-found One batches words disk refl (undivided_in batches j.live.starts.can_stand) j (found-disk One (sizes_of words) batches disk j synced whole)
-found-in Two batches words disk j synced whole = two-found batches words disk j synced whole
-found-in Moving batches words disk j synced whole =
-    old-found Moving batches words disk refl (ap halves_in j.live ∙ ap undivided (sym j.live)) j (found-disk Moving (sizes_of words) batches disk j synced whole)
+found-in One batches words disk j synced entire = old-found One batches words disk refl (undivided_in batches j.live.starts.can_stand) j (found-disk One (sizes_of words) batches disk j synced entire)
+found-in Two batches words disk j synced entire = two-found batches words disk j synced entire
+found-in Moving batches words disk j synced entire =
+    old-found Moving batches words disk refl (ap halves_in j.live ∙ ap undivided (sym j.live)) j (found-disk Moving (sizes_of words) batches disk j synced entire)
 
 pub book-found : (words : List (List ℕ)) (journal : Journal) (disk : Disk) → IsJournal disk.bytes (sizes_of words) journal → disk.unsynced ≡ [] → length disk.bytes ≤ disk.synced_length → Found words journal disk
-book-found words journal disk j synced whole = found-in journal.form journal.batches words disk j synced whole
+book-found words journal disk j synced entire = found-in journal.form journal.batches words disk j synced entire

@@ -38,7 +38,7 @@ half-other (h ∷ halves) (suc i) (suc k) later other = half-other halves i k la
 -- What has to hold of a slave that changes.
 pub record SlaveGoes (book : Book) (i : ℕ) (slave : Slave) (later : SlaveHalf) (took : Bool) : Type 0 where
   pub fits : (gone : List Run) → BookFits book gone → BookFits (with_slave book i slave) gone
-  pub here : SlaveFits i later slave.errand took slave.cells
+  pub here : SlaveFits i later slave.operation took slave.cells
   pub count : length slave.cells ≡ length (slave_at book i).cells
   pub owes : (at : ℕ) → length (cell_of slave.cells at).owed ≤ length (cell_of (slave_at book i).cells at).owed
 
@@ -62,7 +62,7 @@ owes-less slaves i slave within owes k at = rw (cells_of (set slaves i slave) k,
         (rw (get_or-set_same slaves i slave nobody within) (owes at))
     one (inr other) = rw (get_or-set_other slaves i k slave nobody other) (omega arith)
 
-slaves-go : (halves : List SlaveHalf) (slaves : List Slave) (took : List Bool) (i : ℕ) (slave : Slave) (later : SlaveHalf) (t : Bool) → i < length slaves → SlaveFits i later slave.errand t slave.cells → SlavesFit halves slaves took
+slaves-go : (halves : List SlaveHalf) (slaves : List Slave) (took : List Bool) (i : ℕ) (slave : Slave) (later : SlaveHalf) (t : Bool) → i < length slaves → SlaveFits i later slave.operation t slave.cells → SlavesFit halves slaves took
     → SlavesFit (set halves i later) (set slaves i slave) (set took i t)
 slaves-go halves slaves took i slave later t within here fit = record {
   count = length-set halves i later ∙ fit.count ∙ sym (length-set slaves i slave);
@@ -71,10 +71,10 @@ slaves-go halves slaves took i slave later t within here fit = record {
 }
   where
     one : (k : ℕ) (half : SlaveHalf) → (k ≡ i) ⊎ (k ≢ i) → slice_get (set halves i later) k ≡ Some half
-        → SlaveFits k half (get_or (set slaves i slave) k nobody).errand (get_or (set took i t) k false) (get_or (set slaves i slave) k nobody).cells
+        → SlaveFits k half (get_or (set slaves i slave) k nobody).operation (get_or (set took i t) k false) (get_or (set slaves i slave) k nobody).cells
     one k half (inl same) is =
         let half_is : later ≡ half = half-here halves i later half (subst (λ (n : ℕ). slice_get (set halves i later) n ≡ Some half) same is) in
-        subst (λ (n : ℕ). SlaveFits n half (get_or (set slaves i slave) n nobody).errand (get_or (set took i t) n false) (get_or (set slaves i slave) n nobody).cells) (sym same)
+        subst (λ (n : ℕ). SlaveFits n half (get_or (set slaves i slave) n nobody).operation (get_or (set took i t) n false) (get_or (set slaves i slave) n nobody).cells) (sym same)
         (rw (get_or-set_same slaves i slave nobody within, get_or-set_same took i t false (omega (arith, fit.took_count)), ← half_is) here)
     one k half (inr other) is =
         rw (get_or-set_other slaves i k slave nobody other, get_or-set_other took i k t false other) (fit.each k half (sym (half-other halves i k later other) ∙ is))
@@ -98,7 +98,7 @@ slave-goes frame book state took m i slave later t up within goes =
       slaves = slaves-go state.halves book.slaves took i slave later t within goes.here up.slaves;
       pending = record { each = up.pending.each; within = up.pending.within; few = up.pending.few };
       ordered = up.ordered;
-      behind = up.behind;
+      after = up.after;
       no_command = up.no_command;
       no_migration = up.no_migration;
     }
@@ -113,13 +113,13 @@ halves-rest halves slaves took i half later there rest fit = record {
 }
   where
     one : (k : ℕ) (other : SlaveHalf) → (k ≡ i) ⊎ (k ≢ i) → slice_get (set halves i later) k ≡ Some other
-        → SlaveFits k other (get_or slaves k nobody).errand (get_or took k false) (get_or slaves k nobody).cells
+        → SlaveFits k other (get_or slaves k nobody).operation (get_or took k false) (get_or slaves k nobody).cells
     one k other (inl same) is =
         let later_is : later ≡ other = half-here halves i later other (subst (λ (n : ℕ). slice_get (set halves i later) n ≡ Some other) same is) in
-        subst (λ (n : ℕ). SlaveFits n other (get_or slaves n nobody).errand (get_or took n false) (get_or slaves n nobody).cells) (sym same)
-        (subst (λ (h : SlaveHalf). SlaveFits i h (get_or slaves i nobody).errand (get_or took i false) (get_or slaves i nobody).cells) later_is
-        (slave-rests i half later (get_or slaves i nobody).errand (get_or took i false) (get_or slaves i nobody).cells rest (fit.each i half there)))
-    one k other (inr apart) is = fit.each k other (sym (half-other halves i k later apart) ∙ is)
+        subst (λ (n : ℕ). SlaveFits n other (get_or slaves n nobody).operation (get_or took n false) (get_or slaves n nobody).cells) (sym same)
+        (subst (λ (h : SlaveHalf). SlaveFits i h (get_or slaves i nobody).operation (get_or took i false) (get_or slaves i nobody).cells) later_is
+        (slave-rests i half later (get_or slaves i nobody).operation (get_or took i false) (get_or slaves i nobody).cells rest (fit.each i half there)))
+    one k other (inr separate) is = fit.each k other (sym (half-other halves i k later separate) ∙ is)
 
 pub up-rests : (frame : JournalFrame) (book : Book) (state : State) (took : List Bool) (m : Machine) (i : ℕ) (half later : SlaveHalf) → Up frame book state took m → slice_get state.halves i ≡ Some half → MayRest half later
     → Up frame book (with_half state i later) took m
@@ -133,7 +133,7 @@ up-rests frame book state took m i half later up there rest = record {
   slaves = halves-rest state.halves book.slaves took i half later there rest up.slaves;
   pending = up.pending;
   ordered = up.ordered;
-  behind = up.behind;
+  after = up.after;
   no_command = up.no_command;
   no_migration = up.no_migration;
 }
@@ -152,7 +152,7 @@ up-faulted frame book state took m fault up =
       slaves = up.slaves;
       pending = record { each = up.pending.each; within = up.pending.within; few = up.pending.few };
       ordered = up.ordered;
-      behind = up.behind;
+      after = up.after;
       no_command = up.no_command;
       no_migration = up.no_migration;
     }

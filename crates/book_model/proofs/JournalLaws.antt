@@ -17,7 +17,7 @@ use Rattle.site_core.specs.Disk.{Disk, StopImage}
 use Rattle.book_model.specs.Frame.{JournalFrame, room, IsJournalFrame}
 use Rattle.book_model.proofs.StopLaws.{stop_none, between}
 use Rattle.book_model.proofs.AppendLaws.{single}
-use Rattle.book_model.specs.OldFile.{IsVersioned, behind, area, mark_bytes, IsEmptied, OldAtRest, OldClosing, BeforeVersion, AtVersion}
+use Rattle.book_model.specs.OldFile.{IsVersioned, after, area, mark_bytes, IsEmptied, OldAtRest, OldClosing, BeforeVersion, AtVersion}
 use Rattle.book_model.proofs.RangeLaws.{torn-agrees}
 use Rattle.book_model.proofs.EmptiedLaws.{head_of, all-torn, far-torn, version-torn}
 
@@ -32,11 +32,11 @@ closed-area frame gate rest second is_frame closed =
 
 module _ (frame : JournalFrame) (version : ℕ) (first second bytes : List ℕ) (is_frame : IsJournalFrame frame) (v : IsVersioned frame version first second bytes) where
   all : List ℕ
-  all = behind frame first second
+  all = after frame first second
 
   area-long : length (area frame first second) ≡ frame.capacity
-  area-long = length-take-le frame.capacity (behind frame first second)
-      (omega (arith, is_frame.whole, v.room, v.file.equal, length-append (first ++ second) frame.last, length-append first second))
+  area-long = length-take-le frame.capacity (after frame first second)
+      (omega (arith, is_frame.entire, v.room, v.file.equal, length-append (first ++ second) frame.last, length-append first second))
 
   -- the area is the two halves of version 2, and a byte more where its capacity is odd
   area-halves : AreHalves (area frame first second) first second
@@ -44,34 +44,34 @@ module _ (frame : JournalFrame) (version : ℕ) (first second bytes : List ℕ) 
       let n = frame.capacity - length (first ++ second) in
       let equal : length first ≡ length second = v.file.equal in
       let two : length (first ++ second) ≡ room frame + room frame = omega (arith, length-append first second, v.room, equal) in
-      let cut : take frame.capacity (behind frame first second) ≡ take (length (first ++ second) + n) (behind frame first second) = ap (λ (k : ℕ). take k (behind frame first second)) (omega (arith, two)) in
-      let long : length (take n frame.last) ≡ n = length-take-le n frame.last (omega (arith, is_frame.whole, two)) in
+      let cut : take frame.capacity (after frame first second) ≡ take (length (first ++ second) + n) (after frame first second) = ap (λ (k : ℕ). take k (after frame first second)) (omega (arith, two)) in
+      let long : length (take n frame.last) ≡ n = length-take-le n frame.last (omega (arith, is_frame.entire, two)) in
       record {
         equal = equal;
         last = take n frame.last;
         odd = omega (arith, long, two);
-        whole = cut ∙ take-append-add (first ++ second) frame.last n ∙ append_assoc first second (take n frame.last);
+        entire = cut ∙ take-append-add (first ++ second) frame.last n ∙ append_assoc first second (take n frame.last);
       }
 
-  versioned-area : (sizes : List ℕ) (form : Form) → length sizes ≡ frame.slaves → IsForm version (behind frame first second) form → HasArea bytes (length sizes) form (area frame first second)
+  versioned-area : (sizes : List ℕ) (form : Form) → length sizes ≡ frame.slaves → IsForm version (after frame first second) form → HasArea bytes (length sizes) form (area frame first second)
   versioned-area sizes form count is_form =
       let most = is_frame.is_capacity in
-      let split = sym (take-append-drop frame.capacity (behind frame first second)) in
+      let split = sym (take-append-drop frame.capacity (after frame first second)) in
       record {
         version = version;
-        rest = drop frame.capacity (behind frame first second);
+        rest = drop frame.capacity (after frame first second);
         header = record {
           slaves_fit = omega (arith, count, is_frame.slaves_fit);
           capacity_fits = omega (arith, area-long, most);
-          spelt = v.file.is ∙ ap (λ (n : ℕ). header_bytes version n frame.capacity ++ behind frame first second) (sym count)
-              ∙ ap (λ (n : ℕ). header_bytes version (length sizes) n ++ behind frame first second) (sym area-long)
+          spelt = v.file.is ∙ ap (λ (n : ℕ). header_bytes version n frame.capacity ++ after frame first second) (sym count)
+              ∙ ap (λ (n : ℕ). header_bytes version (length sizes) n ++ after frame first second) (sym area-long)
               ∙ ap (λ (l : List ℕ). header_bytes version (length sizes) (length (area frame first second)) ++ l) split;
         };
         is_form = subst (λ (l : List ℕ). IsForm version l form) split is_form;
         capacity = subst IsCapacity (sym area-long) most;
       }
 
-  pub versioned-journal : (sizes : List ℕ) (form : Form) (batches : List Batch) → length sizes ≡ frame.slaves → IsForm version (behind frame first second) form → HasLive form (area frame first second) batches
+  pub versioned-journal : (sizes : List ℕ) (form : Form) (batches : List Batch) → length sizes ≡ frame.slaves → IsForm version (after frame first second) form → HasLive form (area frame first second) batches
       → AllByRecursion (IsWithin sizes) batches → IsJournal bytes sizes (record { form = form; batches = batches })
   versioned-journal sizes form batches count is_form lives within =
       record { area = area frame first second; has_area = versioned-area sizes form count is_form; live = lives; within = within }

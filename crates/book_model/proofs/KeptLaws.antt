@@ -30,7 +30,7 @@ use Rattle.book_model.specs.Phases.{AtRest, HasBatch, HasGate}
 use Rattle.book_model.specs.Doing.{Appending, Retiring, DoingFits, OpensGate}
 use Rattle.book_model.specs.Keeping.{IsOfBook, IsOfLine}
 use Rattle.book_model.proofs.TornLaws.{with_image, rest-image, payload-image, batch-image, gate-image, closing-image, rest-journal}
-use Rattle.sii_words.proofs.Quantifiers.{all_behind}
+use Rattle.sii_words.proofs.Quantifiers.{all_after}
 
 pub same_sizes : (plant left : List (List ℕ)) → length left ≡ length plant → ((slave : ℕ) → length (words_of left slave) ≡ length (words_of plant slave)) → sizes_of left ≡ sizes_of plant
 same_sizes [] [] slaves words = refl
@@ -83,7 +83,7 @@ module _ (frame : JournalFrame) (book : Book) (m : Machine) (gone : List Run) (d
   as_newer retires rest =
       let lives : live (retired book.halves) ≡ book.halves.newer = left-live book.halves book.halves.newer in
       kept_at (retired book.halves) book.durable rest
-      (subst (AllByRecursion (IsWithin (sizes_of book.words))) (sym lives) (all_behind (IsWithin (sizes_of book.words)) book.halves.older book.halves.newer line.within))
+      (subst (AllByRecursion (IsWithin (sizes_of book.words))) (sym lives) (all_after (IsWithin (sizes_of book.words)) book.halves.older book.halves.newer line.within))
       (omega arith) fits.durable_few
       (ap (λ (l : List Batch). redone left (live_runs l)) lives
       ∙ kept-newer book.words (base_of book) (own book) book.durable book.halves (all_cells book.slaves) gone fits retires.settled left may)

@@ -6,7 +6,7 @@ use Rattle.jrn_format.specs.declared.journal.Batch.{Batch}
 use Rattle.jrn_format.specs.declared.journal.Form.{Form}
 use Rattle.jrn_format.specs.declared.journal.Form.TheVariants.{One, Two, Moving}
 use Rattle.jrn_format.specs.declared.journal.Spelling.TheVariants.{Plain}
-use Rattle.jrn_format.specs.Batch.{spelt_behind}
+use Rattle.jrn_format.specs.Batch.{spelt_after}
 use Rattle.jrn_format.specs.Area.{spelt_batches, IsLive}
 use Rattle.jrn_format.specs.Halves.{Halves, live}
 use Rattle.site_core.specs.Disk.{Disk, write_begun}
@@ -21,7 +21,7 @@ use Rattle.book_model.specs.Frame.{JournalFrame, room, IsJournalFrame}
 use Rattle.book_model.specs.Doing.{Retiring}
 use Rattle.book_model.specs.Events.{begun_on}
 use Rattle.book_model.proofs.BeginLaws.{BegunAs, appends, retires, migrates, rests, begun-as}
-use Rattle.book_model.specs.OldFile.{IsVersioned, behind, area, mark_bytes, IsEmptied, OldAtRest, OldClosing, BeforeVersion}
+use Rattle.book_model.specs.OldFile.{IsVersioned, after, area, mark_bytes, IsEmptied, OldAtRest, OldClosing, BeforeVersion}
 use Rattle.book_model.specs.OldDoing.{undivided, OldDoingFits, OldFits}
 use Rattle.book_model.specs.OldQueue.{OldCanBegin}
 use Rattle.book_model.proofs.RangeLaws.{torn-begun, torn-none}
@@ -72,7 +72,7 @@ area-first frame gate y rest second ys is_frame is =
 
 opened : (area : List ℕ) (batches : List Batch) → batches ≢ [] → IsLive Plain 0 area batches → (rest : List ℕ) × (area ≡ 0xA5 ∷ rest)
 opened area [] some lives = absurd (some refl)
-opened area (b ∷ batches) some lives = ((spelt_behind Plain b.generation b.entries ++ spelt_batches Plain batches) ++ lives.rest, lives.starts.spelt)
+opened area (b ∷ batches) some lives = ((spelt_after Plain b.generation b.entries ++ spelt_batches Plain batches) ++ lives.rest, lives.starts.spelt)
 
 close-of : (frame : JournalFrame) (batches : List Batch) (disk : Disk) → IsJournalFrame frame → batches ≢ [] → OldAtRest frame One batches disk → OldClosing frame batches 0xA5 disk
 close-of frame batches disk is_frame some r =
@@ -87,7 +87,7 @@ close-of frame batches disk is_frame some r =
       second = r.second;
       versioned = subst (λ (l : List ℕ). IsVersioned frame 1 l r.second disk.bytes) first (subst (λ (n : ℕ). IsVersioned frame n r.first r.second disk.bytes) version r.versioned);
       live = subst (λ (l : List ℕ). IsLive Plain 0 (area frame l r.second) batches) first r.live;
-      torn = torn-none 8 1 disk r.synced r.whole;
+      torn = torn-none 8 1 disk r.synced r.entire;
     }
 
 close-again : (frame : JournalFrame) (batches : List Batch) (gate : ℕ) (disk : Disk) → OldClosing frame batches gate disk → OldClosing frame batches gate (write_begun disk 8 1)
@@ -130,7 +130,7 @@ known frame One disk is_frame old r =
       versioned = subst (λ (n : ℕ). IsVersioned frame n (m.gate ∷ (m.mark ++ m.rest)) (s.0 ∷ s.1) disk.bytes) version
           (subst (λ (l : List ℕ). IsVersioned frame r.version (m.gate ∷ (m.mark ++ m.rest)) l disk.bytes) s.2 (subst (λ (l : List ℕ). IsVersioned frame r.version l r.second disk.bytes) m.is r.versioned));
     } in
-    record { mark = m.mark; far = s.0; before = (e, torn-none 9 (room frame) disk r.synced r.whole) }
+    record { mark = m.mark; far = s.0; before = (e, torn-none 9 (room frame) disk r.synced r.entire) }
 known frame Two disk is_frame old r = absurd cc
 known frame Moving disk is_frame old r =
     let most = is_frame.is_capacity in
@@ -138,7 +138,7 @@ known frame Moving disk is_frame old r =
     let s = cut r.second (omega (arith, r.versioned.room, r.versioned.file.equal, most)) in
     let marked = r.is_form.2 in
     let starts : m.gate ∷ (m.mark ++ ((m.rest ++ r.second) ++ frame.last)) ≡ marked.0 ∷ (mark_bytes ++ marked.1) =
-    flat m.gate m.mark m.rest r.second frame.last ∙ ap (λ (l : List ℕ). behind frame l r.second) (sym m.is) ∙ marked.3 in
+    flat m.gate m.mark m.rest r.second frame.last ∙ ap (λ (l : List ℕ). after frame l r.second) (sym m.is) ∙ marked.3 in
     let both = marked-four m.mark m.gate marked.0 ((m.rest ++ r.second) ++ frame.last) marked.1 m.four starts in
     let e : IsEmptied frame r.version m.mark s.0 disk.bytes = record {
       gate = m.gate;
@@ -148,7 +148,7 @@ known frame Moving disk is_frame old r =
       four = m.four;
       versioned = subst (λ (l : List ℕ). IsVersioned frame r.version (m.gate ∷ (m.mark ++ m.rest)) l disk.bytes) s.2 (subst (λ (l : List ℕ). IsVersioned frame r.version l r.second disk.bytes) m.is r.versioned);
     } in
-    record { mark = m.mark; far = s.0; before = (r.version, r.is_form.0, r.is_form.1, both.1, e, torn-none (8 + room frame) 1 disk r.synced r.whole) }
+    record { mark = m.mark; far = s.0; before = (r.version, r.is_form.0, r.is_form.1, both.1, e, torn-none (8 + room frame) 1 disk r.synced r.entire) }
   where
     flat : (gate : ℕ) (mark rest second last : List ℕ) → gate ∷ (mark ++ ((rest ++ second) ++ last)) ≡ ((gate ∷ (mark ++ rest)) ++ second) ++ last
     flat gate mark rest second last = simp append_assoc refl

@@ -69,7 +69,7 @@ close-synced frame batches gate disk is_frame closed c = record {
   is_form = refl;
   live = closed_live Plain 0 (area frame (gate ∷ c.rest) c.second) (closed-area frame gate c.rest c.second is_frame closed);
   synced = refl;
-  whole = omega arith;
+  entire = omega arith;
 }
 
 -- ---- a migration
@@ -106,9 +106,9 @@ mark-failed frame mark far disk new b failed =
     (t.0, (t.1, torn-same 9 (room frame) disk new b.1 failed.unsynced failed.synced_length (emptied-long frame 1 1 mark t.0 far far disk.bytes new.bytes b.0 t.1)))
 
 mark-synced : (frame : JournalFrame) (form : Form) (disk : Disk) → BeforeVersion frame form mark_bytes 0 disk → (version : ℕ) × AtVersion frame version (synced disk)
-mark-synced frame One disk b = (1, record { emptied = b.0; torn = record { ranges = tt; whole = omega arith } })
+mark-synced frame One disk b = (1, record { emptied = b.0; torn = record { ranges = tt; entire = omega arith } })
 mark-synced frame Two disk b = absurd b
-mark-synced frame Moving disk b = (b.0, record { emptied = b.4; torn = record { ranges = tt; whole = omega arith } })
+mark-synced frame Moving disk b = (b.0, record { emptied = b.4; torn = record { ranges = tt; entire = omega arith } })
 
 version-done : (frame : JournalFrame) (version over : ℕ) (disk : Disk) → AtVersion frame version disk → AtVersion frame over (written disk 1 (over ∷ []))
 version-done frame version over disk a =
@@ -140,7 +140,7 @@ version-synced frame disk a =
         newer_of = tt;
       };
       synced = refl;
-      whole = omega arith;
+      entire = omega arith;
     }
 
 -- ---- success

@@ -18,7 +18,7 @@ use Rattle.site_core.specs.State.{State}
 use Rattle.book_model.specs.Cells.{Cell, opened}
 use Rattle.book_model.specs.Cells.{nothing as no_cell}
 use Rattle.book_model.specs.Entries.{runs_of, entries_of, live_runs, sizes_of}
-use Rattle.book_model.specs.Book.{Free, nobody, all_cells, cell_at}
+use Rattle.book_model.specs.Book.{NoOperation, nobody, all_cells, cell_at}
 use Rattle.book_model.specs.Open.{opened_slave, open_book}
 use Rattle.book_model.specs.Machine.{Machine, reopened, MayKeep}
 use Rattle.book_model.specs.Machine as machines
@@ -59,7 +59,7 @@ opened-fits words journal capacity lives =
 -- ---- the slaves
 
 -- an idle half holds what was read of it
-slave-opened : (slave : ℕ) (half : SlaveHalf) (took : Bool) → IsIdle half → SlaveFits slave half Free took (map opened half.words)
+slave-opened : (slave : ℕ) (half : SlaveHalf) (took : Bool) → IsIdle half → SlaveFits slave half NoOperation took (map opened half.words)
 slave-opened slave half took idle = record {
   size = length-map half.words opened;
   words = λ left may at within.
@@ -111,7 +111,7 @@ pub up-opens : (journal : Journal) (state : State) (took : List Bool) (m : Machi
 up-opens journal state took m found long kept =
     let words = words_in state.halves in
     let runs = live_runs journal.batches in
-    let f = book-found words journal state.disk found.is_journal found.synced.all found.synced.whole in
+    let f = book-found words journal state.disk found.is_journal found.synced.all found.synced.entire in
     record {
       k = kept.k;
       may_keep = kept.may_keep;
@@ -126,7 +126,7 @@ up-opens journal state took m found long kept =
         slaves = slaves-owe state.halves (map opened_slave words) took runs (slaves-opened state.halves took found.idle long);
         pending = record { each = tt; within = tt; few = omega arith };
         ordered = ordered-in journal.batches;
-        behind = λ entries there. absurd cc;
+        after = λ entries there. absurd cc;
         no_command = λ old. refl;
         no_migration = λ two. refl;
       };

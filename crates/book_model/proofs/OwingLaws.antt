@@ -4,12 +4,12 @@ use Rattle.sii_words.specs.declared.run.Run.{Run}
 use Rattle.esc_model.specs.SlaveHalf.{SlaveHalf}
 use Rattle.book_model.specs.Cells.{Known, Unsure, Cell, all_named, owing, cell_of}
 use Rattle.book_model.specs.Entries.{values}
-use Rattle.book_model.specs.Book.{Slave, Errand, Free, Issuing, Unsettled, Settling, nobody, all_cells}
+use Rattle.book_model.specs.Book.{Slave, Operation, NoOperation, Issuing, Unsettled, Settling, nobody, all_cells}
 use Rattle.book_model.specs.Open.{owing_words, owing_slaves}
 use Rattle.book_model.specs.Owed.{MayBe, IsAmong}
 use Rattle.book_model.specs.Fits.{SameCells}
 use Rattle.book_model.proofs.BookLaws.{cells_of, length-all_cells}
-use Rattle.book_model.specs.Slaves.{Asks, ErrandFits, SlaveFits}
+use Rattle.book_model.specs.Slaves.{Asks, OperationFits, SlaveFits}
 use Rattle.book_model.specs.Up.{SlavesFit}
 use Rattle.book_model.proofs.WornCounts.{owing-at}
 
@@ -41,19 +41,19 @@ asks-owes slave word value taken half cells runs n asks =
       took = asks.took;
     }
 
-errand-owes : (slave : ℕ) (errand : Errand) (took : Bool) (half : SlaveHalf) (cells : List Cell) (runs : List Run) (n : ℕ) → ErrandFits slave errand took half cells → ErrandFits slave errand took half (owing_words runs n 0 cells)
-errand-owes slave Free took half cells runs n fits = tt
-errand-owes slave (Issuing word value) took half cells runs n fits = asks-owes slave word value took half cells runs n fits
-errand-owes slave (Unsettled word value taken) took half cells runs n fits = asks-owes slave word value taken half cells runs n fits
-errand-owes slave (Settling word value taken) took half cells runs n fits = asks-owes slave word value taken half cells runs n fits
+operation-owes : (slave : ℕ) (operation : Operation) (took : Bool) (half : SlaveHalf) (cells : List Cell) (runs : List Run) (n : ℕ) → OperationFits slave operation took half cells → OperationFits slave operation took half (owing_words runs n 0 cells)
+operation-owes slave NoOperation took half cells runs n fits = tt
+operation-owes slave (Issuing word value) took half cells runs n fits = asks-owes slave word value took half cells runs n fits
+operation-owes slave (Unsettled word value taken) took half cells runs n fits = asks-owes slave word value taken half cells runs n fits
+operation-owes slave (Settling word value taken) took half cells runs n fits = asks-owes slave word value taken half cells runs n fits
 
-slave-owes : (slave : ℕ) (half : SlaveHalf) (errand : Errand) (took : Bool) (cells : List Cell) (runs : List Run) (n : ℕ) → SlaveFits slave half errand took cells → SlaveFits slave half errand took (owing_words runs n 0 cells)
-slave-owes slave half errand took cells runs n fits = record {
+slave-owes : (slave : ℕ) (half : SlaveHalf) (operation : Operation) (took : Bool) (cells : List Cell) (runs : List Run) (n : ℕ) → SlaveFits slave half operation took cells → SlaveFits slave half operation took (owing_words runs n 0 cells)
+slave-owes slave half operation took cells runs n fits = record {
   size = length-owing runs n 0 cells ∙ fits.size;
   words = λ left may at within.
       let o = owing-at runs n 0 cells at in
       subst (λ (c : Cell). MayBe c.known (get_or left at 0)) (sym o.1) (fits.words left may at (omega (arith, within, length-owing runs n 0 cells)));
-  asks = errand-owes slave errand took half cells runs n fits.asks;
+  asks = operation-owes slave operation took half cells runs n fits.asks;
 }
 
 -- ---- all slaves
@@ -75,7 +75,7 @@ slaves-owe halves slaves took runs fit = record {
   each = λ i half is.
       let slave = get_or slaves i nobody in
       let o = owing-slave runs 0 slaves i in
-      subst (λ (s : Slave). SlaveFits i half s.errand (get_or took i false) s.cells) (sym o.1) (slave-owes i half slave.errand (get_or took i false) slave.cells runs o.0 (fit.each i half is));
+      subst (λ (s : Slave). SlaveFits i half s.operation (get_or took i false) s.cells) (sym o.1) (slave-owes i half slave.operation (get_or took i false) slave.cells runs o.0 (fit.each i half is));
 }
 
 pub same-owing : (words : List (List ℕ)) (slaves : List Slave) (runs : List Run) → SameCells words (all_cells slaves) → SameCells words (all_cells (owing_slaves runs 0 slaves))

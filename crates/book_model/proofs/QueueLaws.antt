@@ -11,7 +11,7 @@ use Rattle.book_model.specs.declared.due.Word.{Word}
 use Rattle.book_model.specs.declared.due.Held.{Held}
 use Rattle.book_model.specs.Pending.{Pending, values_of, to_do, first, issued}
 use Rattle.book_model.specs.Queue.{no_naming, no_word, pair_of, live_of, numbers_of, known_of, cell_for, cells_from, end_of, WordStands, IsPast, word_at, naming_at, Stands, Cursor, IsDue, pending_of}
-use Rattle.book_model.proofs.EndLaws.{none-behind, some-ahead, end-names}
+use Rattle.book_model.proofs.EndLaws.{none-after, some-ahead, end-names}
 use Rattle.book_model.proofs.TodoLaws.{todo-skips, todo-first}
 
 pub live-at : (namings : List Naming) (place : ℕ) → get_or (live_of namings) place (pair_of no_naming) ≡ pair_of (naming_at namings place)
@@ -82,7 +82,7 @@ owes-nothing namings words cursor stands past at le = one (within-cases at (leng
     one (inl inside) =
         let e = (stands.each_word at inside).end in
         let p = past.past at inside (omega arith) in
-        rw (cell-at (live_of namings) words at inside) (any-nil (values_of at (drop (word_at words at).mark (live_of namings))) (none-behind at (word_at words at).mark (live_of namings) (omega arith)))
+        rw (cell-at (live_of namings) words at inside) (any-nil (values_of at (drop (word_at words at).mark (live_of namings))) (none-after at (word_at words at).mark (live_of namings) (omega arith)))
 
 pub next-none : (namings : List Naming) (words : List Word) (cursor : ℕ) → Stands namings words → Cursor cursor namings words → length namings ≤ cursor → first (to_do (cells_from (live_of namings) 0 words) (live_of namings)) ≡ None
 next-none namings words cursor stands past end =
@@ -100,7 +100,7 @@ next-some namings words cursor stands past within due =
     let split : drop cursor live ≡ pair_of n ∷ drop (cursor + 1) live = drop_more live cursor (pair_of no_naming) (omega (arith, length-map namings pair_of)) ∙ ap (λ (p : ℕ × ℕ). p ∷ drop (cursor + 1) live) (live-at namings cursor) in
     let owes : is_any (cell_of cells n.word).owed ≡ true = rw (cell-at live words n.word inside) (some-ahead n.word (word_at words n.word).mark live (omega (arith, due.last, due.owed))) in
     ap first (todo-skips cells cursor live (owes-nothing namings words cursor stands past) ∙ ap (to_do cells) split)
-    ∙ todo-first cells (pair_of n) (drop (cursor + 1) live) (none-behind n.word (cursor + 1) live (omega (arith, due.last))) owes
+    ∙ todo-first cells (pair_of n) (drop (cursor + 1) live) (none-after n.word (cursor + 1) live (omega (arith, due.last))) owes
 
 -- the word to be issued is asked for
 pub asks : (namings : List Naming) (words : List Word) (room at value : ℕ) (held : Held) → at < length words → known_of held ≡ Unsure (next_issue (known_of (word_at words at).held))

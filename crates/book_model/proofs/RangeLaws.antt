@@ -16,18 +16,18 @@ outside-all start count (r ∷ ranges) k all out = (one out, outside-all start c
 pub torn-agrees : (start count : ℕ) (disk : Disk) (image : List ℕ) → TornWithin start count disk → StopImage disk image → AgreesOutside disk.bytes start count image
 torn-agrees start count disk image torn stop = record {
   outside = λ k out. stop.bytes k (outside-all start count disk.unsynced k torn.ranges out);
-  no_shorter = omega (arith, stop.no_shorter, torn.whole);
+  no_shorter = omega (arith, stop.no_shorter, torn.entire);
 }
 
 -- a write in the range begins
 pub torn-begun : (start count at size : ℕ) (disk : Disk) → TornWithin start count disk → start ≤ at → at + size ≤ start + count → TornWithin start count (write_begun disk at size)
-torn-begun start count at size disk torn from to = record { ranges = ((from, to), torn.ranges); whole = torn.whole }
+torn-begun start count at size disk torn from to = record { ranges = ((from, to), torn.ranges); entire = torn.entire }
 
 -- where nothing is unsynced
 pub torn-none : (start count : ℕ) (disk : Disk) → disk.unsynced ≡ [] → length disk.bytes ≤ disk.synced_length → TornWithin start count disk
-torn-none start count disk none whole = record { ranges = rw none tt; whole = whole }
+torn-none start count disk none entire = record { ranges = rw none tt; entire = entire }
 
 -- other bytes, as many as before
 pub torn-same : (start count : ℕ) (disk new : Disk) → TornWithin start count disk → new.unsynced ≡ disk.unsynced → new.synced_length ≡ disk.synced_length → length new.bytes ≡ length disk.bytes
     → TornWithin start count new
-torn-same start count disk new torn ranges synced long = record { ranges = rw ranges torn.ranges; whole = omega (arith, synced, long, torn.whole) }
+torn-same start count disk new torn ranges synced long = record { ranges = rw ranges torn.ranges; entire = omega (arith, synced, long, torn.entire) }

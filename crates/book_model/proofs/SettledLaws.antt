@@ -212,9 +212,9 @@ unsettled-none namings words settled room stands is over =
 -- THE TEST OF A RETIRE, NAMING BY NAMING
 
 -- if no word is owed more than later namings name it, all is settled
-pub settled-all : (cells : List Cell) (behind ns : List (ℕ × ℕ)) → ((at : ℕ) → length (cell_of cells at).owed ≤ length (values_of at behind)) → namings_settled cells behind ns ≡ true
-settled-all cells behind [] all = refl
-settled-all cells behind (n ∷ ns) all = rw (le-true (length (cell_of cells n.0).owed) (length (values_of n.0 behind)) (all n.0)) (settled-all cells behind ns all)
+pub settled-all : (cells : List Cell) (after ns : List (ℕ × ℕ)) → ((at : ℕ) → length (cell_of cells at).owed ≤ length (values_of at after)) → namings_settled cells after ns ≡ true
+settled-all cells after [] all = refl
+settled-all cells after (n ∷ ns) all = rw (le-true (length (cell_of cells n.0).owed) (length (values_of n.0 after)) (all n.0)) (settled-all cells after ns all)
 
 pub and-left : (a b : Bool) → (a && b) ≡ true → a ≡ true
 and-left true b h = refl
@@ -225,14 +225,14 @@ and-right true b h = h
 and-right false b h = absurd (cc)
 
 -- a word that is named there is owed no more than later namings name it
-pub word-settled : (cells : List Cell) (behind ns : List (ℕ × ℕ)) (at : ℕ) → namings_settled cells behind ns ≡ true
-    → (values_of at ns ≡ []) ⊎ (length (cell_of cells at).owed ≤ length (values_of at behind))
-word-settled cells behind [] at all = inl refl
-word-settled cells behind (n ∷ ns) at all =
-    let here = nat_le (length (cell_of cells n.0).owed) (length (values_of n.0 behind)) in
-    let rest = word-settled cells behind ns at (and-right here (namings_settled cells behind ns) all) in
+pub word-settled : (cells : List Cell) (after ns : List (ℕ × ℕ)) (at : ℕ) → namings_settled cells after ns ≡ true
+    → (values_of at ns ≡ []) ⊎ (length (cell_of cells at).owed ≤ length (values_of at after))
+word-settled cells after [] at all = inl refl
+word-settled cells after (n ∷ ns) at all =
+    let here = nat_le (length (cell_of cells n.0).owed) (length (values_of n.0 after)) in
+    let rest = word-settled cells after ns at (and-right here (namings_settled cells after ns) all) in
     elim (cases_eq n.0 at) [
-      | inl is ↦ inr (subst (λ (k : ℕ). length (cell_of cells k).owed ≤ length (values_of k behind)) is (le-of (length (cell_of cells n.0).owed) (length (values_of n.0 behind)) (and-left here (namings_settled cells behind ns) all)))
+      | inl is ↦ inr (subst (λ (k : ℕ). length (cell_of cells k).owed ≤ length (values_of k after)) is (le-of (length (cell_of cells n.0).owed) (length (values_of n.0 after)) (and-left here (namings_settled cells after ns) all)))
       | inr not ↦ rw (other_test n.0 at not) rest
     ]
 

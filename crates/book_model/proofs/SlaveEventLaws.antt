@@ -10,8 +10,8 @@ use Rattle.book_model.specs.declared.next.RomNext.{RomNext}
 use Rattle.book_model.specs.declared.next.RomNext.TheVariants as next
 use Rattle.book_model.specs.declared.next.RomOutcome.{RomOutcome}
 use Rattle.book_model.specs.declared.next.RomOutcome.TheVariants.{Issued, Settled, Stopped}
-use Rattle.book_model.specs.Book.{Book, Errand, Free, Issuing, Unsettled, Settling, slave_at}
-use Rattle.book_model.specs.RomSteps.{to_do, with_errand, with_issue, without_work, rom_next, rom_done}
+use Rattle.book_model.specs.Book.{Book, Operation, NoOperation, Issuing, Unsettled, Settling, slave_at}
+use Rattle.book_model.specs.RomSteps.{to_do, with_operation, with_issue, without_work, rom_next, rom_done}
 use Rattle.book_model.specs.Machine.{Machine}
 use Rattle.book_model.specs.Frame.{JournalFrame}
 use Rattle.book_model.specs.Steps.{MayBegin, took_after, MayComeBack}
@@ -31,24 +31,24 @@ IsNothing next.Stop = Unit {0}
 pub data Asks (book : Book) (i : ℕ) : Type 0 where
   nothing : (answer : RomNext) → IsNothing answer → rom_next book i ≡ (answer, book) → Asks book i
   issue : (w : ℕ × ℕ) (others : List (ℕ × ℕ)) → to_do book i ≡ w ∷ others → rom_next book i ≡ (next.Issue w.0 w.1, with_issue book i w) → Asks book i
-  settle : (word value : ℕ) (taken : Bool) → (slave_at book i).errand ≡ Unsettled word value taken → rom_next book i ≡ (next.Settle taken, with_errand book i (Settling word value taken)) → Asks book i
+  settle : (word value : ℕ) (taken : Bool) → (slave_at book i).operation ≡ Unsettled word value taken → rom_next book i ≡ (next.Settle taken, with_operation book i (Settling word value taken)) → Asks book i
 
 idle-or-stop : (done : Bool) → IsNothing (if done then next.Stop else next.Idle)
 idle-or-stop true = tt
 idle-or-stop false = tt
 
 module _ (book : Book) (i : ℕ) (there : nat_lt i (length book.slaves) ≡ true) where
-  asks-free : (failed : Bool) (work : List (ℕ × ℕ)) → (slave_at book i).errand ≡ Free → is_some book.fault ≡ failed → to_do book i ≡ work → Asks book i
-  asks-free true work is ok todo = nothing next.Stop tt (rw (there, is, ok) refl)
-  asks-free false [] is ok todo = nothing (without_work book) (idle-or-stop (book.is_finished && nat_le (length book.accepted) book.durable)) (rw (there, is, ok, todo) refl)
-  asks-free false (w ∷ others) is ok todo = issue w others todo (rw (there, is, ok, todo) refl)
+  asks-vacant : (failed : Bool) (work : List (ℕ × ℕ)) → (slave_at book i).operation ≡ NoOperation → is_some book.fault ≡ failed → to_do book i ≡ work → Asks book i
+  asks-vacant true work is ok todo = nothing next.Stop tt (rw (there, is, ok) refl)
+  asks-vacant false [] is ok todo = nothing (without_work book) (idle-or-stop (book.is_finished && nat_le (length book.accepted) book.durable)) (rw (there, is, ok, todo) refl)
+  asks-vacant false (w ∷ others) is ok todo = issue w others todo (rw (there, is, ok, todo) refl)
 
-  asks-unsettled : (word value : ℕ) (taken failed : Bool) → (slave_at book i).errand ≡ Unsettled word value taken → is_some book.fault ≡ failed → Asks book i
+  asks-unsettled : (word value : ℕ) (taken failed : Bool) → (slave_at book i).operation ≡ Unsettled word value taken → is_some book.fault ≡ failed → Asks book i
   asks-unsettled word value taken true is ok = nothing next.Stop tt (rw (there, is, ok) refl)
   asks-unsettled word value taken false is ok = settle word value taken is (rw (there, is, ok) refl)
 
-  pub asks : (errand : Errand) → (slave_at book i).errand ≡ errand → Asks book i
-  asks Free is = asks-free (is_some book.fault) (to_do book i) is refl refl
+  pub asks : (operation : Operation) → (slave_at book i).operation ≡ operation → Asks book i
+  asks NoOperation is = asks-vacant (is_some book.fault) (to_do book i) is refl refl
   asks (Issuing word value) is = nothing next.Idle tt (rw (there, is) refl)
   asks (Unsettled word value taken) is = asks-unsettled word value taken (is_some book.fault) is refl
   asks (Settling word value taken) is = nothing next.Idle tt (rw (there, is) refl)
@@ -71,12 +71,12 @@ module _ (frame : JournalFrame) (book : Book) (state : State) (took : List Bool)
   begins-as : Asks book i → Begins (rom_next book i)
   begins-as (nothing answer none is) = subst Begins (sym is) (begins-nothing answer none)
   begins-as (issue w others todo is) = subst Begins (sym is) (λ takes. up-works frame book state took m i half later w others t up within there todo takes)
-  begins-as (settle word value taken errand is) =
-      let settles = subst (λ (a : RomNext × Book). Up frame a.1 state took m) is (up-settles frame book state took m i word value taken up within errand) in
-      subst Begins (sym is) (λ same. subst (λ (s : State). Up frame (with_errand book i (Settling word value taken)) s took m) (sym (same-state state i half later there same)) settles)
+  begins-as (settle word value taken operation is) =
+      let settles = subst (λ (a : RomNext × Book). Up frame a.1 state took m) is (up-settles frame book state took m i word value taken up within operation) in
+      subst Begins (sym is) (λ same. subst (λ (s : State). Up frame (with_operation book i (Settling word value taken)) s took m) (sym (same-state state i half later there same)) settles)
 
   pub up-asks : MayBegin (rom_next book i).0 i t half later → Up frame (rom_next book i).1 (with_half state i later) (took_after (rom_next book i).0 took i t) m
-  up-asks = begins-as (asks book i (grind (arith, nat_tests)) (slave_at book i).errand refl)
+  up-asks = begins-as (asks book i (grind (arith, nat_tests)) (slave_at book i).operation refl)
 
 -- ---- what comes back
 
@@ -87,8 +87,8 @@ module _ (frame : JournalFrame) (book : Book) (state : State) (took : List Bool)
   unmoved : (outcome : RomOutcome) → later ≡ half → UpBy outcome state → UpBy outcome (with_half state i later)
   unmoved outcome same up = subst (UpBy outcome) (sym (same-state state i half later there same)) up
 
-  back-as : (errand : Errand) (outcome : RomOutcome) → (slave_at book i).errand ≡ errand → MayComeBack (get_or took i false) errand outcome half later → UpBy outcome (with_half state i later)
-  back-as Free outcome is back = absurd back
+  back-as : (operation : Operation) (outcome : RomOutcome) → (slave_at book i).operation ≡ operation → MayComeBack (get_or took i false) operation outcome half later → UpBy outcome (with_half state i later)
+  back-as NoOperation outcome is back = absurd back
   back-as (Unsettled word value taken) outcome is back = absurd back
   back-as (Issuing word value) (Issued Taken) is back = unmoved (Issued Taken) back.1 (up-issued frame book state took m i word value Taken up within is (λ said. back.0))
   back-as (Issuing word value) (Issued NotTaken) is back = unmoved (Issued NotTaken) back.1 (up-issued frame book state took m i word value NotTaken up within is (λ said. absurd cc))
@@ -102,5 +102,5 @@ module _ (frame : JournalFrame) (book : Book) (state : State) (took : List Bool)
   back-as (Settling word value taken) (Settled Dead) is back = up-dead frame book state took m i word value taken half later up within there back is
   back-as (Settling word value taken) Stopped is back = up-stopped frame book state took m i word value taken half later up within there back (inr is)
 
-  pub up-back : (outcome : RomOutcome) → MayComeBack (get_or took i false) (slave_at book i).errand outcome half later → Up frame (rom_done book i outcome) (with_half state i later) took m
-  up-back outcome back = back-as (slave_at book i).errand outcome refl back
+  pub up-back : (outcome : RomOutcome) → MayComeBack (get_or took i false) (slave_at book i).operation outcome half later → Up frame (rom_done book i outcome) (with_half state i later) took m
+  up-back outcome back = back-as (slave_at book i).operation outcome refl back

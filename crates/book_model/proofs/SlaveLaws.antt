@@ -8,9 +8,9 @@ use Rattle.esc_model.proofs.Resting.{MayRest-leaves, MayRest-twice, MayLeave-sam
 use Rattle.esc_model.proofs.OnlyResting.{MayRest-only, OnlyRests-leaves, OnlyRests-length}
 use Rattle.esc_model.proofs.WordWriting.{taken_then_well}
 use Rattle.book_model.specs.Cells.{Cell, asked, written, nothing, cell_of, next_issue}
-use Rattle.book_model.specs.Book.{Errand, Free, Issuing, Unsettled, Settling}
+use Rattle.book_model.specs.Book.{Operation, NoOperation, Issuing, Unsettled, Settling}
 use Rattle.book_model.specs.Owed.{MayBe, IsAmong}
-use Rattle.book_model.specs.Slaves.{HasTaken, Asks, ErrandFits, SlaveFits}
+use Rattle.book_model.specs.Slaves.{HasTaken, Asks, OperationFits, SlaveFits}
 
 -- ---- becoming idle
 
@@ -25,22 +25,22 @@ asks-rests slave word value taken half later cells rest asks = record {
   took = λ is. taken-rests slave word value half later rest (asks.took is);
 }
 
-errand-rests : (slave : ℕ) (errand : Errand) (took : Bool) (half later : SlaveHalf) (cells : List Cell) → MayRest half later → ErrandFits slave errand took half cells → ErrandFits slave errand took later cells
-errand-rests slave Free took half later cells rest fits = tt
-errand-rests slave (Issuing word value) took half later cells rest fits = asks-rests slave word value took half later cells rest fits
-errand-rests slave (Unsettled word value taken) took half later cells rest fits = asks-rests slave word value taken half later cells rest fits
-errand-rests slave (Settling word value taken) took half later cells rest fits = asks-rests slave word value taken half later cells rest fits
+operation-rests : (slave : ℕ) (operation : Operation) (took : Bool) (half later : SlaveHalf) (cells : List Cell) → MayRest half later → OperationFits slave operation took half cells → OperationFits slave operation took later cells
+operation-rests slave NoOperation took half later cells rest fits = tt
+operation-rests slave (Issuing word value) took half later cells rest fits = asks-rests slave word value took half later cells rest fits
+operation-rests slave (Unsettled word value taken) took half later cells rest fits = asks-rests slave word value taken half later cells rest fits
+operation-rests slave (Settling word value taken) took half later cells rest fits = asks-rests slave word value taken half later cells rest fits
 
-pub slave-rests : (slave : ℕ) (half later : SlaveHalf) (errand : Errand) (took : Bool) (cells : List Cell) → MayRest half later → SlaveFits slave half errand took cells → SlaveFits slave later errand took cells
-slave-rests slave half later errand took cells rest fits = record {
+pub slave-rests : (slave : ℕ) (half later : SlaveHalf) (operation : Operation) (took : Bool) (cells : List Cell) → MayRest half later → SlaveFits slave half operation took cells → SlaveFits slave later operation took cells
+slave-rests slave half later operation took cells rest fits = record {
   size = fits.size ∙ sym (OnlyRests-length half later (MayRest-only half later rest));
   words = λ left may. fits.words left (MayRest-leaves half later left rest may);
-  asks = errand-rests slave errand took half later cells rest fits.asks;
+  asks = operation-rests slave operation took half later cells rest fits.asks;
 }
 
 -- with nothing in progress its registers may change too
-pub slave-freed : (slave : ℕ) (half later : SlaveHalf) (errand : Errand) (took now : Bool) (cells : List Cell) → OnlyRests half later → SlaveFits slave half errand took cells → SlaveFits slave later Free now cells
-slave-freed slave half later errand took now cells rest fits = record {
+pub slave-freed : (slave : ℕ) (half later : SlaveHalf) (operation : Operation) (took now : Bool) (cells : List Cell) → OnlyRests half later → SlaveFits slave half operation took cells → SlaveFits slave later NoOperation now cells
+slave-freed slave half later operation took now cells rest fits = record {
   size = fits.size ∙ sym (OnlyRests-length half later rest);
   words = λ left may. fits.words left (OnlyRests-leaves half later left rest may);
   asks = tt;
@@ -85,9 +85,9 @@ taken-left slave word value half later takes left may at other = elim takes.writ
 ]
 
 -- the slave takes it
-pub slave-takes : (slave : ℕ) (half later : SlaveHalf) (errand : Errand) (took : Bool) (cells : List Cell) (word value : ℕ) → TakesWord slave word value half later → word < length cells → IsAmong value (cell_of cells word).owed
-    → SlaveFits slave half errand took cells → SlaveFits slave later (Issuing word value) true (set cells word (asked (cell_of cells word)))
-slave-takes slave half later errand took cells word value takes inside owed fits =
+pub slave-takes : (slave : ℕ) (half later : SlaveHalf) (operation : Operation) (took : Bool) (cells : List Cell) (word value : ℕ) → TakesWord slave word value half later → word < length cells → IsAmong value (cell_of cells word).owed
+    → SlaveFits slave half operation took cells → SlaveFits slave later (Issuing word value) true (set cells word (asked (cell_of cells word)))
+slave-takes slave half later operation took cells word value takes inside owed fits =
     let before : MayLeave half takes.rested.words = MayRest-leaves half takes.rested takes.rested.words takes.rests (MayLeave-same takes.rested) in
     record {
       size = length-set cells word (asked (cell_of cells word)) ∙ fits.size ∙ sym (ap length takes.words ∙ OnlyRests-length half takes.rested (MayRest-only half takes.rested takes.rests));
@@ -96,9 +96,9 @@ slave-takes slave half later errand took cells word value takes inside owed fits
     }
 
 -- it doesn't
-pub slave-passes : (slave : ℕ) (half later : SlaveHalf) (errand : Errand) (took : Bool) (cells : List Cell) (word value : ℕ) → MayRest half later → word < length cells → IsAmong value (cell_of cells word).owed
-    → SlaveFits slave half errand took cells → SlaveFits slave later (Issuing word value) false (set cells word (asked (cell_of cells word)))
-slave-passes slave half later errand took cells word value rest inside owed fits = record {
+pub slave-passes : (slave : ℕ) (half later : SlaveHalf) (operation : Operation) (took : Bool) (cells : List Cell) (word value : ℕ) → MayRest half later → word < length cells → IsAmong value (cell_of cells word).owed
+    → SlaveFits slave half operation took cells → SlaveFits slave later (Issuing word value) false (set cells word (asked (cell_of cells word)))
+slave-passes slave half later operation took cells word value rest inside owed fits = record {
   size = length-set cells word (asked (cell_of cells word)) ∙ fits.size ∙ sym (OnlyRests-length half later (MayRest-only half later rest));
   words = λ left may. words-but cells word (asked (cell_of cells word)) left left inside (fits.words left (MayRest-leaves half later left rest may)) tt (λ at other. refl);
   asks = asked-asks slave later cells word value false inside owed (λ is. absurd cc);
@@ -121,7 +121,7 @@ slave-settles slave half word value took taken now cells fits = record { size = 
 
 -- the word is written: the half is well
 pub slave-written : (slave : ℕ) (half : SlaveHalf) (took now : Bool) (cells : List Cell) (word value : ℕ) → IsWell half → SlaveFits slave half (Settling word value true) took cells
-    → SlaveFits slave half Free now (set cells word (written (cell_of cells word) value))
+    → SlaveFits slave half NoOperation now (set cells word (written (cell_of cells word) value))
 slave-written slave half took now cells word value well fits =
     let asks = fits.asks in
     let t = asks.took refl in

@@ -4,7 +4,7 @@ use Rattle.std.specs.Prelude.{slice_get}
 use Rattle.std.proofs.lemmas.List.{take_at, drop_at, length-take-le, drop-drop}
 use Rattle.jrn_format.specs.Header.{header_bytes}
 use Rattle.jrn_format.specs.File.{before, joined, IsFile}
-use Rattle.jrn_format.proofs.FileLaws.{behind, split_file, changed_file, changed_size}
+use Rattle.jrn_format.proofs.FileLaws.{after, split_file, changed_file, changed_size}
 use Rattle.site_core.specs.Disk.{Disk, StopImage, WriteFailed, overlaid}
 use Rattle.book_model.specs.Frame.{JournalFrame, head, room, IsFramed, IsOne}
 
@@ -72,7 +72,7 @@ between front middle back bytes image is agrees =
     }
 
 pub stop-agrees : (disk : Disk) (start count : ℕ) (image : List ℕ) → IsOne disk start count → length disk.bytes ≤ disk.synced_length → StopImage disk image → AgreesOutside disk.bytes start count image
-stop-agrees disk start count image one whole stop = record { outside = λ k h. stop.bytes k (rw one (h, tt)); no_shorter = omega (arith, stop.no_shorter) }
+stop-agrees disk start count image one entire stop = record { outside = λ k h. stop.bytes k (rw one (h, tt)); no_shorter = omega (arith, stop.no_shorter) }
 
 pub failed-agrees : (begun new : Disk) (start count : ℕ) → WriteFailed begun start count new → AgreesOutside begun.bytes start count new.bytes
 failed-agrees begun new start count failed = record { outside = failed.bytes; no_shorter = failed.no_shorter }
@@ -101,7 +101,7 @@ pub torn_file : (frame : JournalFrame) (at : ℕ) (p q r two bytes image : List 
     → Torn frame at p (length q) r two image
 torn_file frame at p q r two bytes image le framed agrees =
     let start = part_at frame at two p le (sym framed.file.equal ∙ framed.room) in
-    let b = between (before at (head frame) two ++ p) q (behind at r two frame.last) bytes image (framed.file.is ∙ split_file at (head frame) p q r two frame.last) (subst (λ (n : ℕ). AgreesOutside bytes n (length q) image) (sym start) agrees) in
+    let b = between (before at (head frame) two ++ p) q (after at r two frame.last) bytes image (framed.file.is ∙ split_file at (head frame) p q r two frame.last) (subst (λ (n : ℕ). AgreesOutside bytes n (length q) image) (sym start) agrees) in
     let same = same_length p q b.middle r b.long in
     record {
       middle = b.middle;

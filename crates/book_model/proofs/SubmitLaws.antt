@@ -53,7 +53,7 @@ pub record Passes (book : Book) (new : List (List ℕ)) : Type 0 where
 -- what it leads to, and its number
 pub record IsAccepted (book : Book) (command : Command) (number : ℕ) : Type 0 where
   pub new : List (List ℕ)
-  pub judged : outcome (contents_of book) command ≡ Ok new
+  pub validated : outcome (contents_of book) command ≡ Ok new
   pub room : Passes book new
   pub answer : number ≡ length book.accepted
 
@@ -74,13 +74,13 @@ passes book new large full =
     let room = not-full (nat_le QUEUE (length (queued book))) (nat_le (2 ^ 64 - 1) (length book.accepted)) _ (length (queued book)) (length book.accepted) refl refl full in
     record { runs = not-large book runs large; queue = room.0; count = room.1 }
 
-sized-ok : (book : Book) (command : Command) (judged : Result (List (List ℕ)) Refusal) (n : ℕ) → outcome (contents_of book) command ≡ judged → sized book judged ≡ Ok n → IsAccepted book command n
-sized-ok book command (Err refusal) n judged is = absurd cc
-sized-ok book command (Ok new) n judged is =
+sized-ok : (book : Book) (command : Command) (validated : Result (List (List ℕ)) Refusal) (n : ℕ) → outcome (contents_of book) command ≡ validated → sized book validated ≡ Ok n → IsAccepted book command n
+sized-ok book command (Err refusal) n validated is = absurd cc
+sized-ok book command (Ok new) n validated is =
     let runs = runs_between (contents_of book) new in
     let large = not-refused (is_too_large book runs) refusals.TooLarge (if is_full book runs then Err refusals.Full else Ok (length book.accepted)) n is in
     let full = not-refused (is_full book runs) refusals.Full (Ok (length book.accepted)) n large.1 in
-    record { new = new; judged = judged; room = passes book new large.0 full.0; answer = cc }
+    record { new = new; validated = validated; room = passes book new large.0 full.0; answer = cc }
 
 if-first : (test : Bool) (refusal : SubmitRefusal) (first : Result ℕ SubmitRefusal) (n : ℕ) → (if test then first else Err refusal) ≡ Ok n → first ≡ Ok n
 if-first true refusal first n is = is
@@ -107,7 +107,7 @@ accepted-as book command n is =
 after-is : (plant new : List (List ℕ)) (command : Command) → outcome plant command ≡ Ok new → after plant command ≡ new
 after-is plant new command is = rw is refl
 
--- behind the others
+-- after the others
 pub own-push : (book : Book) (command : Command) (new : List (List ℕ)) → outcome (contents_of book) command ≡ Ok new
     → own (with_command book command) ≡ own book ++ record { number = length book.accepted; runs = runs_between (contents_of book) new } ∷ []
 own-push book command new is =
@@ -176,7 +176,7 @@ up-accepts frame book state took m command entry up two own_is fits within queue
         few = subst (λ (o : List Entry). length (drop n o) ≤ QUEUE) (sym own_is) (more-few (own book) entry n queue);
       };
       ordered = up.ordered;
-      behind = up.behind;
+      after = up.after;
       no_command = λ old. absurd cc;
       no_migration = up.no_migration;
     }
@@ -187,11 +187,11 @@ up-submits frame book state took m command number up is fits =
     let a = accepted-as book command number is in
     let old = contents_of book in
     let count = length book.accepted in
-    let new_is : contents_of (with_command book command) ≡ a.new = contents-push (base_of book) book.accepted command ∙ after-is old a.new command a.judged in
+    let new_is : contents_of (with_command book command) ≡ a.new = contents-push (base_of book) book.accepted command ∙ after-is old a.new command a.validated in
     let line = same-line book in
     let slaves = line.slaves in
     let few = up.line.is_frame.slaves_fit in
     let entry : Entry = record { number = count; runs = runs_between old a.new } in
-    let small : EntryFits entry = entry-fits old a.new count (SameShape-outcome old a.new command a.judged) (omega (arith, slaves, few, up.line.slaves)) (subst PlantFits new_is fits) a.room.count a.room.runs in
+    let small : EntryFits entry = entry-fits old a.new count (SameShape-outcome old a.new command a.validated) (omega (arith, slaves, few, up.line.slaves)) (subst PlantFits new_is fits) a.room.count a.room.runs in
     let within : LieWithin (sizes_of book.words) entry = subst (λ (sizes : List ℕ). LieWithin sizes entry) (same_sizes book.words old line.slaves line.words) (entry-within old a.new count) in
-    up-accepts frame book state took m command entry up (accepted-two book command number is) (own-push book command a.new a.judged) small within a.room.queue
+    up-accepts frame book state took m command entry up (accepted-two book command number is) (own-push book command a.new a.validated) small within a.room.queue

@@ -30,26 +30,26 @@ use Rattle.book_model.proofs.RomLaws.{up-issues}
 abbrev pub IsLast : List (ℕ × ℕ) → ℕ × ℕ → Type 0
 IsLast ns n = (word : ℕ) → due word (values_of n.0 ns) ≡ n.1
 
-last-behind : (n k : ℕ × ℕ) (ns : List (ℕ × ℕ)) → IsLast ns k → IsLast (n ∷ ns) k
-last-behind n k ns last = λ word. one (n.0 == k.0) refl word
+last-after : (n k : ℕ × ℕ) (ns : List (ℕ × ℕ)) → IsLast ns k → IsLast (n ∷ ns) k
+last-after n k ns last = λ word. one (n.0 == k.0) refl word
   where
     one : (c : Bool) → (n.0 == k.0) ≡ c → (word : ℕ) → due word (values_of k.0 (n ∷ ns)) ≡ k.1
     one true is word = rw is (last n.1)
     one false is word = rw is (last word)
 
-all-behind : (n : ℕ × ℕ) (ns ks : List (ℕ × ℕ)) → AllByRecursion (IsLast ns) ks → AllByRecursion (IsLast (n ∷ ns)) ks
-all-behind n ns [] all = tt
-all-behind n ns (k ∷ ks) all = (last-behind n k ns all.0, all-behind n ns ks all.1)
+all-after : (n : ℕ × ℕ) (ns ks : List (ℕ × ℕ)) → AllByRecursion (IsLast ns) ks → AllByRecursion (IsLast (n ∷ ns)) ks
+all-after n ns [] all = tt
+all-after n ns (k ∷ ks) all = (last-after n k ns all.0, all-after n ns ks all.1)
 
 none-of : (vs : List ℕ) → is_any vs ≡ false → vs ≡ []
 none-of [] is = refl
 none-of (v ∷ vs) is = absurd cc
 
 last-first : (n : ℕ × ℕ) (ns : List (ℕ × ℕ)) → AllByRecursion (IsLast ns) (last_of ns) → (c : Bool) → is_any (values_of n.0 ns) ≡ c → AllByRecursion (IsLast (n ∷ ns)) (last_of (n ∷ ns))
-last-first n ns all true is = rw is (all-behind n ns (last_of ns) all)
+last-first n ns all true is = rw is (all-after n ns (last_of ns) all)
 last-first n ns all false is =
     let here : (n.0 == n.0) ≡ true = eq-eqb n.0 n.0 refl in
-    rw is (λ word. rw (here, none-of (values_of n.0 ns) is) refl, all-behind n ns (last_of ns) all)
+    rw is (λ word. rw (here, none-of (values_of n.0 ns) is) refl, all-after n ns (last_of ns) all)
 
 pub last-all : (ns : List (ℕ × ℕ)) → AllByRecursion (IsLast ns) (last_of ns)
 last-all [] = tt

@@ -21,11 +21,11 @@ use Rattle.book_model.specs.declared.next.DiskNext.{DiskNext}
 use Rattle.book_model.specs.declared.next.RomOutcome.{RomOutcome}
 use Rattle.book_model.specs.declared.next.RomOutcome.TheVariants as outcomes
 use Rattle.book_model.specs.Entries.{runs_of, entries_of, live_runs, namings}
-use Rattle.book_model.specs.Book.{Book, Slave, Errand, Free, Issuing, Unsettled, Settling, Doing, Resting, Payload, PayloadSync, OpenGate, OpenSync, CloseGate, CloseSync, FarGate, Mark, MarkSync, Version, VersionSync, nobody, base_of, own, is_closed, is_version_2, slave_at, with_slave, with_fault, IsAbout}
+use Rattle.book_model.specs.Book.{Book, Slave, Operation, NoOperation, Issuing, Unsettled, Settling, Doing, Resting, Payload, PayloadSync, OpenGate, OpenSync, CloseGate, CloseSync, FarGate, Mark, MarkSync, Version, VersionSync, nobody, base_of, own, is_closed, is_version_2, slave_at, with_slave, with_fault, IsAbout}
 use Rattle.book_model.specs.Open.{opened_slave, owing_words, owing_slaves, open_book, migrate}
 use Rattle.book_model.specs.Submit.{with_command}
 use Rattle.book_model.specs.DiskSteps.{action_of, doing_next, disk_next, went_on, disk_done}
-use Rattle.book_model.specs.RomSteps.{to_do, with_errand, with_issue, with_written, with_again, was_taken, is_last, rom_next, rom_done}
+use Rattle.book_model.specs.RomSteps.{to_do, with_operation, with_issue, with_written, with_again, was_taken, is_last, rom_next, rom_done}
 use Rattle.book_model.specs.Reading.{all_entries}
 use Rattle.book_model.specs.Machine.{Machine}
 use Rattle.book_model.specs.Owed.{IsAmong}
@@ -35,14 +35,14 @@ use Rattle.book_model.proofs.FitLaws.{runs_of-append}
 use Rattle.book_model.specs.Frame.{JournalFrame}
 use Rattle.book_model.specs.Doing.{Appending}
 use Rattle.book_model.specs.Events.{rested}
-use Rattle.book_model.specs.Slaves.{Asks, ErrandFits}
+use Rattle.book_model.specs.Slaves.{Asks, OperationFits}
 use Rattle.book_model.specs.Up.{Up}
 use Rattle.book_model.proofs.OwingLaws.{length-owing_slaves}
 use Rattle.book_model.proofs.LineLaws.{half-there}
 use Rattle.book_model.proofs.DiskEndLaws.{appends-of}
 use Rattle.book_model.proofs.WorkLaws.{to_do-owed}
 use Rattle.book_model.specs.Worn.{named_for, owed_in, SlaveWorn, Worn}
-use Rattle.book_model.proofs.WornSlaves.{worn-asked, worn-errand, worn-failed, worn-again, worn-written, worn-owing, few-issues}
+use Rattle.book_model.proofs.WornSlaves.{worn-asked, worn-operation, worn-failed, worn-again, worn-written, worn-owing, few-issues}
 use Rattle.book_model.proofs.RomLaws.{among-some}
 
 -- ---- one slave of many
@@ -57,7 +57,7 @@ worn-set book i slave within worn here = λ k inside. one k (omega (arith, insid
     one k inside (inr other) = subst (SlaveWorn (named_for (all_entries book) k) (is_some book.fault)) (sym (get_or-set_other book.slaves i k slave nobody other)) (worn k inside)
 
 pub worn-fault : (book : Book) (fault : Fault) → Worn book → Worn (with_fault book fault)
-worn-fault book fault worn = λ k inside. worn-failed (named_for (all_entries book) k) (is_some book.fault) (slave_at book k) (slave_at book k).errand (worn k inside)
+worn-fault book fault worn = λ k inside. worn-failed (named_for (all_entries book) k) (is_some book.fault) (slave_at book k) (slave_at book k).operation (worn k inside)
 
 -- ---- an open
 
@@ -200,74 +200,74 @@ worn-migrate book worn = by_form (is_closed book) (is_version_2 book.form) refl 
 -- ---- a slave
 
 module _ (frame : JournalFrame) (book : Book) (state : State) (took : List Bool) (m : Machine) (i : ℕ) (up : Up frame book state took m) (within : i < length book.slaves) (worn : Worn book) where
-  worn-issue : (w : ℕ × ℕ) (others : List (ℕ × ℕ)) → (slave_at book i).errand ≡ Free → is_some book.fault ≡ false → to_do book i ≡ w ∷ others → Worn (with_issue book i w)
-  worn-issue w others free ok todo =
+  worn-issue : (w : ℕ × ℕ) (others : List (ℕ × ℕ)) → (slave_at book i).operation ≡ NoOperation → is_some book.fault ≡ false → to_do book i ≡ w ∷ others → Worn (with_issue book i w)
+  worn-issue w others vacant ok todo =
       let owed = to_do-owed frame book state took m i w others up within todo in
       let slave = slave_at book i in
       let named = named_for (all_entries book) i in
-      worn-set book i (record { cells = set slave.cells w.0 (asked (cell_of slave.cells w.0)); errand = Issuing w.0 w.1; issues = slave.issues + 1 }) within worn
-      (worn-asked named slave w.0 w.1 (is_some book.fault) free owed.0 (among-some w.1 (cell_of slave.cells w.0).owed owed.1) (subst (λ (failed : Bool). SlaveWorn named failed slave) ok (worn i within)))
+      worn-set book i (record { cells = set slave.cells w.0 (asked (cell_of slave.cells w.0)); operation = Issuing w.0 w.1; issues = slave.issues + 1 }) within worn
+      (worn-asked named slave w.0 w.1 (is_some book.fault) vacant owed.0 (among-some w.1 (cell_of slave.cells w.0).owed owed.1) (subst (λ (failed : Bool). SlaveWorn named failed slave) ok (worn i within)))
 
-  worn-as : (errand : Errand) → ((at : ℕ) → IsAbout (slave_at book i).errand at → IsAbout errand at) → Worn (with_errand book i errand)
-  worn-as errand same =
-      worn-set book i (record (slave_at book i) { errand = errand }) within worn (worn-errand (named_for (all_entries book) i) (is_some book.fault) (slave_at book i) errand same (worn i within))
+  worn-as : (operation : Operation) → ((at : ℕ) → IsAbout (slave_at book i).operation at → IsAbout operation at) → Worn (with_operation book i operation)
+  worn-as operation same =
+      worn-set book i (record (slave_at book i) { operation = operation }) within worn (worn-operation (named_for (all_entries book) i) (is_some book.fault) (slave_at book i) operation same (worn i within))
 
-  worn-down : (fault : Fault) → Worn (with_fault (with_errand book i Free) fault)
+  worn-down : (fault : Fault) → Worn (with_fault (with_operation book i NoOperation) fault)
   worn-down fault =
-      worn-set (with_fault book fault) i (record (slave_at book i) { errand = Free }) within (worn-fault book fault worn) (worn-failed (named_for (all_entries book) i) (is_some book.fault) (slave_at book i) Free (worn i within))
+      worn-set (with_fault book fault) i (record (slave_at book i) { operation = NoOperation }) within (worn-fault book fault worn) (worn-failed (named_for (all_entries book) i) (is_some book.fault) (slave_at book i) NoOperation (worn i within))
 
   stays : (rom_next book i).1 ≡ book → Worn (rom_next book i).1
   stays same = subst Worn (sym same) worn
 
-  asked-free : (failed : Bool) (work : List (ℕ × ℕ)) → nat_lt i (length book.slaves) ≡ true → (slave_at book i).errand ≡ Free → is_some book.fault ≡ failed → to_do book i ≡ work → Worn (rom_next book i).1
-  asked-free true work there is ok todo = stays (rw (there, is, ok) refl)
-  asked-free false [] there is ok todo = stays (rw (there, is, ok, todo) refl)
-  asked-free false (w ∷ others) there is ok todo =
+  asked-vacant : (failed : Bool) (work : List (ℕ × ℕ)) → nat_lt i (length book.slaves) ≡ true → (slave_at book i).operation ≡ NoOperation → is_some book.fault ≡ failed → to_do book i ≡ work → Worn (rom_next book i).1
+  asked-vacant true work there is ok todo = stays (rw (there, is, ok) refl)
+  asked-vacant false [] there is ok todo = stays (rw (there, is, ok, todo) refl)
+  asked-vacant false (w ∷ others) there is ok todo =
       let goes : (rom_next book i).1 ≡ with_issue book i w = rw (there, is, ok, todo) refl in
       subst Worn (sym goes) (worn-issue w others is ok todo)
 
-  asked-unsettled : (word value : ℕ) (taken failed : Bool) → nat_lt i (length book.slaves) ≡ true → (slave_at book i).errand ≡ Unsettled word value taken → is_some book.fault ≡ failed → Worn (rom_next book i).1
+  asked-unsettled : (word value : ℕ) (taken failed : Bool) → nat_lt i (length book.slaves) ≡ true → (slave_at book i).operation ≡ Unsettled word value taken → is_some book.fault ≡ failed → Worn (rom_next book i).1
   asked-unsettled word value taken true there is ok = stays (rw (there, is, ok) refl)
   asked-unsettled word value taken false there is ok =
-      let goes : (rom_next book i).1 ≡ with_errand book i (Settling word value taken) = rw (there, is, ok) refl in
-      subst Worn (sym goes) (worn-as (Settling word value taken) (λ at of. subst (λ (e : Errand). IsAbout e at) is of))
+      let goes : (rom_next book i).1 ≡ with_operation book i (Settling word value taken) = rw (there, is, ok) refl in
+      subst Worn (sym goes) (worn-as (Settling word value taken) (λ at of. subst (λ (e : Operation). IsAbout e at) is of))
 
-  asked-as : (errand : Errand) → nat_lt i (length book.slaves) ≡ true → (slave_at book i).errand ≡ errand → Worn (rom_next book i).1
-  asked-as Free there is = asked-free (is_some book.fault) (to_do book i) there is refl refl
+  asked-as : (operation : Operation) → nat_lt i (length book.slaves) ≡ true → (slave_at book i).operation ≡ operation → Worn (rom_next book i).1
+  asked-as NoOperation there is = asked-vacant (is_some book.fault) (to_do book i) there is refl refl
   asked-as (Issuing word value) there is = stays (rw (there, is) refl)
   asked-as (Unsettled word value taken) there is = asked-unsettled word value taken (is_some book.fault) there is refl
   asked-as (Settling word value taken) there is = stays (rw (there, is) refl)
 
   pub worn-rom_next : Worn (rom_next book i).1
-  worn-rom_next = asked-as (slave_at book i).errand (grind (arith, nat_tests)) refl
+  worn-rom_next = asked-as (slave_at book i).operation (grind (arith, nat_tests)) refl
 
   -- what is asked of the slave is owed to it
-  settles : (word value : ℕ) (taken : Bool) → (slave_at book i).errand ≡ Settling word value taken → (word < length (slave_at book i).cells) × IsAmong value (cell_of (slave_at book i).cells word).owed
+  settles : (word value : ℕ) (taken : Bool) → (slave_at book i).operation ≡ Settling word value taken → (word < length (slave_at book i).cells) × IsAmong value (cell_of (slave_at book i).cells word).owed
   settles word value taken is =
       let h = half-there state.halves i (omega (arith, within, up.slaves.count)) in
-      let asks : Asks i word value taken h.0 (slave_at book i).cells = subst (λ (e : Errand). ErrandFits i e (get_or took i false) h.0 (slave_at book i).cells) is (up.slaves.each i h.0 h.1).asks in
+      let asks : Asks i word value taken h.0 (slave_at book i).cells = subst (λ (e : Operation). OperationFits i e (get_or took i false) h.0 (slave_at book i).cells) is (up.slaves.each i h.0 h.1).asks in
       (asks.inside, asks.owed)
 
-  again-as : (word value : ℕ) (taken last : Bool) → (slave_at book i).errand ≡ Settling word value taken → is_last (cell_of (slave_at book i).cells word).known ≡ last → Worn (with_again book i word)
+  again-as : (word value : ℕ) (taken last : Bool) → (slave_at book i).operation ≡ Settling word value taken → is_last (cell_of (slave_at book i).cells word).known ≡ last → Worn (with_again book i word)
   again-as word value taken true is last =
-      let goes : with_again book i word ≡ with_fault (with_errand book i Free) (faults.SlaveDead i) = rw last refl in
+      let goes : with_again book i word ≡ with_fault (with_operation book i NoOperation) (faults.SlaveDead i) = rw last refl in
       subst Worn (sym goes) (worn-down (faults.SlaveDead i))
   again-as word value taken false is last =
-      let goes : with_again book i word ≡ with_errand book i Free = rw last refl in
-      subst Worn (sym goes) (worn-set book i (record (slave_at book i) { errand = Free }) within worn (worn-again (named_for (all_entries book) i) (is_some book.fault) (slave_at book i) word value taken is last (worn i within)))
+      let goes : with_again book i word ≡ with_operation book i NoOperation = rw last refl in
+      subst Worn (sym goes) (worn-set book i (record (slave_at book i) { operation = NoOperation }) within worn (worn-again (named_for (all_entries book) i) (is_some book.fault) (slave_at book i) word value taken is last (worn i within)))
 
   unchanged : (outcome : RomOutcome) → rom_done book i outcome ≡ book → Worn (rom_done book i outcome)
   unchanged outcome same = subst Worn (sym same) worn
 
-  back-as : (errand : Errand) (outcome : RomOutcome) → (slave_at book i).errand ≡ errand → Worn (rom_done book i outcome)
-  back-as Free outcome is = unchanged outcome (rw is refl)
+  back-as : (operation : Operation) (outcome : RomOutcome) → (slave_at book i).operation ≡ operation → Worn (rom_done book i outcome)
+  back-as NoOperation outcome is = unchanged outcome (rw is refl)
   back-as (Unsettled word value taken) outcome is = unchanged outcome (rw is refl)
   back-as (Issuing word value) (outcomes.Issued how) is =
-      let goes : rom_done book i (outcomes.Issued how) ≡ with_errand book i (Unsettled word value (was_taken how)) = rw is refl in
-      subst Worn (sym goes) (worn-as (Unsettled word value (was_taken how)) (λ at of. subst (λ (e : Errand). IsAbout e at) is of))
+      let goes : rom_done book i (outcomes.Issued how) ≡ with_operation book i (Unsettled word value (was_taken how)) = rw is refl in
+      subst Worn (sym goes) (worn-as (Unsettled word value (was_taken how)) (λ at of. subst (λ (e : Operation). IsAbout e at) is of))
   back-as (Issuing word value) (outcomes.Settled how) is = unchanged (outcomes.Settled how) (rw is refl)
   back-as (Issuing word value) outcomes.Stopped is =
-      let goes : rom_done book i outcomes.Stopped ≡ with_fault (with_errand book i Free) faults.Stopped = rw is refl in
+      let goes : rom_done book i outcomes.Stopped ≡ with_fault (with_operation book i NoOperation) faults.Stopped = rw is refl in
       subst Worn (sym goes) (worn-down faults.Stopped)
   back-as (Settling word value taken) (outcomes.Issued how) is = unchanged (outcomes.Issued how) (rw is refl)
   back-as (Settling word value taken) (outcomes.Settled settled.Written) is =
@@ -278,14 +278,14 @@ module _ (frame : JournalFrame) (book : Book) (state : State) (took : List Bool)
       let goes : rom_done book i (outcomes.Settled settled.Again) ≡ with_again book i word = rw is refl in
       subst Worn (sym goes) (again-as word value taken (is_last (cell_of (slave_at book i).cells word).known) is refl)
   back-as (Settling word value taken) (outcomes.Settled settled.Dead) is =
-      let goes : rom_done book i (outcomes.Settled settled.Dead) ≡ with_fault (with_errand book i Free) (faults.SlaveDead i) = rw is refl in
+      let goes : rom_done book i (outcomes.Settled settled.Dead) ≡ with_fault (with_operation book i NoOperation) (faults.SlaveDead i) = rw is refl in
       subst Worn (sym goes) (worn-down (faults.SlaveDead i))
   back-as (Settling word value taken) outcomes.Stopped is =
-      let goes : rom_done book i outcomes.Stopped ≡ with_fault (with_errand book i Free) faults.Stopped = rw is refl in
+      let goes : rom_done book i outcomes.Stopped ≡ with_fault (with_operation book i NoOperation) faults.Stopped = rw is refl in
       subst Worn (sym goes) (worn-down faults.Stopped)
 
   pub worn-rom_done : (outcome : RomOutcome) → Worn (rom_done book i outcome)
-  worn-rom_done outcome = back-as (slave_at book i).errand outcome refl
+  worn-rom_done outcome = back-as (slave_at book i).operation outcome refl
 
 -- ---- what follows
 

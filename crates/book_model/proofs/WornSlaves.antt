@@ -8,7 +8,7 @@ use Rattle.std.proofs.lemmas.List.Sums.{sum_by-set}
 use Rattle.sii_words.specs.declared.run.Run.{Run}
 use Rattle.book_model.specs.Cells.{Known, Holds, Unsure, Cell, nothing, named, all_named, asked, written, owing, next_issue, since, cell_of}
 use Rattle.book_model.specs.Entries.{namings}
-use Rattle.book_model.specs.Book.{Slave, Errand, Free, Issuing, Unsettled, Settling, IsAbout}
+use Rattle.book_model.specs.Book.{Slave, Operation, NoOperation, Issuing, Unsettled, Settling, IsAbout}
 use Rattle.book_model.specs.Open.{owing_words}
 use Rattle.book_model.specs.RomSteps.{is_last}
 use Rattle.book_model.specs.Owed.{IsAmong}
@@ -31,21 +31,21 @@ next-since : (known : Known) → next_issue known ≡ since known + 1
 next-since (Holds value) = omega arith
 next-since (Unsure issues) = omega arith
 
-of-free : (errand : Errand) (at : ℕ) → errand ≡ Free → IsAbout errand at → ⊥
-of-free Free at is of = of
-of-free (Issuing word value) at is of = absurd cc
-of-free (Unsettled word value taken) at is of = absurd cc
-of-free (Settling word value taken) at is of = absurd cc
+of-vacant : (operation : Operation) (at : ℕ) → operation ≡ NoOperation → IsAbout operation at → ⊥
+of-vacant NoOperation at is of = of
+of-vacant (Issuing word value) at is of = absurd cc
+of-vacant (Unsettled word value taken) at is of = absurd cc
+of-vacant (Settling word value taken) at is of = absurd cc
 
 -- of a slave that is free each word is known after two issues at most
-free-calm : (named : ℕ) (slave : Slave) → slave.errand ≡ Free → SlaveWorn named false slave → (at : ℕ) → since (cell_of slave.cells at).known ≤ 2
-free-calm named slave free worn at = elim (worn.calm refl at) [ inl calm ↦ calm | inr of ↦ absurd (of-free slave.errand at free of) ]
+vacant-calm : (named : ℕ) (slave : Slave) → slave.operation ≡ NoOperation → SlaveWorn named false slave → (at : ℕ) → since (cell_of slave.cells at).known ≤ 2
+vacant-calm named slave vacant worn at = elim (worn.calm refl at) [ inl calm ↦ calm | inr of ↦ absurd (of-vacant slave.operation at vacant of) ]
 
-pub worn-asked : (named : ℕ) (slave : Slave) (word value : ℕ) (failed : Bool) → slave.errand ≡ Free → word < length slave.cells → 0 < length (cell_of slave.cells word).owed → SlaveWorn named false slave
-    → SlaveWorn named failed (record { cells = set slave.cells word (asked (cell_of slave.cells word)); errand = Issuing word value; issues = slave.issues + 1 })
-worn-asked named slave word value failed free inside some worn =
+pub worn-asked : (named : ℕ) (slave : Slave) (word value : ℕ) (failed : Bool) → slave.operation ≡ NoOperation → word < length slave.cells → 0 < length (cell_of slave.cells word).owed → SlaveWorn named false slave
+    → SlaveWorn named failed (record { cells = set slave.cells word (asked (cell_of slave.cells word)); operation = Issuing word value; issues = slave.issues + 1 })
+worn-asked named slave word value failed vacant inside some worn =
     let cell = cell_of slave.cells word in
-    let before = free-calm named slave free worn in
+    let before = vacant-calm named slave vacant worn in
     let here = before word in
     let next = next-since cell.known in
     let most = worn.most in
@@ -59,8 +59,8 @@ worn-asked named slave word value failed free inside some worn =
 -- ---- its outcome
 
 -- the book does something else with the slave, about the same word
-pub worn-errand : (named : ℕ) (failed : Bool) (slave : Slave) (errand : Errand) → ((at : ℕ) → IsAbout slave.errand at → IsAbout errand at) → SlaveWorn named failed slave → SlaveWorn named failed (record slave { errand = errand })
-worn-errand named failed slave errand same worn = record {
+pub worn-operation : (named : ℕ) (failed : Bool) (slave : Slave) (operation : Operation) → ((at : ℕ) → IsAbout slave.operation at → IsAbout operation at) → SlaveWorn named failed slave → SlaveWorn named failed (record slave { operation = operation })
+worn-operation named failed slave operation same worn = record {
   few = worn.few;
   most = worn.most;
   three = worn.three;
@@ -68,16 +68,16 @@ worn-errand named failed slave errand same worn = record {
 }
 
 -- in a fault, whatever it does
-pub worn-failed : (named : ℕ) (failed : Bool) (slave : Slave) (errand : Errand) → SlaveWorn named failed slave → SlaveWorn named true (record slave { errand = errand })
-worn-failed named failed slave errand worn = record { few = worn.few; most = worn.most; three = worn.three; calm = λ ok. absurd cc }
+pub worn-failed : (named : ℕ) (failed : Bool) (slave : Slave) (operation : Operation) → SlaveWorn named failed slave → SlaveWorn named true (record slave { operation = operation })
+worn-failed named failed slave operation worn = record { few = worn.few; most = worn.most; three = worn.three; calm = λ ok. absurd cc }
 
 not-last : (known : Known) → is_last known ≡ false → since known ≤ 2
 not-last (Holds value) is = omega arith
 not-last (Unsure issues) is = grind (arith, nat_tests)
 
 -- the word has to be issued again, and was issued fewer than three times
-pub worn-again : (named : ℕ) (failed : Bool) (slave : Slave) (word value : ℕ) (taken : Bool) → slave.errand ≡ Settling word value taken → is_last (cell_of slave.cells word).known ≡ false → SlaveWorn named failed slave
-    → SlaveWorn named failed (record slave { errand = Free })
+pub worn-again : (named : ℕ) (failed : Bool) (slave : Slave) (word value : ℕ) (taken : Bool) → slave.operation ≡ Settling word value taken → is_last (cell_of slave.cells word).known ≡ false → SlaveWorn named failed slave
+    → SlaveWorn named failed (record slave { operation = NoOperation })
 worn-again named failed slave word value taken is last worn = record {
   few = worn.few;
   most = worn.most;
@@ -85,7 +85,7 @@ worn-again named failed slave word value taken is last worn = record {
   calm = λ ok at. elim (worn.calm ok at) [
     | inl calm ↦ inl calm
     | inr of ↦
-        let here : word ≡ at = subst (λ (e : Errand). IsAbout e at) is of in
+        let here : word ≡ at = subst (λ (e : Operation). IsAbout e at) is of in
         inl (subst (λ (n : ℕ). since (cell_of slave.cells n).known ≤ 2) here (not-last (cell_of slave.cells word).known last))
   ];
 }
@@ -98,8 +98,8 @@ shorter value owed (v ∷ vs) (inl same) =
 shorter value owed (v ∷ vs) (inr has) = omega (arith, shorter value (named (Holds value) owed v) vs has)
 
 -- the word is written, and a naming at least is settled
-pub worn-written : (count : ℕ) (failed : Bool) (slave : Slave) (word value : ℕ) (taken : Bool) → slave.errand ≡ Settling word value taken → word < length slave.cells → IsAmong value (cell_of slave.cells word).owed → SlaveWorn count failed slave
-    → SlaveWorn count failed (record slave { cells = set slave.cells word (written (cell_of slave.cells word) value); errand = Free })
+pub worn-written : (count : ℕ) (failed : Bool) (slave : Slave) (word value : ℕ) (taken : Bool) → slave.operation ≡ Settling word value taken → word < length slave.cells → IsAmong value (cell_of slave.cells word).owed → SlaveWorn count failed slave
+    → SlaveWorn count failed (record slave { cells = set slave.cells word (written (cell_of slave.cells word) value); operation = NoOperation })
 worn-written count failed slave word value taken is inside has worn =
     let cell = cell_of slave.cells word in
     let new = written cell value in
@@ -109,9 +109,9 @@ worn-written count failed slave word value taken is inside has worn =
       few = omega (arith, worn.few, three, less, sum_by-set (λ (c : Cell). length c.owed) slave.cells word new nothing inside, sum_by-set (λ (c : Cell). since c.known) slave.cells word new nothing inside);
       most = each-cell (λ at c. since c.known ≤ 3 * length c.owed) slave.cells word new inside (omega arith) (λ at other. worn.most at);
       three = each-cell (λ at c. since c.known ≤ 3) slave.cells word new inside (omega arith) (λ at other. worn.three at);
-      calm = λ ok. each-cell (λ at c. (since c.known ≤ 2) ⊎ IsAbout Free at) slave.cells word new inside (inl (omega arith)) (λ at other. elim (worn.calm ok at) [
+      calm = λ ok. each-cell (λ at c. (since c.known ≤ 2) ⊎ IsAbout NoOperation at) slave.cells word new inside (inl (omega arith)) (λ at other. elim (worn.calm ok at) [
         | inl calm ↦ inl calm
-        | inr of ↦ let here : word ≡ at = subst (λ (e : Errand). IsAbout e at) is of in absurd (other (sym here))
+        | inr of ↦ let here : word ≡ at = subst (λ (e : Operation). IsAbout e at) is of in absurd (other (sym here))
       ]);
     }
 
@@ -127,7 +127,7 @@ worn-owing count failed slave runs i worn = record {
   few = omega (arith, worn.few, owed-grows runs i slave.cells, since-stays runs i 0 slave.cells);
   most = λ at. of-each at (λ c. since c.known ≤ 3 * length c.owed) (λ vs. unsure-owing (cell_of slave.cells at).known (cell_of slave.cells at).owed vs (worn.most at));
   three = λ at. of-each at (λ c. since c.known ≤ 3) (λ vs. worn.three at);
-  calm = λ ok at. of-each at (λ c. (since c.known ≤ 2) ⊎ IsAbout slave.errand at) (λ vs. worn.calm ok at);
+  calm = λ ok at. of-each at (λ c. (since c.known ≤ 2) ⊎ IsAbout slave.operation at) (λ vs. worn.calm ok at);
 }
   where
     of-each : (at : ℕ) (P : Cell → Type 0) → ((vs : List ℕ) → P (owing (cell_of slave.cells at) vs)) → P (cell_of (owing_words runs i 0 slave.cells) at)

@@ -16,7 +16,7 @@ use Rattle.jrn_format.specs.Halves.{Halves, Place}
 pub data Doing : Type 0 where
   -- nothing to do
   Resting : Doing
-  -- append: write the batch behind its gate, sync, open the gate, sync
+  -- append: write the batch after its gate, sync, open the gate, sync
   Payload : Place → List Entry → Doing
   PayloadSync : Place → List Entry → Doing
   OpenGate : Place → List Entry → Doing
@@ -33,15 +33,15 @@ pub data Doing : Type 0 where
 
 -- The book's action on a slave. Issuing and Settling are handed out; Unsettled waits until its settle is handed out. `taken`: the
 -- slave is known to have taken the datagram.
-pub data Errand : Type 0 where
-  Free : Errand
-  Issuing : (word value : ℕ) → Errand
-  Unsettled : (word value : ℕ) (taken : Bool) → Errand
-  Settling : (word value : ℕ) (taken : Bool) → Errand
+pub data Operation : Type 0 where
+  NoOperation : Operation
+  Issuing : (word value : ℕ) → Operation
+  Unsettled : (word value : ℕ) (taken : Bool) → Operation
+  Settling : (word value : ℕ) (taken : Bool) → Operation
 
 -- The action on the slave is about this word.
-abbrev pub IsAbout : Errand → ℕ → Type 0
-IsAbout Free at = ⊥
+abbrev pub IsAbout : Operation → ℕ → Type 0
+IsAbout NoOperation at = ⊥
 IsAbout (Issuing word value) at = word ≡ at
 IsAbout (Unsettled word value taken) at = word ≡ at
 IsAbout (Settling word value taken) at = word ≡ at
@@ -50,7 +50,7 @@ IsAbout (Settling word value taken) at = word ≡ at
 -- contracts use.
 pub record Slave : Type 0 where
   pub cells : List Cell
-  pub errand : Errand
+  pub operation : Operation
   pub issues : ℕ
 
 -- The state of the book.
@@ -126,7 +126,7 @@ half_at book half = 8 + half * room book
 
 -- The default for a slave that the line doesn't have.
 abbrev pub nobody : Slave
-nobody = record { cells = []; errand = Free; issues = 0 }
+nobody = record { cells = []; operation = NoOperation; issues = 0 }
 
 -- Slave i.
 abbrev pub slave_at : Book → ℕ → Slave

@@ -4,7 +4,7 @@ use Rattle.jrn_format.specs.declared.journal.Entry.{Entry}
 use Rattle.jrn_format.specs.declared.journal.Form.{Form}
 use Rattle.jrn_format.specs.declared.journal.Form.TheVariants.{Two, Moving}
 use Rattle.jrn_format.specs.declared.journal.Spelling.TheVariants.{WithGeneration}
-use Rattle.jrn_format.specs.Batch.{spelt_behind}
+use Rattle.jrn_format.specs.Batch.{spelt_after}
 use Rattle.site_core.specs.declared.fault.DeviceFault.{DeviceFault}
 use Rattle.site_core.specs.declared.fault.DeviceFault.TheVariants as device
 use Rattle.book_model.specs.declared.next.DiskNext.{DiskNext}
@@ -49,7 +49,7 @@ place_at book InNewer = half_at book (other book.halves.at) + size book.halves.n
 
 -- The bytes of a batch after its gate, followed by a closed gate.
 abbrev pub payload_bytes : Book → Place → List Entry → List ℕ
-payload_bytes book place entries = spelt_behind WithGeneration (batch_in book.halves place entries).generation entries ++ 0 ∷ []
+payload_bytes book place entries = spelt_after WithGeneration (batch_in book.halves place entries).generation entries ++ 0 ∷ []
 
 -- The action of a step; None at rest.
 abbrev pub action_of : Book → Doing → Option DiskNext
@@ -95,9 +95,9 @@ went_live book place entries =
     }
 
 -- The step after the far gate: an interrupted migration already has its mark.
-abbrev pub behind_far_gate : Form → Doing
-behind_far_gate Moving = MarkSync
-behind_far_gate form = Mark
+abbrev pub after_far_gate : Form → Doing
+after_far_gate Moving = MarkSync
+after_far_gate form = Mark
 
 -- The book after a step that succeeded.
 abbrev pub went_on : Book → Doing → Book
@@ -108,7 +108,7 @@ went_on book (OpenGate place entries) = record book { doing = OpenSync place ent
 went_on book (OpenSync place entries) = went_live book place entries
 went_on book CloseGate = record book { doing = CloseSync }
 went_on book CloseSync = record book { doing = Resting; halves = retired book.halves }
-went_on book FarGate = record book { doing = behind_far_gate book.form }
+went_on book FarGate = record book { doing = after_far_gate book.form }
 went_on book Mark = record book { doing = MarkSync }
 went_on book MarkSync = record book { doing = Version }
 went_on book Version = record book { doing = VersionSync }

@@ -23,7 +23,7 @@ room frame = frame.capacity / 2
 pub record IsJournalFrame (frame : JournalFrame) : Type 0 where
   pub slaves_fit : frame.slaves < 2 ^ 16
   pub is_capacity : IsCapacity frame.capacity
-  pub whole : frame.capacity ≤ room frame + room frame + length frame.last
+  pub entire : frame.capacity ≤ room frame + room frame + length frame.last
 
 -- The file consists of the constant parts and these two halves, where `one` is half `at`.
 pub record IsFramed (frame : JournalFrame) (at : ℕ) (one two bytes : List ℕ) : Type 0 where

@@ -20,12 +20,12 @@ pub record IsVersioned (frame : JournalFrame) (version : ℕ) (first second byte
   pub room : length first ≡ room frame
 
 -- All bytes after the header.
-abbrev pub behind : JournalFrame → (first second : List ℕ) → List ℕ
-behind frame first second = (first ++ second) ++ frame.last
+abbrev pub after : JournalFrame → (first second : List ℕ) → List ℕ
+after frame first second = (first ++ second) ++ frame.last
 
 -- The whole area, which version 1 doesn't divide.
 abbrev pub area : JournalFrame → (first second : List ℕ) → List ℕ
-area frame first second = take frame.capacity (behind frame first second)
+area frame first second = take frame.capacity (after frame first second)
 
 -- The mark of a migration, the letters MIG2.
 abbrev pub mark_bytes : List ℕ
@@ -49,7 +49,7 @@ IsInside start count range = (start ≤ range.start) × (range.start + range.cou
 -- A power cut may change bytes only within `count` bytes from `start`.
 pub record TornWithin (start count : ℕ) (disk : Disk) : Type 0 where
   pub ranges : AllByRecursion (IsInside start count) disk.unsynced
-  pub whole : length disk.bytes ≤ disk.synced_length
+  pub entire : length disk.bytes ≤ disk.synced_length
 
 -- At rest: nothing is unsynced, and the batches are live.
 pub record OldAtRest (frame : JournalFrame) (form : Form) (batches : List Batch) (disk : Disk) : Type 0 where
@@ -57,10 +57,10 @@ pub record OldAtRest (frame : JournalFrame) (form : Form) (batches : List Batch)
   pub first : List ℕ
   pub second : List ℕ
   pub versioned : IsVersioned frame version first second disk.bytes
-  pub is_form : IsForm version (behind frame first second) form
+  pub is_form : IsForm version (after frame first second) form
   pub live : HasLive form (area frame first second) batches
   pub synced : disk.unsynced ≡ []
-  pub whole : length disk.bytes ≤ disk.synced_length
+  pub entire : length disk.bytes ≤ disk.synced_length
 
 -- While version 1 is retired: its first gate may be torn, a read gives the value `gate`, and the batches are live if it is open.
 pub record OldClosing (frame : JournalFrame) (batches : List Batch) (gate : ℕ) (disk : Disk) : Type 0 where

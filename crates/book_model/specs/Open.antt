@@ -5,7 +5,7 @@ use Rattle.jrn_format.specs.declared.journal.Journal.{Journal}
 use Rattle.book_model.specs.Cells.{Cell, owing, opened}
 use Rattle.book_model.specs.Entries.{entries_of, live_runs, values}
 use Rattle.jrn_format.specs.Live.{halves_in}
-use Rattle.book_model.specs.Book.{Slave, Book, Resting, Free, is_closed, is_version_2}
+use Rattle.book_model.specs.Book.{Slave, Book, Resting, NoOperation, is_closed, is_version_2}
 
 -- The cells of a slave after a batch with these runs has become live, from word `at` on.
 abbrev pub owing_words : List Run → ℕ → ℕ → List Cell → List Cell
@@ -19,7 +19,7 @@ owing_slaves runs slave (s ∷ slaves) = record s { cells = owing_words runs sla
 
 -- A slave whose words were just read, before any batch is live.
 abbrev pub opened_slave : List ℕ → Slave
-opened_slave words = record { cells = map opened words; errand = Free; issues = 0 }
+opened_slave words = record { cells = map opened words; operation = NoOperation; issues = 0 }
 
 -- The book opened on these words and on a journal whose area has `capacity` bytes.
 abbrev pub open_book : List (List ℕ) → ℕ → Journal → Book

@@ -24,7 +24,7 @@ words_in halves = map (λ (half : SlaveHalf). half.words) halves
 -- All of the disk is synced: a power cut leaves just the bytes that a read gives.
 pub record IsAllSynced (disk : Disk) : Type 0 where
   pub all : disk.unsynced ≡ []
-  pub whole : length disk.bytes ≤ disk.synced_length
+  pub entire : length disk.bytes ≤ disk.synced_length
 
 -- The disk is synced and holds this journal of the line, and no slave is busy.
 pub record IsFound (journal : Journal) (state : State) : Type 0 where

@@ -56,10 +56,10 @@ word_named p word value number = record {
 abbrev pub retired : Pending → ℕ → Pending
 retired p count = record { cells = p.cells; live = drop count p.live; numbers = drop count p.numbers; room = p.room + count }
 
--- The namings are settled: each of their words is owed no more values than the later namings `behind` give it.
-abbrev pub namings_settled : List Cell → (behind namings : List (ℕ × ℕ)) → Bool
-namings_settled cells behind [] = true
-namings_settled cells behind (n ∷ ns) = nat_le (length (cell_of cells n.0).owed) (length (values_of n.0 behind)) && namings_settled cells behind ns
+-- The namings are settled: each of their words is owed no more values than the later namings `after` give it.
+abbrev pub namings_settled : List Cell → (after namings : List (ℕ × ℕ)) → Bool
+namings_settled cells after [] = true
+namings_settled cells after (n ∷ ns) = nat_le (length (cell_of cells n.0).owed) (length (values_of n.0 after)) && namings_settled cells after ns
 
 -- The first `count` namings are settled.
 abbrev pub can_retire : Pending → ℕ → Bool

@@ -16,7 +16,7 @@ pub record AtRest (frame : JournalFrame) (halves : Halves) (disk : Disk) : Type 
   pub framed : IsFramed frame halves.at older newer disk.bytes
   pub stands : HalvesStand halves older newer
   pub synced : disk.unsynced ≡ []
-  pub whole : length disk.bytes ≤ disk.synced_length
+  pub entire : length disk.bytes ≤ disk.synced_length
 
 -- While a batch is written: the bytes after the closed gate that ends a half's live batches are unsynced, and a read gives `payload`.
 pub record HasPayload (frame : JournalFrame) (halves : Halves) (place : Place) (payload : List ℕ) (disk : Disk) : Type 0 where
@@ -28,7 +28,7 @@ pub record HasPayload (frame : JournalFrame) (halves : Halves) (place : Place) (
   pub framed : IsFramed frame (half_of halves place)
       ((spelt_batches WithGeneration (batches_in halves place) ++ gate ∷ []) ++ (payload ++ rest)) beside disk.bytes
   pub one : IsOne disk (gate_at frame halves place + 1) (length payload)
-  pub whole : length disk.bytes ≤ disk.synced_length
+  pub entire : length disk.bytes ≤ disk.synced_length
   pub stands : StandsBeside halves place beside
 
 -- The batch is written after that closed gate, and nothing is unsynced.
@@ -41,7 +41,7 @@ pub record HasBatch (frame : JournalFrame) (halves : Halves) (place : Place) (en
       (batches_in halves place) (batch_in halves place entries) gate
   pub framed : IsFramed frame (half_of halves place) (spelt_batches WithGeneration (batches_in halves place) ++ (gate ∷ rest)) beside disk.bytes
   pub synced : disk.unsynced ≡ []
-  pub whole : length disk.bytes ≤ disk.synced_length
+  pub entire : length disk.bytes ≤ disk.synced_length
   pub stands : StandsBeside halves place beside
 
 -- While the gate is opened: the batch is written after it, the gate is unsynced, and a read gives the value `gate`.
@@ -52,7 +52,7 @@ pub record HasGate (frame : JournalFrame) (halves : Halves) (place : Place) (ent
       (batches_in halves place) (batch_in halves place entries) gate
   pub framed : IsFramed frame (half_of halves place) (spelt_batches WithGeneration (batches_in halves place) ++ (gate ∷ rest)) beside disk.bytes
   pub one : IsOne disk (gate_at frame halves place) 1
-  pub whole : length disk.bytes ≤ disk.synced_length
+  pub entire : length disk.bytes ≤ disk.synced_length
   pub stands : StandsBeside halves place beside
 
 -- While the older half is retired: its first gate is unsynced, and a read gives the value `gate`.
@@ -61,5 +61,5 @@ pub record HasClosing (frame : JournalFrame) (halves : Halves) (gate : ℕ) (dis
   pub newer : List ℕ
   pub framed : IsFramed frame halves.at (gate ∷ rest) newer disk.bytes
   pub one : IsOne disk (8 + halves.at * room frame) 1
-  pub whole : length disk.bytes ≤ disk.synced_length
+  pub entire : length disk.bytes ≤ disk.synced_length
   pub stands : HalvesStand halves (0xA5 ∷ rest) newer

@@ -28,4 +28,4 @@ AllFit plant retired live cells =
 
 -- Each word is owed at most as many values as these runs name it: all earlier runs are settled.
 abbrev pub AllSettled : List (List ℕ) → List Run → List (List Cell) → Type 0
-AllSettled plant behind cells = EachWord plant (λ slave at. length (cell_at cells slave at).owed ≤ length (values behind slave at))
+AllSettled plant after cells = EachWord plant (λ slave at. length (cell_at cells slave at).owed ≤ length (values after slave at))

@@ -138,12 +138,12 @@ abbrev pub word_passed : (count place : ℕ) → Word → Word
 word_passed count place w = if nat_le w.end place then word_down count w else w
 
 -- The value is not in the list.
-abbrev pub IsFree : ℕ → List ℕ → Type 0
-IsFree value [] = Unit {0}
-IsFree value (v ∷ vs) = (v ≢ value) × IsFree value vs
+abbrev pub IsVacant : ℕ → List ℕ → Type 0
+IsVacant value [] = Unit {0}
+IsVacant value (v ∷ vs) = (v ≢ value) × IsVacant value vs
 
 -- The place follows one of the word's namings, or is 0, and no naming from there on gives the value to the word.
-pub record IsBehind (namings : List Naming) (at value place : ℕ) : Type 0 where
+pub record IsAfter (namings : List Naming) (at value place : ℕ) : Type 0 where
   pub inside : place ≤ length namings
   pub names : (p : ℕ) → place ≡ suc p → (naming_at namings p).word ≡ at
-  pub free : IsFree value (values_of at (drop place (live_of namings)))
+  pub vacant : IsVacant value (values_of at (drop place (live_of namings)))

@@ -16,14 +16,14 @@ use Rattle.book_model.specs.Entries.{runs_of, namings}
 use Rattle.book_model.specs.Book.{Book, base_of, own, all_cells}
 
 -- The runs are settled for the slaves from number `slave` on.
-abbrev pub settled_from : ℕ → List (List Cell) → (behind runs : List Run) → Bool
-settled_from slave [] behind runs = true
-settled_from slave (cells ∷ others) behind runs =
-    namings_settled cells (namings behind slave) (namings runs slave) && settled_from (suc slave) others behind runs
+abbrev pub settled_from : ℕ → List (List Cell) → (after runs : List Run) → Bool
+settled_from slave [] after runs = true
+settled_from slave (cells ∷ others) after runs =
+    namings_settled cells (namings after slave) (namings runs slave) && settled_from (suc slave) others after runs
 
--- The runs are settled: each of their words is owed no more values than the later runs `behind` give it.
-abbrev pub runs_settled : List (List Cell) → (behind runs : List Run) → Bool
-runs_settled cells behind runs = settled_from 0 cells behind runs
+-- The runs are settled: each of their words is owed no more values than the later runs `after` give it.
+abbrev pub runs_settled : List (List Cell) → (after runs : List Run) → Bool
+runs_settled cells after runs = settled_from 0 cells after runs
 
 -- The length of the longest settled prefix of entries.
 abbrev pub settled_prefix : List (List Cell) → List Entry → ℕ

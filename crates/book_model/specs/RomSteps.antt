@@ -12,7 +12,7 @@ use Rattle.book_model.specs.Cells.{Known, Holds, Unsure, asked, written, cell_of
 use Rattle.book_model.specs.Pending as pending
 use Rattle.book_model.specs.Entries.{live_runs, namings}
 use Rattle.jrn_format.specs.Halves.{live}
-use Rattle.book_model.specs.Book.{Book, Errand, Free, Issuing, Unsettled, Settling, slave_at, with_slave, with_fault}
+use Rattle.book_model.specs.Book.{Book, Operation, NoOperation, Issuing, Unsettled, Settling, slave_at, with_slave, with_fault}
 
 -- The words of a slave that remain to be written, in order, with their values.
 abbrev pub to_do : Book → ℕ → List (ℕ × ℕ)
@@ -21,15 +21,15 @@ to_do book slave = pending.to_do (slave_at book slave).cells (namings (live_runs
 -- ---- the next action
 
 -- The book with another action on slave i.
-abbrev pub with_errand : Book → ℕ → Errand → Book
-with_errand book i errand = with_slave book i (record (slave_at book i) { errand = errand })
+abbrev pub with_operation : Book → ℕ → Operation → Book
+with_operation book i operation = with_slave book i (record (slave_at book i) { operation = operation })
 
 -- The book after the issue of a word and value is handed out.
 abbrev pub with_issue : Book → ℕ → (ℕ × ℕ) → Book
 with_issue book i w =
     with_slave book i (record {
       cells = slice_set (slave_at book i).cells w.0 (asked (cell_of (slave_at book i).cells w.0));
-      errand = Issuing w.0 w.1;
+      operation = Issuing w.0 w.1;
       issues = (slave_at book i).issues + 1;
     })
 
@@ -40,18 +40,18 @@ without_work book = if book.is_finished && nat_le (length book.accepted) book.du
 -- The next action on slave i, and the book once it is handed out. Idle while an action is handed out; Stop after a fault, or if the
 -- line has no such slave.
 abbrev pub rom_next : Book → ℕ → RomNext × Book
-rom_next book i = if nat_lt i (length book.slaves) then going (slave_at book i).errand else (next.Stop, book)
+rom_next book i = if nat_lt i (length book.slaves) then going (slave_at book i).operation else (next.Stop, book)
   where
     issue : List (ℕ × ℕ) → RomNext × Book
     issue [] = (without_work book, book)
     issue (w ∷ others) = (next.Issue w.0 w.1, with_issue book i w)
 
-    going : Errand → RomNext × Book
-    going Free = if is_some book.fault then (next.Stop, book) else issue (to_do book i)
+    going : Operation → RomNext × Book
+    going NoOperation = if is_some book.fault then (next.Stop, book) else issue (to_do book i)
     going (Issuing word value) = (next.Idle, book)
     going (Unsettled word value taken) =
         if is_some book.fault then (next.Stop, book)
-        else (next.Settle taken, with_errand book i (Settling word value taken))
+        else (next.Settle taken, with_operation book i (Settling word value taken))
     going (Settling word value taken) = (next.Idle, book)
 
 -- ---- the book after an outcome
@@ -72,24 +72,24 @@ abbrev pub with_written : Book → ℕ → (word value : ℕ) → Book
 with_written book i word value =
     with_slave book i (record (slave_at book i) {
       cells = slice_set (slave_at book i).cells word (written (cell_of (slave_at book i).cells word) value);
-      errand = Free;
+      operation = NoOperation;
     })
 
 -- The book after a word has to be issued again: a fault if this was its third issue in a row.
 abbrev pub with_again : Book → ℕ → ℕ → Book
 with_again book i word =
-    if is_last (cell_of (slave_at book i).cells word).known then with_fault (with_errand book i Free) (faults.SlaveDead i)
-    else with_errand book i Free
+    if is_last (cell_of (slave_at book i).cells word).known then with_fault (with_operation book i NoOperation) (faults.SlaveDead i)
+    else with_operation book i NoOperation
 
 -- The book after the outcome of the action that is handed out. Any other outcome changes nothing.
 abbrev pub rom_done : Book → ℕ → RomOutcome → Book
-rom_done book i outcome = back (slave_at book i).errand outcome
+rom_done book i outcome = back (slave_at book i).operation outcome
   where
-    back : Errand → RomOutcome → Book
-    back (Issuing word value) (outcomes.Issued issued) = with_errand book i (Unsettled word value (was_taken issued))
-    back (Issuing word value) outcomes.Stopped = with_fault (with_errand book i Free) faults.Stopped
+    back : Operation → RomOutcome → Book
+    back (Issuing word value) (outcomes.Issued issued) = with_operation book i (Unsettled word value (was_taken issued))
+    back (Issuing word value) outcomes.Stopped = with_fault (with_operation book i NoOperation) faults.Stopped
     back (Settling word value taken) (outcomes.Settled settled.Written) = with_written book i word value
     back (Settling word value taken) (outcomes.Settled settled.Again) = with_again book i word
-    back (Settling word value taken) (outcomes.Settled settled.Dead) = with_fault (with_errand book i Free) (faults.SlaveDead i)
-    back (Settling word value taken) outcomes.Stopped = with_fault (with_errand book i Free) faults.Stopped
-    back errand other = book
+    back (Settling word value taken) (outcomes.Settled settled.Dead) = with_fault (with_operation book i NoOperation) (faults.SlaveDead i)
+    back (Settling word value taken) outcomes.Stopped = with_fault (with_operation book i NoOperation) faults.Stopped
+    back operation other = book

@@ -3,7 +3,7 @@ use Rattle.std.specs.Prelude.{◌≡◌, ℕ, ◌<◌, Bool, true, List, length,
 use Rattle.esc_model.specs.SlaveHalf.{SlaveHalf, MayRest, MayLeave}
 use Rattle.esc_model.specs.WordAccess.{TakesWord}
 use Rattle.book_model.specs.Cells.{Cell, cell_of}
-use Rattle.book_model.specs.Book.{Errand, Free, Issuing, Unsettled, Settling}
+use Rattle.book_model.specs.Book.{Operation, NoOperation, Issuing, Unsettled, Settling}
 use Rattle.book_model.specs.Owed.{MayBe, IsUnsure, IsAmong}
 
 -- The slave took the datagram that writes this value to this word, and may have become idle since.
@@ -21,15 +21,15 @@ pub record Asks (slave word value : ℕ) (taken : Bool) (half : SlaveHalf) (cell
   pub took : taken ≡ true → HasTaken slave word value half
 
 -- The slave fits the book's action on it. `took`: whether it took the datagram of the last issue.
-abbrev pub ErrandFits : (slave : ℕ) → Errand → (took : Bool) → SlaveHalf → List Cell → Type 0
-ErrandFits slave Free took half cells = Unit {0}
-ErrandFits slave (Issuing word value) took half cells = Asks slave word value took half cells
-ErrandFits slave (Unsettled word value taken) took half cells = Asks slave word value taken half cells
-ErrandFits slave (Settling word value taken) took half cells = Asks slave word value taken half cells
+abbrev pub OperationFits : (slave : ℕ) → Operation → (took : Bool) → SlaveHalf → List Cell → Type 0
+OperationFits slave NoOperation took half cells = Unit {0}
+OperationFits slave (Issuing word value) took half cells = Asks slave word value took half cells
+OperationFits slave (Unsettled word value taken) took half cells = Asks slave word value taken half cells
+OperationFits slave (Settling word value taken) took half cells = Asks slave word value taken half cells
 
 -- The slave fits the book's cells and the action on it: whatever a power cut leaves of its words agrees with what the book knows.
-pub record SlaveFits (slave : ℕ) (half : SlaveHalf) (errand : Errand) (took : Bool) (cells : List Cell) : Type 0 where
+pub record SlaveFits (slave : ℕ) (half : SlaveHalf) (operation : Operation) (took : Bool) (cells : List Cell) : Type 0 where
   pub size : length cells ≡ length half.words
   pub words : (left : List ℕ) → MayLeave half left → (at : ℕ) → at < length cells
       → MayBe (cell_of cells at).known (slice_index_or left at 0)
-  pub asks : ErrandFits slave errand took half cells
+  pub asks : OperationFits slave operation took half cells

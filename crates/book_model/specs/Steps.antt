@@ -8,7 +8,7 @@ use Rattle.book_model.specs.declared.next.RomNext.{RomNext}
 use Rattle.book_model.specs.declared.next.RomNext.TheVariants as next
 use Rattle.book_model.specs.declared.next.RomOutcome.{RomOutcome}
 use Rattle.book_model.specs.declared.next.RomOutcome.TheVariants.{Issued, Settled, Stopped}
-use Rattle.book_model.specs.Book.{Book, Errand, Issuing, Settling}
+use Rattle.book_model.specs.Book.{Book, Operation, Issuing, Settling}
 use Rattle.book_model.specs.Machine.{Machine}
 
 -- The slave takes the datagram, or doesn't; a busy slave may become idle meanwhile.
@@ -33,7 +33,7 @@ took_after next.Stop took slave taken = took
 -- The outcome with which an action may end, and the slave then. An issue is Taken only if it was taken, and NotTaken only if it wasn't;
 -- a Lost one may have been taken or not. A settle answers Written only if the datagram was taken and the slave is well, and Again only
 -- if the slave is idle. Dead is always possible, and the site may stop at any time.
-abbrev pub MayComeBack : (took : Bool) → Errand → RomOutcome → SlaveHalf → SlaveHalf → Type 0
+abbrev pub MayComeBack : (took : Bool) → Operation → RomOutcome → SlaveHalf → SlaveHalf → Type 0
 MayComeBack took (Issuing word value) (Issued Taken) half later = (took ≡ true) × (later ≡ half)
 MayComeBack took (Issuing word value) (Issued NotTaken) half later = (took ≡ false) × (later ≡ half)
 MayComeBack took (Issuing word value) (Issued Lost) half later = later ≡ half
@@ -42,7 +42,7 @@ MayComeBack took (Settling word value taken) (Settled Written) half later = (tak
 MayComeBack took (Settling word value taken) (Settled Again) half later = IsIdle half × OnlyRests half later
 MayComeBack took (Settling word value taken) (Settled Dead) half later = OnlyRests half later
 MayComeBack took (Settling word value taken) Stopped half later = OnlyRests half later
-MayComeBack took errand outcome half later = ⊥
+MayComeBack took operation outcome half later = ⊥
 
 -- The machine with all durable commands acknowledged.
 abbrev pub acknowledged_by : Book → Machine → Machine

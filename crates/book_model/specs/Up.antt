@@ -22,7 +22,7 @@ pub record SlavesFit (halves : List SlaveHalf) (slaves : List Slave) (took : Lis
   pub count : length halves ≡ length slaves
   pub took_count : length took ≡ length slaves
   pub each : (i : ℕ) (half : SlaveHalf) → slice_get halves i ≡ Some half
-      → SlaveFits i half (slice_index_or slaves i nobody).errand (slice_index_or took i false) (slice_index_or slaves i nobody).cells
+      → SlaveFits i half (slice_index_or slaves i nobody).operation (slice_index_or took i false) (slice_index_or slaves i nobody).cells
 
 -- The entries that aren't durable yet can be encoded and are within the line, and the queue is not too long.
 pub record PendingFits (book : Book) : Type 0 where
@@ -31,8 +31,8 @@ pub record PendingFits (book : Book) : Type 0 where
   pub few : length (queued book) ≤ QUEUE
 
 -- A batch is appended to the newer half only if the older half has batches.
-abbrev pub AppendsBehind : Halves → Doing → Type 0
-AppendsBehind halves doing = (entries : List Entry) → appended doing ≡ Some (InNewer, entries) → halves.older ≢ []
+abbrev pub AppendsAfter : Halves → Doing → Type 0
+AppendsAfter halves doing = (entries : List Entry) → appended doing ≡ Some (InNewer, entries) → halves.older ≢ []
 
 -- The invariant of a station that is up.
 pub record Up (frame : JournalFrame) (book : Book) (state : State) (took : List Bool) (machine : Machine) : Type 0 where
@@ -47,7 +47,7 @@ pub record Up (frame : JournalFrame) (book : Book) (state : State) (took : List 
   pub pending : PendingFits book
   -- while the older half is empty, the newer half is too
   pub ordered : book.halves.older ≡ [] → book.halves.newer ≡ []
-  pub behind : AppendsBehind book.halves book.doing
+  pub after : AppendsAfter book.halves book.doing
   -- a journal of an older version takes no command, and one of version 2 isn't migrated
   pub no_command : is_version_2 book.form ≡ false → book.accepted ≡ []
   pub no_migration : is_version_2 book.form ≡ true → book.is_migrating ≡ false

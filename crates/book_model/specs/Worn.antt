@@ -25,7 +25,7 @@ pub record SlaveWorn (named : ℕ) (failed : Bool) (slave : Slave) : Type 0 wher
   pub few : slave.issues + 3 * owed_in slave.cells ≤ 3 * named + since_in slave.cells
   pub most : (at : ℕ) → since (cell_of slave.cells at).known ≤ 3 * length (cell_of slave.cells at).owed
   pub three : (at : ℕ) → since (cell_of slave.cells at).known ≤ 3
-  pub calm : failed ≡ false → (at : ℕ) → (since (cell_of slave.cells at).known ≤ 2) ⊎ IsAbout slave.errand at
+  pub calm : failed ≡ false → (at : ℕ) → (since (cell_of slave.cells at).known ≤ 2) ⊎ IsAbout slave.operation at
 
 -- This holds of each slave of the book, with the entries that were live at the open or have become live since.
 abbrev pub Worn : Book → Type 0

@@ -25,6 +25,6 @@ pub fn up_as_a_slave_answers()
     ensures { (frame : JournalFrame) (book : Book) (state : State) (took : List Bool) (machine : Machine) (i : ℕ) (half later : SlaveHalf)
         (outcome : RomOutcome) → Up frame book state took machine
         → i < length book.slaves → slice_get state.halves i ≡ Some half
-        → MayComeBack (slice_index_or took i false) (slave_at book i).errand outcome half later
+        → MayComeBack (slice_index_or took i false) (slave_at book i).operation outcome half later
         → Up frame (rom_done book i outcome) (with_half state i later) took machine }
 {}

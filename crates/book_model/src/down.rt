@@ -3,7 +3,7 @@ ghost use Rattle.book_model.specs.Queue.{Stands, naming_down, word_down};
 
 use crate::due::{Naming, Word};
 
-/// A place after the first `count` namings are removed; 0 if it isn't behind them.
+/// A place after the first `count` namings are removed; 0 if it isn't after them.
 fn lowered(place: u32, count: usize) -> u32
     ensures { result ≡ place - count }
 {

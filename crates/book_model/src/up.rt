@@ -5,8 +5,8 @@ ghost use Rattle.esc_model.specs.SlaveHalf.{SlaveHalf, MayRest};
 ghost use Rattle.site_core.specs.State.{State, Pair, Leaves, with_half};
 ghost use Rattle.book_model.specs.Cells.{cell_of};
 ghost use Rattle.book_model.specs.declared.fault.Fault.{Fault};
-ghost use Rattle.book_model.specs.Book.{Book, Errand, slave_at, with_fault};
-ghost use Rattle.book_model.specs.RomSteps.{with_issue, with_errand};
+ghost use Rattle.book_model.specs.Book.{Book, Operation, slave_at, with_fault};
+ghost use Rattle.book_model.specs.RomSteps.{with_issue, with_operation};
 ghost use Rattle.book_model.specs.Machine.{Machine};
 ghost use Rattle.book_model.specs.Kept.{Kept};
 ghost use Rattle.book_model.specs.Owed.{IsAmong};
@@ -46,9 +46,9 @@ pub fn up_while_a_word_is_issued()
 {}
 
 /// `Up` stays true when the book begins another action on a slave whose state fits that action.
-pub fn up_on_another_errand()
+pub fn up_on_another_operation()
     ensures { (frame : JournalFrame) (book : Book) (state : State) (took : List Bool) (machine : Machine) (i : ℕ) (later : SlaveHalf)
-        (errand : Errand) (t : Bool) → Up frame book state took machine
-        → i < length book.slaves → SlaveFits i later errand t (slave_at book i).cells
-        → Up frame (with_errand book i errand) (with_half state i later) (slice_set took i t) machine }
+        (operation : Operation) (t : Bool) → Up frame book state took machine
+        → i < length book.slaves → SlaveFits i later operation t (slave_at book i).cells
+        → Up frame (with_operation book i operation) (with_half state i later) (slice_set took i t) machine }
 {}

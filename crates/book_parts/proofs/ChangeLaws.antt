@@ -61,13 +61,13 @@ short-runs plant (run ∷ runs) few inside some =
     (short-runs plant runs few (All-tail (LiesInside plant) run runs inside) (All-tail (λ (r : Run). 0 < length r.words) run runs some))
 
 -- what `changes` answers is what is judged
-pub judged-is : (plant : List (List ℕ)) (command : Command) (result : Result Change Refusal) → ((slave : ℕ) → length (words_of plant slave) ≤ 4096)
+pub validated-is : (plant : List (List ℕ)) (command : Command) (result : Result Change Refusal) → ((slave : ℕ) → length (words_of plant slave) ≤ 4096)
     → IfOk result (λ change. outcome plant command ≡ Ok (redone plant change.runs.items))
     → IfOk result (λ change. change.runs.items ≡ runs_between plant (redone plant change.runs.items))
     → IfOk result (λ change. All (LiesInside plant) change.runs.items)
     → IfOk result (λ change. with_each plant change.layouts ≡ redone plant change.runs.items)
     → IfOk result (IsChangeOf plant command)
-judged-is plant command (Ok change) few accepted runs inside layouts =
+validated-is plant command (Ok change) few accepted runs inside layouts =
     record {
       accepted = accepted;
       runs = runs;
@@ -75,7 +75,7 @@ judged-is plant command (Ok change) few accepted runs inside layouts =
       short = short-runs plant change.runs.items few inside (subst (All (λ (r : Run). 0 < length r.words)) (sym runs) (some-runs_between plant (redone plant change.runs.items)));
       layouts = layouts;
     }
-judged-is plant command (Err refusal) few accepted runs inside layouts = tt
+validated-is plant command (Err refusal) few accepted runs inside layouts = tt
 
 -- the slaves of contents after commands have as many words
 pub few-after : (base : List (List ℕ)) (commands : List Command) → ((slave : ℕ) → length (words_of base slave) ≤ 4096) → (slave : ℕ) → length (words_of (contents base commands) slave) ≤ 4096

@@ -9,12 +9,12 @@ use Rattle.book_model.specs.Cells.{Cell, cell_of, nothing, owing, asked, written
 use Rattle.book_model.specs.Pending.{Pending, first}
 use Rattle.book_model.specs.Pending as pending
 use Rattle.book_model.specs.Entries.{runs_of, namings, values}
-use Rattle.book_model.specs.Book.{Slave, nobody, Free, Issuing}
+use Rattle.book_model.specs.Book.{Slave, nobody, NoOperation, Issuing}
 use Rattle.book_model.specs.Open.{owing_words, owing_slaves}
 use Rattle.book_parts.specs.declared.work.SlaveWork.{SlaveWork}
-use Rattle.book_parts.specs.declared.work.Errand.{Errand}
+use Rattle.book_parts.specs.declared.work.Operation.{Operation}
 use Rattle.book_parts.specs.Line.{LineState, AreOfLine, NeverFall, HasRoom, rooms_left, rooms_freed, with_older, with_newer, retired, slave_at, with_slave, to_do, with_issue, with_written}
-use Rattle.book_parts.specs.Works.{entries_named, numbers_named, work_at, no_work, RunsLie, HasRooms, slave_of, room_of, line_of, WorkStands, WorksStand, work_retired, all_older, errand_of, work_issued, work_written, work_to_do}
+use Rattle.book_parts.specs.Works.{entries_named, numbers_named, work_at, no_work, RunsLie, HasRooms, slave_of, room_of, line_of, WorkStands, WorksStand, work_retired, all_older, operation_of, work_issued, work_written, work_to_do}
 use Rattle.book_parts.proofs.EntryLaws.{namings-append, numbers-append, entries-cells, entries-room, entries-live, entries-numbers, entries-cell}
 use Rattle.book_parts.proofs.OwingLaws.{length-owing_words, cell-owing, length-owing_slaves, owed-slave, slave-owing}
 use Rattle.book_parts.proofs.StepLaws.{EntriesLive}
@@ -55,7 +55,7 @@ joined-slaves old now entries live =
     let in_old : k < length old = omega (arith, live.same) in
     let z : k ≡ 0 + k = omega arith in
     slave-at now k in_now ∙ ap slave_of (live.each k in_old)
-    ∙ ap (λ (l : List Cell). let s : Slave = record { cells = l; errand = (slave_of (work_at old k)).errand; issues = (slave_of (work_at old k)).issues } in s) (cells-owing (work_at old k).queue entries k)
+    ∙ ap (λ (l : List Cell). let s : Slave = record { cells = l; operation = (slave_of (work_at old k)).operation; issues = (slave_of (work_at old k)).issues } in s) (cells-owing (work_at old k).queue entries k)
     ∙ ap (owed-slave (runs_of entries) k) (sym (slave-at old k in_old))
     ∙ ap (λ (n : ℕ). owed-slave (runs_of entries) n (get_or (map slave_of old) k nobody)) z
     ∙ sym (slave-owing (runs_of entries) 0 (map slave_of old) k (omega (arith, length-map old slave_of))))
@@ -250,8 +250,8 @@ issue-line works older newer k None within = ap (λ (l : List SlaveWork). line_o
 issue-line works older newer k (Some n) within =
     let w = work_at works k in
     slave-step works older newer k (work_issued w (Some n)) _ refl
-    (ap (λ (i : ℕ). let s : Slave = record { cells = set w.queue.cells n.0 (asked (cell_of w.queue.cells n.0)); errand = Issuing n.0 n.1; issues = i } in s) (length_push w.issued n.0)
-    ∙ ap (λ (s : Slave). let t : Slave = record { cells = set s.cells n.0 (asked (cell_of s.cells n.0)); errand = Issuing n.0 n.1; issues = s.issues + 1 } in t) (sym (slave-at works k within)))
+    (ap (λ (i : ℕ). let s : Slave = record { cells = set w.queue.cells n.0 (asked (cell_of w.queue.cells n.0)); operation = Issuing n.0 n.1; issues = i } in s) (length_push w.issued n.0)
+    ∙ ap (λ (s : Slave). let t : Slave = record { cells = set s.cells n.0 (asked (cell_of s.cells n.0)); operation = Issuing n.0 n.1; issues = s.issues + 1 } in t) (sym (slave-at works k within)))
 
 -- as the code hands a word out
 pub issues-word : (works : List SlaveWork) (older newer : List Entry) (k : ℕ) (read new : SlaveWork) → WorksStand works older newer → k < length works → read ≡ work_at works k
@@ -270,14 +270,14 @@ writes-word works older newer k word value read new within is made =
     let w = work_at works k in
     let all : new ≡ work_written w word value = made ∙ ap (λ (v : SlaveWork). work_written v word value) is in
     slave-step works older newer k new _ (ap room_of all)
-    (ap slave_of all ∙ ap (λ (s : Slave). let t : Slave = record s { cells = set s.cells word (written (cell_of s.cells word) value); errand = Free } in t) (sym (slave-at works k within)))
+    (ap slave_of all ∙ ap (λ (s : Slave). let t : Slave = record s { cells = set s.cells word (written (cell_of s.cells word) value); operation = NoOperation } in t) (sym (slave-at works k within)))
 
-pub sets-errand : (works : List SlaveWork) (older newer : List Entry) (k : ℕ) (errand : Errand) (read : SlaveWork) → k < length works → read ≡ work_at works k
-    → line_of (set works k (record read { errand = errand })) older newer ≡ with_slave (line_of works older newer) k (record (slave_at (line_of works older newer) k) { errand = errand_of errand })
-sets-errand works older newer k errand read within is =
-    slave-step works older newer k (record read { errand = errand }) _ (ap room_of is)
-    (ap (λ (v : SlaveWork). let s : Slave = record { cells = v.queue.cells; errand = errand_of errand; issues = length v.issued } in s) is
-    ∙ ap (λ (s : Slave). let t : Slave = record s { errand = errand_of errand } in t) (sym (slave-at works k within)))
+pub sets-operation : (works : List SlaveWork) (older newer : List Entry) (k : ℕ) (operation : Operation) (read : SlaveWork) → k < length works → read ≡ work_at works k
+    → line_of (set works k (record read { operation = operation })) older newer ≡ with_slave (line_of works older newer) k (record (slave_at (line_of works older newer) k) { operation = operation_of operation })
+sets-operation works older newer k operation read within is =
+    slave-step works older newer k (record read { operation = operation }) _ (ap room_of is)
+    (ap (λ (v : SlaveWork). let s : Slave = record { cells = v.queue.cells; operation = operation_of operation; issues = length v.issued } in s) is
+    ∙ ap (λ (s : Slave). let t : Slave = record s { operation = operation_of operation } in t) (sym (slave-at works k within)))
 
 -- a slave of the line has its work
 pub has-work : (works : List SlaveWork) (older newer : List Entry) (line : LineState) (k : ℕ) → line_of works older newer ≡ line → k < length line.slaves → k < length works

@@ -13,8 +13,8 @@ mapped-item {X} f old now i d m within =
     let one : get_or now i d ∷ drop (i + 1) now ≡ get_or old i d ∷ drop (i + 1) old = sym (drop_more now i d (omega (arith, m.same))) ∙ m.rest ∙ drop_more old i d within in
     cc
 
-mapped-behind : {X : Type 0} (f : X → X) (old now : List X) (i : ℕ) (d : X) → Mapped f old now i → i < length old → drop (i + 1) now ≡ drop (i + 1) old
-mapped-behind {X} f old now i d m within =
+mapped-after : {X : Type 0} (f : X → X) (old now : List X) (i : ℕ) (d : X) → Mapped f old now i → i < length old → drop (i + 1) now ≡ drop (i + 1) old
+mapped-after {X} f old now i d m within =
     let one : get_or now i d ∷ drop (i + 1) now ≡ get_or old i d ∷ drop (i + 1) old = sym (drop_more now i d (omega (arith, m.same))) ∙ m.rest ∙ drop_more old i d within in
     cc
 
@@ -26,7 +26,7 @@ mapped-more {X} f old now i d x m within is = record {
       ∙ ap (λ (y : X). map f (take i old) ++ y ∷ []) (is ∙ ap f (mapped-item f old now i d m within))
       ∙ sym (map-append f (take i old) (get_or old i d ∷ []))
       ∙ sym (ap (map f) (take_more old i d within));
-  rest = drop-set-lt (i + 1) now i x (omega arith) ∙ mapped-behind f old now i d m within;
+  rest = drop-set-lt (i + 1) now i x (omega arith) ∙ mapped-after f old now i d m within;
 }
 
 pub mapped-all : {X : Type 0} (f : X → X) (old now : List X) (i : ℕ) → Mapped f old now i → length old ≤ i → now ≡ map f old

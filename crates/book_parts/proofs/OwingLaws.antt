@@ -58,7 +58,7 @@ owing_slaves-append xs ys i (s ∷ ss) =
 -- A batch that goes live changes what is owed, and no more.
 pub record SameButOwed (old new : Slave) : Type 0 where
   pub words : length new.cells ≡ length old.cells
-  pub errand : new.errand ≡ old.errand
+  pub operation : new.operation ≡ old.operation
   pub issues : new.issues ≡ old.issues
   pub known : (at : ℕ) → (cell_of new.cells at).known ≡ (cell_of old.cells at).known
 
@@ -68,8 +68,8 @@ known-owing runs i at (c ∷ cs) zero = refl
 known-owing runs i at (c ∷ cs) (suc k) = known-owing runs i (suc at) cs k
 
 pub owing-keeps : (runs : List Run) (i : ℕ) (slaves : List Slave) (k : ℕ) → SameButOwed (get_or slaves k nobody) (get_or (owing_slaves runs i slaves) k nobody)
-owing-keeps runs i [] k = record { words = refl; errand = refl; issues = refl; known = λ at. refl }
-owing-keeps runs i (s ∷ ss) zero = record { words = length-owing_words runs i 0 s.cells; errand = refl; issues = refl; known = known-owing runs i 0 s.cells }
+owing-keeps runs i [] k = record { words = refl; operation = refl; issues = refl; known = λ at. refl }
+owing-keeps runs i (s ∷ ss) zero = record { words = length-owing_words runs i 0 s.cells; operation = refl; issues = refl; known = known-owing runs i 0 s.cells }
 owing-keeps runs i (s ∷ ss) (suc k) = owing-keeps runs (suc i) ss k
 
 -- how many words each slave has

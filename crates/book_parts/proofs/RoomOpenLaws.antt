@@ -70,8 +70,8 @@ first-bytes form i batches =
 abbrev pub stands_at : ℕ → Batch → Bool
 stands_at at batch = eqb batch.half at
 
-abbrev pub apart : Form → (capacity at generation : ℕ) → List Batch → Room
-apart form capacity at generation batches =
+abbrev pub separate : Form → (capacity at generation : ℕ) → List Batch → Room
+separate form capacity at generation batches =
     room_of form capacity at generation (filter (stands_at at) batches) (filter (λ (b : Batch). not (stands_at at b)) batches)
 
 abbrev pub place_by : Bool → Place
@@ -90,25 +90,25 @@ place-more at generation batches batch false is =
 one_more : (batches : List Batch) (i : ℕ) (batch : Batch) → i < length batches → batch ≡ get_or batches i batch → take i batches ++ batch ∷ [] ≡ take (i + 1) batches
 one_more batches i batch lt is = ap (λ (b : Batch). take i batches ++ b ∷ []) is ∙ sym (take_more batches i batch lt)
 
-pub apart-more : (form : Form) (capacity at generation : ℕ) (batches : List Batch) (i : ℕ) (batch : Batch) → i < length batches → batch ≡ get_or batches i batch
-    → with_batch (apart form capacity at generation (take i batches)).halves (place_by (stands_at at batch)) batch ≡ (apart form capacity at generation (take (i + 1) batches)).halves
-apart-more form capacity at generation batches i batch lt is =
+pub separate-more : (form : Form) (capacity at generation : ℕ) (batches : List Batch) (i : ℕ) (batch : Batch) → i < length batches → batch ≡ get_or batches i batch
+    → with_batch (separate form capacity at generation (take i batches)).halves (place_by (stands_at at batch)) batch ≡ (separate form capacity at generation (take (i + 1) batches)).halves
+separate-more form capacity at generation batches i batch lt is =
     place-more at generation (take i batches) batch (stands_at at batch) refl
-    ∙ ap (λ (l : List Batch). (apart form capacity at generation l).halves) (one_more batches i batch lt is)
+    ∙ ap (λ (l : List Batch). (separate form capacity at generation l).halves) (one_more batches i batch lt is)
 
 half-bytes : (form : Form) (capacity at generation : ℕ) (batches : List Batch) (place : Place)
-    → bytes_in form (batches_in (apart form capacity at generation batches).halves place) ≤ bytes_in form batches
+    → bytes_in form (batches_in (separate form capacity at generation batches).halves place) ≤ bytes_in form batches
 half-bytes form capacity at generation batches InOlder = filter-bytes form (stands_at at) batches
 half-bytes form capacity at generation batches InNewer = filter-bytes form (λ (b : Batch). not (stands_at at b)) batches
 
 pub one-more-fits : (form : Form) (capacity at generation : ℕ) (batches : List Batch) (i : ℕ) (batch : Batch) → bytes_in form batches ≤ capacity → i < length batches → batch ≡ get_or batches i batch
-    → bytes_in form (batches_in (with_batch (apart form capacity at generation (take i batches)).halves (place_by (stands_at at batch)) batch) (place_by (stands_at at batch))) ≤ capacity
+    → bytes_in form (batches_in (with_batch (separate form capacity at generation (take i batches)).halves (place_by (stands_at at batch)) batch) (place_by (stands_at at batch))) ≤ capacity
 one-more-fits form capacity at generation batches i batch all lt is =
     let place = place_by (stands_at at batch) in
-    let here = ap (λ (h : Halves). bytes_in form (batches_in h place)) (apart-more form capacity at generation batches i batch lt is) in
+    let here = ap (λ (h : Halves). bytes_in form (batches_in h place)) (separate-more form capacity at generation batches i batch lt is) in
     omega (arith, here, half-bytes form capacity at generation (take (i + 1) batches) place, first-bytes form (i + 1) batches, all)
 
-pub apart-is : (form : Form) (capacity : ℕ) (batches : List Batch)
-    → apart form capacity (halves_in batches).at (halves_in batches).generation batches ≡ record { form = form; capacity = capacity; halves = halves_in batches }
-apart-is form capacity [] = refl
-apart-is form capacity (batch ∷ batches) = rw (eq-eqb batch.half batch.half refl) refl
+pub separate-is : (form : Form) (capacity : ℕ) (batches : List Batch)
+    → separate form capacity (halves_in batches).at (halves_in batches).generation batches ≡ record { form = form; capacity = capacity; halves = halves_in batches }
+separate-is form capacity [] = refl
+separate-is form capacity (batch ∷ batches) = rw (eq-eqb batch.half batch.half refl) refl

@@ -104,7 +104,7 @@ pub record EntriesLive (old now : List SlaveWork) (entries : List Entry) : Type 
   pub same : length now ≡ length old
   pub each : (i : ℕ) → i < length old → work_at now i ≡ with_queue (work_at old i) (entries_named (work_at old i).queue entries i)
 
--- the entries up to the next one, that one, and those behind it
+-- the entries up to the next one, that one, and those after it
 pub split-at : (entries : List Entry) (j : ℕ) (d : Entry) → j < length entries → runs_of entries ≡ runs_of (take j entries) ++ ((get_or entries j d).runs ++ runs_of (drop (j + 1) entries))
 split-at entries j d within =
     ap runs_of (sym (take-append-drop j entries)) ∙ runs_of-append (take j entries) (drop j entries) ∙ ap (λ (l : List Entry). runs_of (take j entries) ++ runs_of l) (drop_more entries j d within)

@@ -23,14 +23,14 @@ use Rattle.book_model.proofs.TodoLaws.{bool_cases}
 
 -- A SLAVE'S NAMINGS, AND THOSE BEHIND THEM
 
-count-behind : (cells : List Cell) (ns rest : List (ℕ × ℕ)) → namings_settled cells rest ns ≡ true → settled_count cells (ns ++ rest) ≡ length ns + settled_count cells rest
-count-behind cells [] rest all = sym (zero-add (settled_count cells rest))
-count-behind cells (n ∷ ns) rest all =
+count-after : (cells : List Cell) (ns rest : List (ℕ × ℕ)) → namings_settled cells rest ns ≡ true → settled_count cells (ns ++ rest) ≡ length ns + settled_count cells rest
+count-after cells [] rest all = sym (zero-add (settled_count cells rest))
+count-after cells (n ∷ ns) rest all =
     let owed = length (cell_of cells n.0).owed in
     let here = nat_le owed (length (values_of n.0 rest)) in
     let le : owed ≤ length (values_of n.0 rest) = le-of owed (length (values_of n.0 rest)) (and-left here (namings_settled cells rest ns) all) in
     let more : length (values_of n.0 (ns ++ rest)) ≡ length (values_of n.0 ns) + length (values_of n.0 rest) = ap length (values-append n.0 ns rest) ∙ length-append (values_of n.0 ns) (values_of n.0 rest) in
-    let later = count-behind cells ns rest (and-right here (namings_settled cells rest ns) all) in
+    let later = count-after cells ns rest (and-right here (namings_settled cells rest ns) all) in
     rw (le-true owed (length (values_of n.0 (ns ++ rest))) (omega arith)) (omega (arith, later))
 
 count-here : (cells : List Cell) (ns rest : List (ℕ × ℕ)) → namings_settled cells rest ns ≡ false → settled_count cells (ns ++ rest) < length ns
@@ -63,9 +63,9 @@ count-here cells (n ∷ ns) rest not = one (bool_cases (nat_le owed (length (val
     one (inl holds) (inr fails) later = let l = later fails in rw holds (omega arith)
     one (inl holds) (inl all) later = absurd (over holds all)
 
-number-behind : (ns : List (ℕ × ℕ)) (number : ℕ) (rest : List ℕ) (k : ℕ) → slice_get (map (λ (n : ℕ × ℕ). number) ns ++ rest) (length ns + k) ≡ slice_get rest k
-number-behind [] number rest k = rw (zero-add k) refl
-number-behind (n ∷ ns) number rest k = rw (suc-add (length ns) k) (number-behind ns number rest k)
+number-after : (ns : List (ℕ × ℕ)) (number : ℕ) (rest : List ℕ) (k : ℕ) → slice_get (map (λ (n : ℕ × ℕ). number) ns ++ rest) (length ns + k) ≡ slice_get rest k
+number-after [] number rest k = rw (zero-add k) refl
+number-after (n ∷ ns) number rest k = rw (suc-add (length ns) k) (number-after ns number rest k)
 
 number-here : (ns : List (ℕ × ℕ)) (number : ℕ) (rest : List ℕ) (k : ℕ) → k < length ns → slice_get (map (λ (n : ℕ × ℕ). number) ns ++ rest) k ≡ Some number
 number-here [] number rest k lt = absurd (omega arith)
@@ -80,8 +80,8 @@ unsettled_in cells entries i = slice_get (numbers_named entries i) (settled_coun
 slave-settled : (cells : List Cell) (e : Entry) (es : List Entry) (i : ℕ) → namings_settled cells (namings (runs_of es) i) (namings e.runs i) ≡ true → unsettled_in cells (e ∷ es) i ≡ unsettled_in cells es i
 slave-settled cells e es i all =
     ap (λ (l : List (ℕ × ℕ)). slice_get (numbers_named (e ∷ es) i) (settled_count cells l)) (namings-append e.runs (runs_of es) i)
-    ∙ ap (slice_get (numbers_named (e ∷ es) i)) (count-behind cells (namings e.runs i) (namings (runs_of es) i) all)
-    ∙ number-behind (namings e.runs i) e.number (numbers_named es i) (settled_count cells (namings (runs_of es) i))
+    ∙ ap (slice_get (numbers_named (e ∷ es) i)) (count-after cells (namings e.runs i) (namings (runs_of es) i) all)
+    ∙ number-after (namings e.runs i) e.number (numbers_named es i) (settled_count cells (namings (runs_of es) i))
 
 slave-owes : (cells : List Cell) (e : Entry) (es : List Entry) (i : ℕ) → namings_settled cells (namings (runs_of es) i) (namings e.runs i) ≡ false → unsettled_in cells (e ∷ es) i ≡ Some e.number
 slave-owes cells e es i not =

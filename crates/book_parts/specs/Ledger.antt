@@ -5,7 +5,7 @@ use Rattle.sii_edit.specs.Fold.{contents}
 use Rattle.jrn_format.specs.declared.journal.Entry.{Entry}
 use Rattle.book_model.specs.Entries.{entries_from}
 
--- The contents at the open, the commands accepted since, how many of them are durable, and how many behind these are being appended
+-- The contents at the open, the commands accepted since, how many of them are durable, and how many after these are being appended
 -- (`begun`).
 pub record Ledger : Type 0 where
   pub base : List (List ℕ)
@@ -25,7 +25,7 @@ own ledger = entries_from 0 ledger.base ledger.accepted
 abbrev pub appended : Ledger → List Entry
 appended ledger = take ledger.begun (drop ledger.durable (own ledger))
 
--- The entries behind them, which are queued.
+-- The entries after them, which are queued.
 abbrev pub queued : Ledger → List Entry
 queued ledger = drop (ledger.durable + ledger.begun) (own ledger)
 

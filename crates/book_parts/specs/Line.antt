@@ -6,7 +6,7 @@ use Rattle.jrn_format.specs.declared.journal.Entry.{Entry}
 use Rattle.book_model.specs.Entries.{runs_of, namings, values}
 use Rattle.book_model.specs.Cells.{Cell, asked, written, cell_of}
 use Rattle.book_model.specs.Pending as pending
-use Rattle.book_model.specs.Book.{Slave, nobody, all_cells, cell_at, Free, Issuing}
+use Rattle.book_model.specs.Book.{Slave, nobody, all_cells, cell_at, NoOperation, Issuing}
 use Rattle.book_model.specs.Open.{owing_slaves}
 use Rattle.book_model.specs.Reading.{runs_settled}
 
@@ -109,7 +109,7 @@ with_issue line i None = line
 with_issue line i (Some w) =
     with_slave line i (record {
       cells = slice_set (slave_at line i).cells w.0 (asked (cell_of (slave_at line i).cells w.0));
-      errand = Issuing w.0 w.1;
+      operation = Issuing w.0 w.1;
       issues = (slave_at line i).issues + 1;
     })
 
@@ -118,5 +118,5 @@ abbrev pub with_written : LineState → ℕ → (word value : ℕ) → LineState
 with_written line i word value =
     with_slave line i (record (slave_at line i) {
       cells = slice_set (slave_at line i).cells word (written (cell_of (slave_at line i).cells word) value);
-      errand = Free;
+      operation = NoOperation;
     })

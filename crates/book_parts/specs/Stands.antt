@@ -20,7 +20,7 @@ pub record ContentsStand (base : List (List ℕ)) (accepted : List Command) (now
   pub is_contents : now ≡ contents base accepted
   pub is_layout : layout ≡ now
 
--- The entries behind the durable ones are being appended, and those behind them are queued.
+-- The entries after the durable ones are being appended, and those after them are queued.
 pub record EntriesStand (ledger : Ledger) (begun queue : List Entry) : Type 0 where
   pub are_appended : begun ≡ appended ledger
   pub are_queued : queue ≡ queued ledger

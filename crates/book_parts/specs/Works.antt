@@ -10,8 +10,8 @@ use Rattle.book_model.specs.Book.{Slave}
 use Rattle.book_model.specs.Book as book
 use Rattle.book_parts.specs.Line.{LineState, NeverFall}
 use Rattle.book_parts.specs.declared.work.SlaveWork.{SlaveWork}
-use Rattle.book_parts.specs.declared.work.Errand.{Errand}
-use Rattle.book_parts.specs.declared.work.Errand.TheVariants as errands
+use Rattle.book_parts.specs.declared.work.Operation.{Operation}
+use Rattle.book_parts.specs.declared.work.Operation.TheVariants as operations
 
 -- Nothing pending, of no words.
 abbrev pub no_pending : Pending
@@ -19,7 +19,7 @@ no_pending = record { cells = []; live = []; numbers = []; room = 0 }
 
 -- What `work_at` gives beyond the line.
 abbrev pub no_work : SlaveWork
-no_work = record { queue = no_pending; older = 0; errand = errands.Free; issued = [] }
+no_work = record { queue = no_pending; older = 0; operation = operations.NoOperation; issued = [] }
 
 -- The running data of slave i.
 abbrev pub work_at : List SlaveWork → ℕ → SlaveWork
@@ -86,15 +86,15 @@ HasCounted works counts slaves = (i : ℕ) → i < slaves → slice_index counts
 -- ---- what ties them to the line
 
 -- The errand of the book for an errand of the running code.
-abbrev pub errand_of : Errand → book.Errand
-errand_of errands.Free = book.Free
-errand_of (errands.Issuing word value) = book.Issuing word value
-errand_of (errands.Unsettled word value taken) = book.Unsettled word value taken
-errand_of (errands.Settling word value taken) = book.Settling word value taken
+abbrev pub operation_of : Operation → book.Operation
+operation_of operations.NoOperation = book.NoOperation
+operation_of (operations.Issuing word value) = book.Issuing word value
+operation_of (operations.Unsettled word value taken) = book.Unsettled word value taken
+operation_of (operations.Settling word value taken) = book.Settling word value taken
 
 -- What the book knows of a slave.
 abbrev pub slave_of : SlaveWork → Slave
-slave_of work = record { cells = work.queue.cells; errand = errand_of work.errand; issues = length work.issued }
+slave_of work = record { cells = work.queue.cells; operation = operation_of work.operation; issues = length work.issued }
 
 -- How many more words can be named without taking memory.
 abbrev pub room_of : SlaveWork → ℕ
@@ -174,11 +174,11 @@ OweLive works slaves = (i at : ℕ) → i < slaves
 -- The slave once a word is handed out to be issued, if there is one.
 abbrev pub work_issued : SlaveWork → Option (ℕ × ℕ) → SlaveWork
 work_issued work None = work
-work_issued work (Some n) = record work { queue = issued work.queue (Some n); errand = errands.Issuing n.0 n.1; issued = work.issued ++ n.0 ∷ [] }
+work_issued work (Some n) = record work { queue = issued work.queue (Some n); operation = operations.Issuing n.0 n.1; issued = work.issued ++ n.0 ∷ [] }
 
 -- The slave once the word holds the value.
 abbrev pub work_written : SlaveWork → (word value : ℕ) → SlaveWork
-work_written work word value = record work { queue = word_written work.queue word value; errand = errands.Free }
+work_written work word value = record work { queue = word_written work.queue word value; operation = operations.NoOperation }
 
 -- The slave's next word to write, with its value.
 abbrev pub work_to_do : SlaveWork → Option (ℕ × ℕ)

@@ -128,7 +128,7 @@ impl Area {
         u64::from(self.older_bytes) + u64::from(self.newer_bytes)
     }
 
-    /// Where a batch of `bytes` bytes goes, counted with its gate. `None`: no half has room for it and a closed gate behind it.
+    /// Where a batch of `bytes` bytes goes, counted with its gate. `None`: no half has room for it and a closed gate after it.
     ///
     /// The journal must be of version 2.
     pub fn place_of(&self, bytes: u64) -> Option<Spot>
@@ -147,7 +147,7 @@ impl Area {
     /// Where a batch of `bytes` bytes goes once one of `appended` bytes stands at the spot. Both are counted with their gates.
     ///
     /// The journal must be of version 2.
-    pub fn place_behind(&self, spot: Spot, appended: u64, bytes: u64) -> Option<Spot>
+    pub fn place_after(&self, spot: Spot, appended: u64, bytes: u64) -> Option<Spot>
         requires { self.now.form ≡ Form.Two }
         ensures { (first entries : List Entry) → entries_size first ≡ appended → entries_size entries ≡ bytes
             → option_map as_place result
@@ -264,7 +264,7 @@ impl Area {
         }
     }
 
-    /// A batch goes live at the spot. The half must have room for it and a closed gate behind it, and the journal be of version 2.
+    /// A batch goes live at the spot. The half must have room for it and a closed gate after it, and the journal be of version 2.
     pub fn join(&mut self, spot: Spot, batch: &Batch)
         requires form { self.old.form ≡ Form.Two }
         requires payload { PayloadFits batch.now.entries }

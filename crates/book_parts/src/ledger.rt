@@ -1,7 +1,7 @@
 ghost use Rattle.std.specs.Prelude.{◌≡◌, ℕ, ◌≤◌, ◌<◌, ◌+◌, ◌^◌, ◌++◌, ◌∷◌, [], length, All, IfOk, IfErr, OnOk, OnErr};
 ghost use Rattle.sii_words.specs.Plant.{words_of};
 
-use crate::judging::entry_bytes;
+use crate::validating::entry_bytes;
 use jrn_format::{Entry, RunList};
 use sii_edit::{Change, Command, Refusal, changes};
 use sii_image::Layout;
@@ -16,7 +16,7 @@ const EMPTY_BATCH: u64 = 8;
 
 /// The commands accepted since a book was opened, the contents after them, and the entries of those that aren't durable yet.
 ///
-/// Contracts see the contents at the open, the commands, how many of them are durable, and how many behind these are being
+/// Contracts see the contents at the open, the commands, how many of them are durable, and how many after these are being
 /// appended to the journal.
 #[derive(Drop)]
 pub struct Ledger {
@@ -94,14 +94,14 @@ impl Ledger {
     /// # Errors
     ///
     /// The command's refusal on the contents after all accepted commands. `Memory` may come in place of any answer.
-    pub fn judge(&self, command: &Command) -> Result<Change, Refusal>
+    pub fn validate(&self, command: &Command) -> Result<Change, Refusal>
         ensures change { IfOk result (λ change. IsChangeOf (contents_of self.now) command.now change) }
         ensures refused { IfErr result (λ refusal. IsRefusalOf (outcome (contents_of self.now) command.now) refusal) }
     {
         changes(self.alloc, &self.contents, &self.layout, command)
     }
 
-    /// Accepts a command with the change that `judge` gave for it on these contents, and queues its entry. Returns its number, counted
+    /// Accepts a command with the change that `validate` gave for it on these contents, and queues its entry. Returns its number, counted
     /// from 0.
     ///
     /// The change must have fewer than 65,536 runs, and fewer than `QUEUE` entries may be queued.

@@ -2,7 +2,6 @@
 #![tactic(auto)]
 
 mod area;
-mod judging;
 mod ledger;
 mod line;
 mod naming;
@@ -13,12 +12,13 @@ mod shown;
 mod sizes;
 mod spot;
 mod unsettled;
+mod validating;
 mod work;
 
 pub use area::Area;
-pub use judging::entry_bytes;
 pub use ledger::Ledger;
 pub use line::LineWork;
 pub use shown::Shown;
 pub use spot::Spot;
-pub use work::Errand;
+pub use validating::entry_bytes;
+pub use work::Operation;

@@ -5,7 +5,7 @@ use crate::opening::open_slaves;
 use crate::reserving::{reserve_all, words_named};
 use crate::retiring::{all_settled, make_older, retire_all};
 use crate::unsettled::least_unsettled;
-use crate::work::{Errand, SlaveWork, issue, word_is_written};
+use crate::work::{Operation, SlaveWork, issue, word_is_written};
 use jrn_format::Entry;
 use sii_words::{History, Plant};
 use std::alloc::{AllocError, Global};
@@ -47,7 +47,7 @@ impl LineWork {
     ghost use Rattle.book_model.specs.Book.{all_cells};
     ghost use Rattle.book_model.specs.Open.{opened_slave};
     ghost use Rattle.book_parts.specs.Line.{AreOfLine, NeverFall, HasRoom, SameButRooms, with_older, with_newer, is_settled, first_unsettled, OweNoMore, retired, slave_at, with_slave, to_do, with_issue, with_written};
-    ghost use Rattle.book_parts.specs.Works.{errand_of};
+    ghost use Rattle.book_parts.specs.Works.{operation_of};
     ghost use Rattle.book_model.specs.Cells.{since, cell_of};
     ghost use Rattle.book_model.specs.Pending.{first};
 
@@ -143,19 +143,19 @@ impl LineWork {
     }
 
     /// What is being done with a word of the slave, which must be one of the line.
-    pub fn errand(&self, slave: usize) -> Errand
+    pub fn operation(&self, slave: usize) -> Operation
         requires { slave < length self.now.slaves }
-        ensures { errand_of result ≡ (slave_at self.now slave).errand }
+        ensures { operation_of result ≡ (slave_at self.now slave).operation }
     {
-        self.works[slave].errand
+        self.works[slave].operation
     }
 
     /// Sets what is being done with a word of the slave, which must be one of the line.
-    pub fn set_errand(&mut self, slave: usize, errand: Errand)
+    pub fn set_operation(&mut self, slave: usize, operation: Operation)
         requires { slave < length self.old.slaves }
-        ensures { self.new ≡ with_slave self.old slave (record (slave_at self.old slave) { errand = errand_of errand }) }
+        ensures { self.new ≡ with_slave self.old slave (record (slave_at self.old slave) { operation = operation_of operation }) }
     {
-        self.works[slave].errand = errand;
+        self.works[slave].operation = operation;
     }
 
     /// Hands out the slave's next word to be issued, with its value; `None` if there is none.

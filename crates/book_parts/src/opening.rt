@@ -2,7 +2,7 @@ ghost use Rattle.std.specs.Prelude.{◌≡◌, ◌≤◌, ℕ, [], length, map, 
 ghost use Rattle.book_model.specs.Open.{opened_slave};
 ghost use Rattle.book_parts.specs.Works.{slave_of, WorkStands, WorksStand};
 
-use crate::work::{Errand, SlaveWork};
+use crate::work::{Operation, SlaveWork};
 use book_model::SlaveQueue;
 use sii_words::{History, Plant};
 use std::alloc::{AllocError, Global};
@@ -16,7 +16,7 @@ fn open_slave(alloc: Global, words: &[u16]) -> Result<SlaveWork, AllocError>
     Ok(SlaveWork {
         queue: SlaveQueue::open(alloc, words)?,
         older: 0,
-        errand: Errand::Free,
+        operation: Operation::NoOperation,
         issued: History::new(),
     })
 }

@@ -10,13 +10,13 @@ ghost use Rattle.book_parts.specs.Spot.{as_place, saturated};
 /// Where a batch goes: into the older half or into the newer one.
 #[derive(Clone, Copy, PartialEq, Eq)]
 pub enum Spot {
-    /// Behind the batches of the older half.
+    /// After the batches of the older half.
     InOlder,
-    /// Behind the batches of the newer half, or at its start.
+    /// After the batches of the newer half, or at its start.
     InNewer,
 }
 
-/// Whether a half of `room` bytes, of which `taken` are used, has room for `bytes` more and a closed gate behind them.
+/// Whether a half of `room` bytes, of which `taken` are used, has room for `bytes` more and a closed gate after them.
 fn has_room(room: u64, taken: u64, bytes: u64) -> bool
     ensures { result ≡ nat_le (taken + bytes + 1) room }
 {

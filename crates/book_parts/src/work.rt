@@ -7,9 +7,9 @@ use sii_words::History;
 
 /// What is being done with a word of a slave.
 #[derive(Clone, Copy, Drop)]
-pub enum Errand {
+pub enum Operation {
     /// Nothing is being done.
-    Free,
+    NoOperation,
     /// `value` is handed out to be issued to `word`.
     Issuing { word: u16, value: u16 },
     /// `word` was issued `value`, and must be settled next. `taken`: the slave took the datagram, as far as is known.
@@ -23,7 +23,7 @@ pub enum Errand {
 pub(crate) struct SlaveWork {
     pub(crate) queue: SlaveQueue,
     pub(crate) older: usize,
-    pub(crate) errand: Errand,
+    pub(crate) operation: Operation,
     /// The words that were handed out to be issued.
     pub(crate) issued: History<u16>,
 }
@@ -35,7 +35,7 @@ pub(crate) fn issue(work: &mut SlaveWork) -> Option<(u16, u16)>
     ensures issued { work.new ≡ work_issued work.old (work_to_do work.old) }
 {
     let (word, value) = work.queue.next_issue()?;
-    work.errand = Errand::Issuing { word, value };
+    work.operation = Operation::Issuing { word, value };
     work.issued.note(&word);
     Some((word, value))
 }
@@ -46,5 +46,5 @@ pub(crate) fn word_is_written(work: &mut SlaveWork, word: u16, value: u16)
     ensures { work.new ≡ work_written work.old word value }
 {
     work.queue.written(word, value);
-    work.errand = Errand::Free;
+    work.operation = Operation::NoOperation;
 }

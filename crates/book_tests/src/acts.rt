@@ -189,7 +189,7 @@ fn comes(alloc: Global, world: &mut World, act: Act) -> bool {
 }
 
 /// Whether all acts succeed.
-fn told(alloc: Global, world: &mut World, acts: &[Act]) -> bool {
+fn reported(alloc: Global, world: &mut World, acts: &[Act]) -> bool {
     for act in acts {
         if !comes(alloc, world, *act) {
             return false;
@@ -202,13 +202,14 @@ fn told(alloc: Global, world: &mut World, acts: &[Act]) -> bool {
 pub(crate) type Case = (Start, &'static [Act], &'static [Act]);
 
 /// Whether all acts of a case succeed.
-pub(crate) fn is_told(alloc: Global, case: &Case) -> bool {
+pub(crate) fn is_reported(alloc: Global, case: &Case) -> bool {
     let (start, acts, then) = case;
     match world_from(alloc, *start) {
         Some(mut world) => {
-            let is_told = told(alloc, &mut world, acts) && told(alloc, &mut world, then);
+            let is_reported = reported(alloc, &mut world, acts)
+                && reported(alloc, &mut world, then);
             drop(world);
-            is_told
+            is_reported
         }
         None => false,
     }

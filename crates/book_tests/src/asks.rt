@@ -15,7 +15,7 @@ pub(crate) enum Ask {
     Swap(u16, u16),
     /// Slave and alias of each edit of a group.
     Group(&'static [(u16, u16)]),
-    /// An image of slave 0 with this alias and check byte and an end mark in word 64. Behind it this number of words have this value.
+    /// An image of slave 0 with this alias and check byte and an end mark in word 64. After it this number of words have this value.
     Image((u8, u8), usize, u16),
     /// Slave, and the words of its TxPDO category.
     Inputs(u16, &'static [u16]),

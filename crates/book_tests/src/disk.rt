@@ -21,7 +21,7 @@ pub(crate) enum Step {
 /// Calls of the book for the disk, and what they must give.
 #[derive(Clone, Copy)]
 pub(crate) enum Disk {
-    /// A batch is appended behind the gate at this place: the number of bytes behind the gate, and the generation.
+    /// A batch is appended after the gate at this place: the number of bytes after the gate, and the generation.
     Append(u16, usize, u8),
     /// The half whose first gate is at this place is retired.
     Retire(u16),

@@ -72,10 +72,10 @@ fn comes(alloc: Global, core: &mut Core, event: &Event) -> Option<bool> {
 }
 
 /// Whether the call gives what it must. Where a growth is refused on purpose, it changes nothing and is made again.
-fn is_told(alloc: Global, core: &mut Core, event: &Event, memory: Memory) -> bool {
+fn is_reported(alloc: Global, core: &mut Core, event: &Event, memory: Memory) -> bool {
     let before = core.status();
     match comes(alloc, core, event) {
-        Some(is_told) => is_told,
+        Some(is_reported) => is_reported,
         None if memory == Memory::Ample || core.status() != before => false,
         None => matches!(comes(alloc, core, event), Some(true)),
     }
@@ -90,10 +90,15 @@ fn times_of(event: &Event) -> u64 {
 }
 
 /// Whether all calls give what they must.
-pub(crate) fn are_told(alloc: Global, core: &mut Core, events: &[Event], memory: Memory) -> bool {
+pub(crate) fn are_reported(
+    alloc: Global,
+    core: &mut Core,
+    events: &[Event],
+    memory: Memory,
+) -> bool {
     for event in events {
         for _time in 0..times_of(event) {
-            if !is_told(alloc, core, event, memory) {
+            if !is_reported(alloc, core, event, memory) {
                 return false;
             }
         }

@@ -87,7 +87,7 @@ fn open(alloc: Global, slaves: Vec<Words>, file: &[u8]) -> Result<Core, JournalF
     }
 }
 
-/// The book of such a line, whose journal has one byte behind its halves. None: memory was refused, or the line has no book.
+/// The book of such a line, whose journal has one byte after its halves. None: memory was refused, or the line has no book.
 fn book(alloc: Global, line: &Line) -> Option<Core> {
     let mut file = [0u8; 65_545];
     let half = usize::from(line.half);

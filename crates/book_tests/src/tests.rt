@@ -6,7 +6,7 @@ use crate::disk::Disk::{Append, Did, Done, Retire, Waits};
 use crate::disk::Step::{Close, Idle, Open, Stop, Sync, Write};
 use crate::events::Call::{Fault, Finish, Migrate, Plan, Status};
 use crate::events::Event::{Call, Disk, Fill, Rom, Submit};
-use crate::events::{Event, are_told};
+use crate::events::{Event, are_reported};
 use crate::line::Memory::{self, Ample, RefusedOnce};
 use crate::line::{Line, Slave, book_of};
 use crate::rom::Rom::{Next, Outcome, Serves, Writes};
@@ -20,22 +20,22 @@ use std::process::Abort;
 type Case = (Line, &'static [Event]);
 
 /// Whether all calls of the case give what they must.
-fn is_told(alloc: Global, case: &Case, memory: Memory) -> bool {
+fn is_reported(alloc: Global, case: &Case, memory: Memory) -> bool {
     let (line, events) = case;
     match book_of(alloc, line, memory) {
         Some(mut core) => {
-            let are_told = are_told(alloc, &mut core, events, memory);
+            let are_reported = are_reported(alloc, &mut core, events, memory);
             drop(core);
-            are_told
+            are_reported
         }
         None => false,
     }
 }
 
 /// Checks that all calls of each case give what they must.
-fn all_told(rt: &impl Abort, alloc: Global, cases: &[Case], memory: Memory) {
+fn all_reported(rt: &impl Abort, alloc: Global, cases: &[Case], memory: Memory) {
     for case in cases {
-        assert!(rt; is_told(alloc, case, memory));
+        assert!(rt; is_reported(alloc, case, memory));
     }
 }
 
@@ -233,15 +233,15 @@ const SERVED: &[Case] = &[
 
 #[test]
 fn commands_are_served(rt: HostRuntime) {
-    all_told(&rt, rt.alloc(), SERVED, Ample);
+    all_reported(&rt, rt.alloc(), SERVED, Ample);
 }
 
 #[test]
-fn commands_are_served_behind_a_refused_growth(rt: HostRuntime) {
-    all_told(&rt, rt.alloc(), SERVED, RefusedOnce);
+fn commands_are_served_after_a_refused_growth(rt: HostRuntime) {
+    all_reported(&rt, rt.alloc(), SERVED, RefusedOnce);
 }
 
-/// The last byte of a half of 2,048 bytes stays free: a batch has an even number of bytes, and a closed gate behind it.
+/// The last byte of a half of 2,048 bytes stays free: a batch has an even number of bytes, and a closed gate after it.
 const FILLED: &[Event] = &[
     Submit(Image((0, 0x30), 1012, 0x1111), Err(SubmitRefusal::TooLarge)),
     Submit(Image((0, 0x30), 1011, 0x1111), Ok(0)),
@@ -278,8 +278,8 @@ const FILLING: &[Event] = &[
     Rom(0, Serves(2, 2)),
 ];
 
-/// While a batch is being appended, a command goes into a batch of its own, which has room behind it.
-const BEHIND: &[Event] = &[
+/// While a batch is being appended, a command goes into a batch of its own, which has room after it.
+const AFTER: &[Event] = &[
     Submit(Image((0, 0x30), 900, 0x1111), Ok(0)),
     Disk(Did(Write(9, 1824, 0))),
     Submit(Image((0, 0x30), 1011, 0x2222), Ok(1)),
@@ -341,7 +341,7 @@ const COME_TO: &[Event] = &[
 const HALVES: &[Case] = &[
     (LONG_ALONE, FILLED),
     (LONG_ALONE, FILLING),
-    (LONG_ALONE, BEHIND),
+    (LONG_ALONE, AFTER),
     (
         Line {
             slaves: &[LONG],
@@ -380,12 +380,12 @@ const HALVES: &[Case] = &[
 
 #[test]
 fn halves_are_filled_and_retired(rt: HostRuntime) {
-    all_told(&rt, rt.alloc(), HALVES, Ample);
+    all_reported(&rt, rt.alloc(), HALVES, Ample);
 }
 
 #[test]
-fn halves_are_filled_behind_a_refused_growth(rt: HostRuntime) {
-    all_told(&rt, rt.alloc(), HALVES, RefusedOnce);
+fn halves_are_filled_after_a_refused_growth(rt: HostRuntime) {
+    all_reported(&rt, rt.alloc(), HALVES, RefusedOnce);
 }
 
 /// A slave gets alias 1, as a batch of version 1.
@@ -511,12 +511,12 @@ const OLD: &[Case] = &[
 
 #[test]
 fn old_journals_are_migrated_and_the_process_image_follows(rt: HostRuntime) {
-    all_told(&rt, rt.alloc(), OLD, Ample);
+    all_reported(&rt, rt.alloc(), OLD, Ample);
 }
 
 #[test]
-fn old_journals_are_migrated_behind_a_refused_growth(rt: HostRuntime) {
-    all_told(&rt, rt.alloc(), OLD, RefusedOnce);
+fn old_journals_are_migrated_after_a_refused_growth(rt: HostRuntime) {
+    all_reported(&rt, rt.alloc(), OLD, RefusedOnce);
 }
 
 const WIDE: Line = Line {
@@ -539,10 +539,10 @@ const QUEUES: &[Case] = &[(WIDE, QUEUED)];
 
 #[test]
 fn the_queue_holds_1024_commands(rt: HostRuntime) {
-    all_told(&rt, rt.alloc(), QUEUES, Ample);
+    all_reported(&rt, rt.alloc(), QUEUES, Ample);
 }
 
 #[test]
-fn the_queue_is_filled_behind_a_refused_growth(rt: HostRuntime) {
-    all_told(&rt, rt.alloc(), QUEUES, RefusedOnce);
+fn the_queue_is_filled_after_a_refused_growth(rt: HostRuntime) {
+    all_reported(&rt, rt.alloc(), QUEUES, RefusedOnce);
 }

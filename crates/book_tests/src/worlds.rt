@@ -3,7 +3,7 @@
 use crate::acts::Act::{Action, Alias, Begin, Migrate, Open, Rest, Rom, Sees, Stop, Word};
 use crate::acts::Seen::{Book, Byte, Down, Slave};
 use crate::acts::Start::{Bytes, Formatted};
-use crate::acts::{Act, Case, is_told};
+use crate::acts::{Act, Case, is_reported};
 use crate::random::count_well;
 use world_run::{LeftByte, LeftWord, WordEnd};
 
@@ -67,7 +67,7 @@ const TORN_GATES: &[Case] = &[
 #[test]
 fn gates_are_torn(rt: HostRuntime) {
     for case in TORN_GATES {
-        assert!(rt; is_told(rt.alloc(), case));
+        assert!(rt; is_reported(rt.alloc(), case));
     }
 }
 
@@ -123,7 +123,7 @@ const TORN_RETIRES: &[Case] = &[
 #[test]
 fn retires_are_torn(rt: HostRuntime) {
     for case in TORN_RETIRES {
-        assert!(rt; is_told(rt.alloc(), case));
+        assert!(rt; is_reported(rt.alloc(), case));
     }
 }
 
@@ -196,7 +196,7 @@ const TORN_WORDS: &[Case] = &[
 #[test]
 fn words_are_torn(rt: HostRuntime) {
     for case in TORN_WORDS {
-        assert!(rt; is_told(rt.alloc(), case));
+        assert!(rt; is_reported(rt.alloc(), case));
     }
 }
 
@@ -333,7 +333,7 @@ const TORN_MIGRATIONS: &[Case] = &[
 #[test]
 fn migrations_are_torn(rt: HostRuntime) {
     for case in TORN_MIGRATIONS {
-        assert!(rt; is_told(rt.alloc(), case));
+        assert!(rt; is_reported(rt.alloc(), case));
     }
 }
 
@@ -375,5 +375,7 @@ const MIGRATED_LIVE: Case = (
 
 #[test]
 fn live_journals_are_migrated_and_random_lists_kept(rt: HostRuntime) {
-    assert!(rt; is_told(rt.alloc(), &MIGRATED_LIVE) && count_well(rt.alloc(), 10_000) == 10_000);
+    assert!(rt;
+        is_reported(rt.alloc(), &MIGRATED_LIVE) && count_well(rt.alloc(), 10_000) == 10_000
+    );
 }

@@ -190,7 +190,7 @@ fn push_marked(
     push_quoted(words, text)
 }
 
-/// The names of a program's subcommands, each behind a blank.
+/// The names of a program's subcommands, each after a blank.
 fn push_names(program: &Command<'_>, text: &mut String) -> Result<(), AllocError> {
     for subcommand in program.get_subcommands() {
         push_all(text, &[" ", subcommand.get_name()])?;
@@ -212,7 +212,7 @@ fn push_quoted(quoted: &str, text: &mut String) -> Result<(), AllocError> {
     Ok(())
 }
 
-/// These texts, one behind the other.
+/// These texts, one after the other.
 pub(crate) fn push_all(text: &mut String, parts: &[&str]) -> Result<(), AllocError> {
     for part in parts {
         text.push_str(part)?;

@@ -10,7 +10,7 @@ use std::time::Duration;
 
 /// What the words of a command line give: a subcommand, and the arguments that are there.
 #[derive(Drop)]
-pub struct Given<'a> {
+pub struct ParsedArguments<'a> {
     /// The name of the subcommand.
     pub subcommand: &'a str,
     values: Vec<Value<'a>>,
@@ -25,10 +25,10 @@ struct Value<'a> {
     text: &'a str,
 }
 
-impl<'a> Given<'a> {
+impl<'a> ParsedArguments<'a> {
     /// This subcommand, with no argument yet.
-    pub(crate) fn of(alloc: Global, subcommand: &'a str) -> Given<'a> {
-        Given {
+    pub(crate) fn of(alloc: Global, subcommand: &'a str) -> ParsedArguments<'a> {
+        ParsedArguments {
             subcommand,
             values: Vec::new(alloc),
             commands: Vec::new(alloc),

@@ -19,7 +19,7 @@ mod unread;
 pub use argument::{Argument, Kind};
 pub use completions::{Shell, completion_script};
 pub use escaped::Escaped;
-pub use given::{Given, is_digits};
+pub use given::{ParsedArguments, is_digits};
 pub use input_script::{INPUT, InputScript, Script, TYPED};
 pub use launched::{TEXT, TIMEOUT, WIRE};
 pub use manual::manual_page;

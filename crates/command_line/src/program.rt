@@ -12,7 +12,7 @@ pub struct Program<'p> {
     pub name: &'static str,
     /// What it does, in one line.
     pub about: &'static str,
-    /// What `--version` prints behind its name.
+    /// What `--version` prints after its name.
     pub version: &'static str,
     /// What stands at the end of its help.
     pub after_help: &'static str,

@@ -1,6 +1,6 @@
 //! Reads the words of a command line.
 
-use crate::given::Given;
+use crate::given::ParsedArguments;
 use crate::program::{Program, described};
 use crate::unread::{Unread, why_unread};
 use clap::error::ErrorKind;
@@ -16,7 +16,7 @@ pub fn read_words<'a>(
     alloc: Global,
     program: Program<'_>,
     words: &'a [String],
-) -> Result<Given<'a>, Unread> {
+) -> Result<ParsedArguments<'a>, Unread> {
     match given_in(alloc, program, words) {
         Ok(given) => Ok(given),
         Err(error) => Err(why_unread(alloc, &error)),
@@ -27,7 +27,7 @@ fn given_in<'a>(
     alloc: Global,
     program: Program<'_>,
     words: &'a [String],
-) -> Result<Given<'a>, Error> {
+) -> Result<ParsedArguments<'a>, Error> {
     let mut command = described(alloc, program)?;
     let read = read_with(alloc, program, &mut command, words);
     drop(command);
@@ -39,7 +39,7 @@ fn read_with<'a>(
     program: Program<'_>,
     command: &mut Command<'a>,
     words: &'a [String],
-) -> Result<Given<'a>, Error> {
+) -> Result<ParsedArguments<'a>, Error> {
     let matches = command.try_get_matches_from_mut(words)?;
     let given = given_by(alloc, program, &matches);
     drop(matches);
@@ -51,12 +51,12 @@ fn given_by<'a>(
     alloc: Global,
     program: Program<'_>,
     matches: &ArgMatches<'a>,
-) -> Result<Given<'a>, AllocError> {
+) -> Result<ParsedArguments<'a>, AllocError> {
     let (name, found) = match matches.subcommand() {
         Some((name, found)) => (name, found),
         None => ("", matches),
     };
-    let mut given = Given::of(alloc, name);
+    let mut given = ParsedArguments::of(alloc, name);
     given.take_all(program.options, matches)?;
     for subcommand in program.subcommands {
         if subcommand.name == name {
@@ -103,7 +103,7 @@ pub fn read_typed(
     alloc: Global,
     program: Program<'_>,
     words: &[String],
-    given: &Given<'_>,
+    given: &ParsedArguments<'_>,
 ) -> Result<Option<Vec<u8>>, Unread> {
     match given.typed(alloc) {
         Err(Unread::Wrong(text)) => Err(refuse(alloc, program, words, text.as_str())),

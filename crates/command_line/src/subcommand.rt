@@ -49,7 +49,7 @@ pub(crate) fn described_arguments<'a>(
     Ok(described)
 }
 
-/// The command with these subcommands behind those that it has.
+/// The command with these subcommands after those that it has.
 pub(crate) fn with_subcommands<'a>(
     alloc: Global,
     command: Command<'a>,

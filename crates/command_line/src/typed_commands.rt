@@ -28,13 +28,13 @@ pub const TYPED_COMMANDS: Argument = Argument {
 /// What is wrong with a command that isn't one line of TOML on its own; or memory was refused.
 pub(crate) fn typed_text(alloc: Global, commands: &[&str]) -> Result<Vec<u8>, Unread> {
     for command in commands {
-        judge(alloc, command)?;
+        validate(alloc, command)?;
     }
     Ok(typed_script(alloc, commands)?)
 }
 
 /// Refuses a typed command that isn't one line of TOML on its own.
-fn judge(alloc: Global, line: &str) -> Result<(), Unread> {
+fn validate(alloc: Global, line: &str) -> Result<(), Unread> {
     if !is_line(line) {
         let flaw = "a command behind -e is one line, as in a script behind [[command]]";
         return Err(Unread::of_text(String::from_str(alloc, flaw)));
@@ -68,7 +68,7 @@ fn is_line(command: &str) -> bool
     !bytes.contains(&b'\n') && !bytes.contains(&b'\r')
 }
 
-/// Returns the text of a script file with these commands, in order: each one is the line behind a `[[command]]`.
+/// Returns the text of a script file with these commands, in order: each one is the line after a `[[command]]`.
 ///
 /// # Errors
 ///

@@ -61,7 +61,7 @@ orders-none slave xs ys none =
     ∙ ap (λ (l : List Segment). slave_orders xs slave ++ flat_map (segment_orders slave) (enumerate_from (units_of slave xs) l)) none
     ∙ append-nil (slave_orders xs slave)
 
--- and one that finds one is behind the others
+-- and one that finds one is after the others
 orders-one : (slave : ℕ) (xs : List Segment) (x : Segment) → found slave xs (x ∷ []) ≡ x ∷ []
     → slave_orders (xs ++ x ∷ []) slave ≡ slave_orders xs slave ++ segment_orders slave (units_of slave xs, x)
 orders-one slave xs x one =
@@ -97,7 +97,7 @@ finds_none_when_full slave xs ys full =
 
 -- ---- One segment more.
 
--- what holds behind the first segments holds behind the next one
+-- what holds after the first segments holds after the next one
 pub record Goes (slave : ℕ) (segments : List Segment) (i : ℕ) (unit : ℕ) (orders : List Pdu) : Type 0 where
   pub unit_is : unit ≡ units_of slave (take i segments)
   pub orders_are : orders ≡ slave_orders (take i segments) slave
@@ -130,7 +130,7 @@ goes_further slave segments i d unit within own room is =
           ∙ sym (ap (λ (l : List Segment). slave_orders l slave) next ∙ orders-one slave (take i segments) (get_or segments i d) one);
     }
 
--- the datagrams behind those for the first segments
+-- the datagrams after those for the first segments
 pub rest_of_slave : (slave : ℕ) (segments : List Segment) (i : ℕ) → (rest : List Pdu) × (slave_orders segments slave ≡ slave_orders (take i segments) slave ++ rest)
 rest_of_slave slave segments i =
     (_, ap (λ (l : List Segment). slave_orders l slave) (sym (take-append-drop i segments)) ∙ slave_orders-append slave (take i segments) (drop i segments))

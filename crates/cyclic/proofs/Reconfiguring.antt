@@ -17,9 +17,9 @@ use Rattle.cyclic.proofs.Writing.{IsWriteTo, orders_to, IsHalf, after-half, afte
 
 -- ---- A list of datagrams, slave by slave.
 
-record BySlave (whole : ℕ → List Pdu) (part : ℕ → List Pdu) : Type 0 where
-  none : whole 0 ≡ []
-  more : (n : ℕ) → whole (suc n) ≡ whole n ++ part n
+record BySlave (entire : ℕ → List Pdu) (part : ℕ → List Pdu) : Type 0 where
+  none : entire 0 ≡ []
+  more : (n : ℕ) → entire (suc n) ≡ entire n ++ part n
   own : (slave : ℕ) → slave < 64 → AllByRecursion (IsWriteTo slave) (part slave)
 
 configuring_by_slave : (segments : List Segment) → BySlave (λ n. configuring n segments) (slave_orders segments)
@@ -55,34 +55,34 @@ reconfiguring_by_slave old new = record {
 after-append : (half : ProcessMemory) (a b : List Pdu) → after half (a ++ b) ≡ after (after half a) b
 after-append half a b = fold-append after_one half a b
 
-after_next : (whole part : ℕ → List Pdu) → BySlave whole part → (n : ℕ) (half : ProcessMemory) → after half (whole (suc n)) ≡ after (after half (whole n)) (part n)
-after_next whole part by n half = ap (λ (l : List Pdu). after half l) (by.more n) ∙ after-append half (whole n) (part n)
+after_next : (entire part : ℕ → List Pdu) → BySlave entire part → (n : ℕ) (half : ProcessMemory) → after half (entire (suc n)) ≡ after (after half (entire n)) (part n)
+after_next entire part by n half = ap (λ (l : List Pdu). after half l) (by.more n) ∙ after-append half (entire n) (part n)
 
 -- a half of none of these slaves stays as it is
-far : (whole part : ℕ → List Pdu) → BySlave whole part → (at n : ℕ) → n ≤ 64 → ((slave : ℕ) → slave < n → at ≢ 0x1001 + slave) → (half : ProcessMemory) → IsHalf at half
-    → after half (whole n) ≡ half
-far whole part by at zero few other half is = ap (λ (l : List Pdu). after half l) by.none
-far whole part by at (suc n) few other half is =
-    let before : after half (whole n) ≡ half = far whole part by at n (omega arith) (λ slave low. other slave (omega arith)) half is in
-    after_next whole part by n half ∙ ap (λ (h : ProcessMemory). after h (part n)) before
+far : (entire part : ℕ → List Pdu) → BySlave entire part → (at n : ℕ) → n ≤ 64 → ((slave : ℕ) → slave < n → at ≢ 0x1001 + slave) → (half : ProcessMemory) → IsHalf at half
+    → after half (entire n) ≡ half
+far entire part by at zero few other half is = ap (λ (l : List Pdu). after half l) by.none
+far entire part by at (suc n) few other half is =
+    let before : after half (entire n) ≡ half = far entire part by at n (omega arith) (λ slave low. other slave (omega arith)) half is in
+    after_next entire part by n half ∙ ap (λ (h : ProcessMemory). after h (part n)) before
     ∙ after-elsewhere at n (other n (omega arith)) (part n) half (by.own n (omega arith)) is
 
 -- that of one of them goes through its own part
-near : (whole part : ℕ → List Pdu) → BySlave whole part → (at slave n : ℕ) → n ≤ 64 → slave < n → at ≡ 0x1001 + slave → (half : ProcessMemory) → IsHalf at half
-    → after half (whole n) ≡ after half (part slave)
-near whole part by at slave zero few low here half is = absurd (omega arith)
-near whole part by at slave (suc n) few low here half is =
+near : (entire part : ℕ → List Pdu) → BySlave entire part → (at slave n : ℕ) → n ≤ 64 → slave < n → at ≡ 0x1001 + slave → (half : ProcessMemory) → IsHalf at half
+    → after half (entire n) ≡ after half (part slave)
+near entire part by at slave zero few low here half is = absurd (omega arith)
+near entire part by at slave (suc n) few low here half is =
     elim (eqb_tells slave n) [
       | inl last ↦
           let same : slave ≡ n = last.1 in
-          let before : after half (whole n) ≡ half = far whole part by at n (omega arith) (λ k below e. let clash : 0x1001 + slave ≡ 0x1001 + k = sym here ∙ e in absurd (omega arith)) half is in
-          after_next whole part by n half ∙ ap (λ (h : ProcessMemory). after h (part n)) before ∙ ap (λ k. after half (part k)) (sym same)
+          let before : after half (entire n) ≡ half = far entire part by at n (omega arith) (λ k below e. let clash : 0x1001 + slave ≡ 0x1001 + k = sym here ∙ e in absurd (omega arith)) half is in
+          after_next entire part by n half ∙ ap (λ (h : ProcessMemory). after h (part n)) before ∙ ap (λ k. after half (part k)) (sym same)
       | inr earlier ↦
-          let apart : slave ≢ n = earlier.1 in
-          let other : at ≢ 0x1001 + n = λ e. let clash : 0x1001 + slave ≡ 0x1001 + n = sym here ∙ e in apart (omega arith) in
-          let before : after half (whole n) ≡ after half (part slave) = near whole part by at slave n (omega arith) (omega arith) here half is in
+          let separate : slave ≢ n = earlier.1 in
+          let other : at ≢ 0x1001 + n = λ e. let clash : 0x1001 + slave ≡ 0x1001 + n = sym here ∙ e in separate (omega arith) in
+          let before : after half (entire n) ≡ after half (part slave) = near entire part by at slave n (omega arith) (omega arith) here half is in
           let half_is : IsHalf at (after half (part slave)) = after-half at slave (part slave) half (by.own slave (omega arith)) is in
-          after_next whole part by n half ∙ ap (λ (h : ProcessMemory). after h (part n)) before
+          after_next entire part by n half ∙ ap (λ (h : ProcessMemory). after h (part n)) before
           ∙ after-elsewhere at n other (part n) (after half (part slave)) (by.own n (omega arith)) half_is
     ]
 

@@ -122,7 +122,7 @@ sends_one order sent is old result back new exchanges = record {
   leaves = exchanges.leaves;
 }
 
--- and others behind them
+-- and others after them
 pub sends_then : (a b : List Pdu) (old mid new : Seen) (result : Result (Unit {0}) CycleFault) → SendsInOrder a old (Ok tt) mid → SendsInOrder b mid result new
     → SendsInOrder (a ++ b) old result new
 sends_then a b old mid new result first second = record {
@@ -133,13 +133,13 @@ sends_then a b old mid new result first second = record {
 }
 
 -- none of which goes out behind a fault
-pub sends_cut : (a b whole : List Pdu) → whole ≡ a ++ b → (old new : Seen) (fault : CycleFault) (result : Result (Unit {0}) CycleFault) → result ≡ Err fault
-    → SendsInOrder a old (Err fault) new → SendsInOrder whole old result new
-sends_cut a b whole split old new fault result is sends =
+pub sends_cut : (a b entire : List Pdu) → entire ≡ a ++ b → (old new : Seen) (fault : CycleFault) (result : Result (Unit {0}) CycleFault) → result ≡ Err fault
+    → SendsInOrder a old (Err fault) new → SendsInOrder entire old result new
+sends_cut a b entire split old new fault result is sends =
     let cut : SendsInOrder (a ++ b) old (Err fault) new =
     record { turns = sends.turns; added = sends.added; are_sent = broken_off a b sends.turns fault sends.are_sent; leaves = sends.leaves } in
-    let so : SendsInOrder whole old (Err fault) new = subst (λ (o : List Pdu). SendsInOrder o old (Err fault) new) (sym split) cut in
-    subst (λ (r : Result (Unit {0}) CycleFault). SendsInOrder whole old r new) (sym is) so
+    let so : SendsInOrder entire old (Err fault) new = subst (λ (o : List Pdu). SendsInOrder o old (Err fault) new) (sym split) cut in
+    subst (λ (r : Result (Unit {0}) CycleFault). SendsInOrder entire old r new) (sym is) so
 
 pub sends_same : (orders others : List Pdu) → orders ≡ others → (old new : Seen) (result : Result (Unit {0}) CycleFault) → SendsInOrder orders old result new → SendsInOrder others old result new
 sends_same orders others is old new result sends = subst (λ (o : List Pdu). SendsInOrder o old result new) is sends

@@ -55,8 +55,8 @@ turn_fails image (Err device.Lost) inputs fault gives = let is : fault ≡ cycle
 turn_fails image (Err device.Stopped) inputs fault gives = let is : fault ≡ cycle.Stopped = cc in ap (λ (f : CycleFault). record { result = Err f; inputs = inputs }) is
 
 -- the result of a call, as another call returns it
-leaves_told : (count : ℕ) (old : Seen) (fault : CycleFault) (new : Seen) → LeavesAll {T = Unit {0}} count old (Err fault) new → LeavesAll {T = ℕ} count old (Err fault) new
-leaves_told count old fault new leaves = record {
+leaves_reported : (count : ℕ) (old : Seen) (fault : CycleFault) (new : Seen) → LeavesAll {T = Unit {0}} count old (Err fault) new → LeavesAll {T = ℕ} count old (Err fault) new
+leaves_reported count old fault new leaves = record {
   calls = leaves.calls;
   past = leaves.past;
   clock = leaves.clock;
@@ -76,7 +76,7 @@ turn_failed image outputs inputs expected counter sent order old fault result is
     let here : Exchanges image.counter (turn_order image outputs ∷ []) old (Err fault) back new =
     subst (λ (s : List Pdu). Exchanges image.counter s old (Err fault) back new) order (subst (λ n. Exchanges n sent old (Err fault) back new) counter exchanges) in
     let failed : TakesTurn image outputs inputs old (Err fault) inputs new =
-    record { answer = here.answer; turn = here.turn; gives = turn_fails image here.answer inputs fault here.gives; leaves = leaves_told 1 old fault new here.leaves } in
+    record { answer = here.answer; turn = here.turn; gives = turn_fails image here.answer inputs fault here.gives; leaves = leaves_reported 1 old fault new here.leaves } in
     subst (λ (r : Result ℕ CycleFault). TakesTurn image outputs inputs old r inputs new) (sym is) failed
 
 -- ---- What the frame brought.

@@ -74,7 +74,7 @@ length-overlaid : (bytes over : List ℕ) (at : ℕ) → at + length over ≤ le
 length-overlaid bytes over at inside =
     simp (length-append, length-take, length-drop) (omega arith)
 
--- ---- What a byte is behind a write.
+-- ---- What a byte is after a write.
 
 below_it : (bytes over : List ℕ) (at i : ℕ) → at + length over ≤ length bytes → i < at → get_or (overlaid bytes at over) i 0 ≡ get_or bytes i 0
 below_it bytes over at i inside low =
@@ -88,8 +88,8 @@ within_it bytes over at i inside low high =
     let both : i < length (take at bytes ++ over) = omega (arith, length-append (take at bytes) over) in
     get_or_append_left (take at bytes ++ over) (drop (at + length over) bytes) 0 i both ∙ get_or-append_right (take at bytes) over at i 0 count low
 
-behind_it : (bytes over : List ℕ) (at i : ℕ) → at + length over ≤ length bytes → at + length over ≤ i → get_or (overlaid bytes at over) i 0 ≡ get_or bytes i 0
-behind_it bytes over at i inside high =
+after_it : (bytes over : List ℕ) (at i : ℕ) → at + length over ≤ length bytes → at + length over ≤ i → get_or (overlaid bytes at over) i 0 ≡ get_or bytes i 0
+after_it bytes over at i inside high =
     let count : length (take at bytes ++ over) ≡ at + length over = omega (arith, length-append (take at bytes) over, length-take at bytes) in
     let place : (at + length over) + (i - (at + length over)) ≡ i = omega arith in
     get_or-append_right (take at bytes ++ over) (drop (at + length over) bytes) (at + length over) i 0 count high
@@ -116,7 +116,7 @@ pub after-half : (at slave : ℕ) (orders : List Pdu) (half : ProcessMemory) →
 after-half at slave [] half all is = is
 after-half at slave (order ∷ orders) half all is = after-half at slave orders (after_one half order) all.1 (after_one-half at half order all.0.command is)
 
--- ---- Behind them a byte is what it was, or what they make it.
+-- ---- After them a byte is what it was, or what they make it.
 
 abbrev Same : ℕ → ℕ → List Pdu → Type 0
 Same at i orders = (half : ProcessMemory) → IsHalf at half → get_or (after half orders).bytes i 0 ≡ get_or half.bytes i 0
@@ -124,7 +124,7 @@ Same at i orders = (half : ProcessMemory) → IsHalf at half → get_or (after h
 abbrev Set : ℕ → ℕ → List Pdu → Type 0
 Set at i orders = (value : ℕ) × ((half : ProcessMemory) → IsHalf at half → get_or (after half orders).bytes i 0 ≡ value)
 
--- a byte behind one of them
+-- a byte after one of them
 SameOne : ℕ → ℕ → Pdu → Type 0
 SameOne at i order = (half : ProcessMemory) → IsHalf at half → get_or (after_one half order).bytes i 0 ≡ get_or half.bytes i 0
 
@@ -146,8 +146,8 @@ one_order at i order command true taken =
       | inr low ↦ inl (λ half is. byte_of at i order command true taken half is
           ∙ below_it half.bytes order.content register i (let n : length half.bytes ≡ 65536 = is.length_is in omega arith) low)
       | inl high ↦ elim (le_or_lt (register + length order.content) i) [
-        | inl behind ↦ inl (λ half is. byte_of at i order command true taken half is
-            ∙ behind_it half.bytes order.content register i (let n : length half.bytes ≡ 65536 = is.length_is in omega arith) behind)
+        | inl afterwards ↦ inl (λ half is. byte_of at i order command true taken half is
+            ∙ after_it half.bytes order.content register i (let n : length half.bytes ≡ 65536 = is.length_is in omega arith) afterwards)
         | inr inner ↦ inr (
           get_or order.content (i - register) 0,
           λ half is. byte_of at i order command true taken half is

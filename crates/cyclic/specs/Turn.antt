@@ -19,7 +19,7 @@ pub record Given : Type 0 where
   pub result : Result ℕ CycleFault
   pub inputs : List ℕ
 
--- The inputs become the bytes behind the outputs in what came back, if its working counter is that of all slaves.
+-- The inputs become the bytes after the outputs in what came back, if its working counter is that of all slaves.
 abbrev pub given_by : ProcessImageParts → Pdu → (inputs : List ℕ) → Given
 given_by image reply inputs =
     if reply.counter == image.counter

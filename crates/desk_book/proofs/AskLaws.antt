@@ -27,7 +27,7 @@ module _ (book : Book) (command : Command) where
   room-numbered new false true l f = rw (l, f) tt
   room-numbered new false false l f = rw (l, f) (refl, few (length book.accepted) _ _ f)
 
-  sized-numbered : (judged : Result (List (List ℕ)) Refusal) → IsNumbered book (sized book judged)
+  sized-numbered : (validated : Result (List (List ℕ)) Refusal) → IsNumbered book (sized book validated)
   sized-numbered (Ok new) = room-numbered new (is_too_large book (runs_between (contents_of book) new)) (is_full book (runs_between (contents_of book) new)) refl refl
   sized-numbered (Err refusal) = tt
 

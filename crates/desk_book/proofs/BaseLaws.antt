@@ -5,7 +5,7 @@ use Rattle.jrn_format.specs.declared.journal.Entry.{Entry}
 use Rattle.book_model.specs.Entries.{runs_of}
 use Rattle.book_model.specs.Book.{Book, base_of}
 use Rattle.desk_book.specs.declared.call.Call.{Call}
-use Rattle.desk_book.specs.declared.call.Call.TheVariants.{Submitted, DiskAsked, DiskTold, SlaveAsked, SlaveTold, PlanAsked, Finished}
+use Rattle.desk_book.specs.declared.call.Call.TheVariants.{Submitted, DiskAsked, DiskReported, SlaveAsked, SlaveReported, PlanAsked, Finished}
 use Rattle.desk_book.specs.Calls.{after, replayed}
 use Rattle.desk_book.proofs.KeptLaws.{Keeps, keeps-disk_next, keeps-disk_done, keeps-rom_next, keeps-rom_done}
 
@@ -17,9 +17,9 @@ base-after : (book : Book) (call : Call) → base_of (after book call) ≡ base_
 base-after book (Submitted command (Ok number)) = refl
 base-after book (Submitted command (Err refusal)) = refl
 base-after book (DiskAsked answer) = base-kept book (after book (DiskAsked answer)) (keeps-disk_next book)
-base-after book (DiskTold outcome) = base-kept book (after book (DiskTold outcome)) (keeps-disk_done book outcome)
+base-after book (DiskReported outcome) = base-kept book (after book (DiskReported outcome)) (keeps-disk_done book outcome)
 base-after book (SlaveAsked slave answer) = base-kept book (after book (SlaveAsked slave answer)) (keeps-rom_next book slave)
-base-after book (SlaveTold slave outcome) = base-kept book (after book (SlaveTold slave outcome)) (keeps-rom_done book slave outcome)
+base-after book (SlaveReported slave outcome) = base-kept book (after book (SlaveReported slave outcome)) (keeps-rom_done book slave outcome)
 base-after book (PlanAsked answer) = refl
 base-after book Finished = refl
 

@@ -16,17 +16,17 @@ use Rattle.desk_book.specs.Asking.{is_disk_job, is_rom_job, TellsDisk, TellsSlav
 
 -- neither a job nor `Stop`
 pub disk-idle : (answer : DiskNext) → is_disk_job answer ≡ false → answer ≢ disk.Stop → answer ≡ disk.Idle
-disk-idle disk.Idle none apart = refl
-disk-idle disk.Stop none apart = absurd (apart refl)
-disk-idle disk.Sync none apart = absurd cc
-disk-idle (disk.Write at bytes) none apart = absurd cc
-disk-idle (disk.Gate at closed) none apart = absurd cc
+disk-idle disk.Idle none separate = refl
+disk-idle disk.Stop none separate = absurd (separate refl)
+disk-idle disk.Sync none separate = absurd cc
+disk-idle (disk.Write at bytes) none separate = absurd cc
+disk-idle (disk.Gate at closed) none separate = absurd cc
 
 pub rom-idle : (answer : RomNext) → is_rom_job answer ≡ false → answer ≢ rom.Stop → answer ≡ rom.Idle
-rom-idle rom.Idle none apart = refl
-rom-idle rom.Stop none apart = absurd (apart refl)
-rom-idle (rom.Issue word value) none apart = absurd cc
-rom-idle (rom.Settle taken) none apart = absurd cc
+rom-idle rom.Idle none separate = refl
+rom-idle rom.Stop none separate = absurd (separate refl)
+rom-idle (rom.Issue word value) none separate = absurd cc
+rom-idle (rom.Settle taken) none separate = absurd cc
 
 -- the history has one more call, and nothing else changes
 pub noted-call : (calls later : List Call) (tickets refusals : ℕ) (pool : Pooled) (stopped : Bool) (seen : Status) (old : Serving) (noted call : Call)

@@ -8,7 +8,7 @@ use Rattle.book_model.specs.Cells.{cell_of}
 use Rattle.book_model.specs.declared.next.DiskNext.{DiskNext}
 use Rattle.book_model.specs.declared.next.RomOutcome.{RomOutcome}
 use Rattle.book_model.specs.declared.next.RomOutcome.TheVariants as outcomes
-use Rattle.book_model.specs.Book.{Book, Doing, Resting, Payload, PayloadSync, OpenGate, OpenSync, CloseGate, CloseSync, FarGate, Mark, MarkSync, Version, VersionSync, Errand, Free, Issuing, Unsettled, Settling, slave_at}
+use Rattle.book_model.specs.Book.{Book, Doing, Resting, Payload, PayloadSync, OpenGate, OpenSync, CloseGate, CloseSync, FarGate, Mark, MarkSync, Version, VersionSync, Operation, NoOperation, Issuing, Unsettled, Settling, slave_at}
 use Rattle.book_model.specs.DiskSteps.{action_of, doing_next, disk_next, went_on, disk_done}
 use Rattle.book_model.specs.RomSteps.{to_do, is_last, with_again, rom_next, rom_done}
 
@@ -63,26 +63,26 @@ keeps-disk_done book result = done-keeps book book.is_handed_out result refl
 
 -- ---- a slave
 
-rom-keeps : (book : Book) (i : ℕ) (inside failed : Bool) (errand : Errand) (todo : List (ℕ × ℕ)) → nat_lt i (length book.slaves) ≡ inside → (slave_at book i).errand ≡ errand
+rom-keeps : (book : Book) (i : ℕ) (inside failed : Bool) (operation : Operation) (todo : List (ℕ × ℕ)) → nat_lt i (length book.slaves) ≡ inside → (slave_at book i).operation ≡ operation
     → is_some book.fault ≡ failed → to_do book i ≡ todo → Keeps book (rom_next book i).1
-rom-keeps book i false failed errand todo n e f t = rw n (record { words = refl; found = refl; accepted = refl })
-rom-keeps book i true true Free todo n e f t = rw (n, e, f) (record { words = refl; found = refl; accepted = refl })
-rom-keeps book i true false Free [] n e f t = rw (n, e, f, t) (record { words = refl; found = refl; accepted = refl })
-rom-keeps book i true false Free (w ∷ others) n e f t = rw (n, e, f, t) (record { words = refl; found = refl; accepted = refl })
+rom-keeps book i false failed operation todo n e f t = rw n (record { words = refl; found = refl; accepted = refl })
+rom-keeps book i true true NoOperation todo n e f t = rw (n, e, f) (record { words = refl; found = refl; accepted = refl })
+rom-keeps book i true false NoOperation [] n e f t = rw (n, e, f, t) (record { words = refl; found = refl; accepted = refl })
+rom-keeps book i true false NoOperation (w ∷ others) n e f t = rw (n, e, f, t) (record { words = refl; found = refl; accepted = refl })
 rom-keeps book i true failed (Issuing word value) todo n e f t = rw (n, e) (record { words = refl; found = refl; accepted = refl })
 rom-keeps book i true true (Unsettled word value taken) todo n e f t = rw (n, e, f) (record { words = refl; found = refl; accepted = refl })
 rom-keeps book i true false (Unsettled word value taken) todo n e f t = rw (n, e, f) (record { words = refl; found = refl; accepted = refl })
 rom-keeps book i true failed (Settling word value taken) todo n e f t = rw (n, e) (record { words = refl; found = refl; accepted = refl })
 
 pub keeps-rom_next : (book : Book) (i : ℕ) → Keeps book (rom_next book i).1
-keeps-rom_next book i = rom-keeps book i (nat_lt i (length book.slaves)) (is_some book.fault) (slave_at book i).errand (to_do book i) refl refl refl refl
+keeps-rom_next book i = rom-keeps book i (nat_lt i (length book.slaves)) (is_some book.fault) (slave_at book i).operation (to_do book i) refl refl refl refl
 
 again-keeps : (book : Book) (i word : ℕ) (last : Bool) → is_last (cell_of (slave_at book i).cells word).known ≡ last → Keeps book (with_again book i word)
 again-keeps book i word true is = rw is (record { words = refl; found = refl; accepted = refl })
 again-keeps book i word false is = rw is (record { words = refl; found = refl; accepted = refl })
 
-back-keeps : (book : Book) (i : ℕ) (errand : Errand) (outcome : RomOutcome) → (slave_at book i).errand ≡ errand → Keeps book (rom_done book i outcome)
-back-keeps book i Free outcome is = rw is (record { words = refl; found = refl; accepted = refl })
+back-keeps : (book : Book) (i : ℕ) (operation : Operation) (outcome : RomOutcome) → (slave_at book i).operation ≡ operation → Keeps book (rom_done book i outcome)
+back-keeps book i NoOperation outcome is = rw is (record { words = refl; found = refl; accepted = refl })
 back-keeps book i (Unsettled word value taken) outcome is = rw is (record { words = refl; found = refl; accepted = refl })
 back-keeps book i (Issuing word value) (outcomes.Issued how) is = rw is (record { words = refl; found = refl; accepted = refl })
 back-keeps book i (Issuing word value) (outcomes.Settled how) is = rw is (record { words = refl; found = refl; accepted = refl })
@@ -94,4 +94,4 @@ back-keeps book i (Settling word value taken) (outcomes.Settled Dead) is = rw is
 back-keeps book i (Settling word value taken) outcomes.Stopped is = rw is (record { words = refl; found = refl; accepted = refl })
 
 pub keeps-rom_done : (book : Book) (i : ℕ) (outcome : RomOutcome) → Keeps book (rom_done book i outcome)
-keeps-rom_done book i outcome = back-keeps book i (slave_at book i).errand outcome refl
+keeps-rom_done book i outcome = back-keeps book i (slave_at book i).operation outcome refl

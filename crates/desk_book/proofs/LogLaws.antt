@@ -10,7 +10,7 @@ use Rattle.book_model.specs.declared.next.RomNext.TheVariants as rom
 use Rattle.book_model.specs.declared.next.RomOutcome.{RomOutcome}
 use Rattle.station_jobs.specs.Dispatch.{with_outcome}
 use Rattle.desk_book.specs.declared.call.Call.{Call}
-use Rattle.desk_book.specs.declared.call.Call.TheVariants.{SlaveAsked, SlaveTold}
+use Rattle.desk_book.specs.declared.call.Call.TheVariants.{SlaveAsked, SlaveReported}
 use Rattle.station_jobs.specs.Noted.{Noted}
 use Rattle.desk_book.specs.Logs.{DiskEntry, RomEntry, with_job, with_disk_answer, with_rom_answer, rom_noted}
 use Rattle.desk_book.specs.Serving.{IsNoted, entries_at}
@@ -58,7 +58,7 @@ same-or-not i k = from (eqb_tells i k)
   where
     from : ((i == k) ≡ true) × (i ≡ k) ⊎ ((i == k) ≡ false) × (i ≢ k) → (i ≡ k) ⊎ (i ≢ k)
     from (inl is) = inl is.1
-    from (inr apart) = inr apart.1
+    from (inr separate) = inr separate.1
 
 pub rom-noted : (call : Call) (at : ℕ) (old new : List (Noted RomNext RomOutcome)) (log : List RomEntry) → at < length old → IsNoted old at log new → log ≡ rom_noted at (entries_at old at) call
     → ((i : ℕ) (l : List RomEntry) → i ≢ at → rom_noted i l call ≡ l) → RomNoted call old new
@@ -82,7 +82,7 @@ isnt-other slave i other = from (eqb_tells slave i)
   where
     from : ((slave == i) ≡ true) × (slave ≡ i) ⊎ ((slave == i) ≡ false) × (slave ≢ i) → (slave == i) ≡ false
     from (inl is) = absurd (other (sym is.1))
-    from (inr apart) = apart.0
+    from (inr separate) = separate.0
 
 pub asked-here : (slave : ℕ) (answer : RomNext) (log : List RomEntry) → rom_noted slave log (SlaveAsked slave answer) ≡ with_rom_answer log answer
 asked-here slave answer log = ap (λ (b : Bool). if b then with_rom_answer log answer else log) (is-itself slave)
@@ -90,11 +90,11 @@ asked-here slave answer log = ap (λ (b : Bool). if b then with_rom_answer log a
 pub asked-other : (slave : ℕ) (answer : RomNext) (i : ℕ) (log : List RomEntry) → i ≢ slave → rom_noted i log (SlaveAsked slave answer) ≡ log
 asked-other slave answer i log other = ap (λ (b : Bool). if b then with_rom_answer log answer else log) (isnt-other slave i other)
 
-pub told-here : (slave : ℕ) (outcome : RomOutcome) (log : List RomEntry) → rom_noted slave log (SlaveTold slave outcome) ≡ with_outcome log outcome
-told-here slave outcome log = ap (λ (b : Bool). if b then with_outcome log outcome else log) (is-itself slave)
+pub reported-here : (slave : ℕ) (outcome : RomOutcome) (log : List RomEntry) → rom_noted slave log (SlaveReported slave outcome) ≡ with_outcome log outcome
+reported-here slave outcome log = ap (λ (b : Bool). if b then with_outcome log outcome else log) (is-itself slave)
 
-pub told-other : (slave : ℕ) (outcome : RomOutcome) (i : ℕ) (log : List RomEntry) → i ≢ slave → rom_noted i log (SlaveTold slave outcome) ≡ log
-told-other slave outcome i log other = ap (λ (b : Bool). if b then with_outcome log outcome else log) (isnt-other slave i other)
+pub reported-other : (slave : ℕ) (outcome : RomOutcome) (i : ℕ) (log : List RomEntry) → i ≢ slave → rom_noted i log (SlaveReported slave outcome) ≡ log
+reported-other slave outcome i log other = ap (λ (b : Bool). if b then with_outcome log outcome else log) (isnt-other slave i other)
 
 -- ---- the slave that the call is about
 
@@ -107,7 +107,7 @@ module _ (slave at : ℕ) (old : List (Noted RomNext RomOutcome)) (same : at ≡
       (ap (λ (l : List RomEntry). with_rom_answer l answer) one.here ∙ sym (asked-here at answer (entries_at old at)))
       (λ i l other. asked-other at answer i l other))
 
-  pub told-noted : (outcome : RomOutcome) (new : List (Noted RomNext RomOutcome)) → IsNoted old at (with_outcome (entries_at old at) outcome) new → RomNoted (SlaveTold slave outcome) old new
-  told-noted outcome new one =
-      subst (λ (s : ℕ). RomNoted (SlaveTold s outcome) old new) same
-      (rom-noted (SlaveTold at outcome) at old new (with_outcome (entries_at old at) outcome) inside one (sym (told-here at outcome (entries_at old at))) (λ i l other. told-other at outcome i l other))
+  pub reported-noted : (outcome : RomOutcome) (new : List (Noted RomNext RomOutcome)) → IsNoted old at (with_outcome (entries_at old at) outcome) new → RomNoted (SlaveReported slave outcome) old new
+  reported-noted outcome new one =
+      subst (λ (s : ℕ). RomNoted (SlaveReported s outcome) old new) same
+      (rom-noted (SlaveReported at outcome) at old new (with_outcome (entries_at old at) outcome) inside one (sym (reported-here at outcome (entries_at old at))) (λ i l other. reported-other at outcome i l other))

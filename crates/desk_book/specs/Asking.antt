@@ -13,7 +13,7 @@ use Rattle.book_model.specs.Reading.{applied, planned}
 use Rattle.book_core.specs.Plan.{IsPlan}
 use Rattle.book_core.specs.Wear.{IssuesFew}
 use Rattle.station_jobs.specs.declared.cycle.CycleNote.{CycleNote}
-use Rattle.desk_book.specs.declared.call.Call.TheVariants.{DiskAsked, DiskTold, SlaveAsked, SlaveTold, PlanAsked}
+use Rattle.desk_book.specs.declared.call.Call.TheVariants.{DiskAsked, DiskReported, SlaveAsked, SlaveReported, PlanAsked}
 use Rattle.desk_book.specs.declared.heard.Heard.{Heard}
 use Rattle.desk_book.specs.declared.heard.Heard.TheVariants.{Work, Nothing, NoMemory, Stop}
 use Rattle.station_jobs.specs.Noted.{is_waiting}
@@ -60,8 +60,8 @@ AsksDisk heard old new =
     (MatchBool (is_waiting (disk_log old.calls)) (IsUnasked Nothing heard old new) (HearsDisk heard old new))
 
 -- The outcome of the action that is out is reported. If none is out, nothing changes.
-abbrev pub disk_told : Serving → Result (Unit {0}) DeviceFault → Serving
-disk_told old outcome = if is_waiting (disk_log old.calls) then with_call old (DiskTold outcome) else old
+abbrev pub disk_reported : Serving → Result (Unit {0}) DeviceFault → Serving
+disk_reported old outcome = if is_waiting (disk_log old.calls) then with_call old (DiskReported outcome) else old
 
 -- ---- a slave
 
@@ -98,9 +98,9 @@ WearsFew (Work job) book = IssuesFew book
 WearsFew heard book = Unit {0}
 
 -- The outcome of the slave's job that is out is reported. If none is out, or the line doesn't have the slave, nothing changes.
-abbrev pub SlaveIsTold : (slave : ℕ) → RomOutcome → (old new : Serving) → Type 0
-SlaveIsTold slave outcome old new =
-    (new ≡ old) ⊎ ((is_waiting (rom_log slave old.calls) ≡ true) × (new ≡ with_call old (SlaveTold slave outcome)))
+abbrev pub SlaveIsReported : (slave : ℕ) → RomOutcome → (old new : Serving) → Type 0
+SlaveIsReported slave outcome old new =
+    (new ≡ old) ⊎ ((is_waiting (rom_log slave old.calls) ≡ true) × (new ≡ with_call old (SlaveReported slave outcome)))
 
 -- ---- the plan
 

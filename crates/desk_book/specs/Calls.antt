@@ -3,14 +3,14 @@ use Rattle.std.specs.Prelude.{◌≡◌, ◌+◌, Bool, true, false, List, [], �
 use Rattle.std.specs.Option.{option_map}
 use Rattle.sii_image.specs.ProcessImage.{ProcessImageParts, process_image}
 use Rattle.station_jobs.specs.declared.cycle.CycleNote.{CycleNote}
-use Rattle.book_model.specs.Book.{Book, Errand, Free, Issuing, Unsettled, Settling, slave_at}
+use Rattle.book_model.specs.Book.{Book, Operation, NoOperation, Issuing, Unsettled, Settling, slave_at}
 use Rattle.book_model.specs.Submit.{submit, with_command}
 use Rattle.book_model.specs.DiskSteps.{disk_next, disk_done}
 use Rattle.book_model.specs.RomSteps.{rom_next, rom_done}
 use Rattle.book_model.specs.Open.{finish}
 use Rattle.book_model.specs.Reading.{applied, planned}
 use Rattle.desk_book.specs.declared.call.Call.{Call}
-use Rattle.desk_book.specs.declared.call.Call.TheVariants.{Submitted, DiskAsked, DiskTold, SlaveAsked, SlaveTold, PlanAsked, Finished}
+use Rattle.desk_book.specs.declared.call.Call.TheVariants.{Submitted, DiskAsked, DiskReported, SlaveAsked, SlaveReported, PlanAsked, Finished}
 
 -- What a log keeps of the book's next plan: its prefix of commands, and the bytes of its image. `None` without such an image.
 abbrev pub turn_of : Book → Option CycleNote
@@ -22,15 +22,15 @@ abbrev pub after : Book → Call → Book
 after book (Submitted command (Ok number)) = with_command book command
 after book (Submitted command (Err refusal)) = book
 after book (DiskAsked answer) = (disk_next book).1
-after book (DiskTold outcome) = disk_done book outcome
+after book (DiskReported outcome) = disk_done book outcome
 after book (SlaveAsked slave answer) = (rom_next book slave).1
-after book (SlaveTold slave outcome) = rom_done book slave outcome
+after book (SlaveReported slave outcome) = rom_done book slave outcome
 after book (PlanAsked answer) = book
 after book Finished = finish book
 
 -- a job of the slave is out
-abbrev pub IsOut : Errand → Type 0
-IsOut Free = ⊥
+abbrev pub IsOut : Operation → Type 0
+IsOut NoOperation = ⊥
 IsOut (Issuing word value) = Unit {0}
 IsOut (Unsettled word value taken) = ⊥
 IsOut (Settling word value taken) = Unit {0}
@@ -39,9 +39,9 @@ IsOut (Settling word value taken) = Unit {0}
 abbrev pub IsAnswered : Book → Call → Type 0
 IsAnswered book (Submitted command answer) = answer ≡ submit book command
 IsAnswered book (DiskAsked answer) = answer ≡ (disk_next book).0
-IsAnswered book (DiskTold outcome) = book.is_handed_out ≡ true
+IsAnswered book (DiskReported outcome) = book.is_handed_out ≡ true
 IsAnswered book (SlaveAsked slave answer) = answer ≡ (rom_next book slave).0
-IsAnswered book (SlaveTold slave outcome) = IsOut (slave_at book slave).errand
+IsAnswered book (SlaveReported slave outcome) = IsOut (slave_at book slave).operation
 IsAnswered book (PlanAsked answer) = answer ≡ turn_of book
 IsAnswered book Finished = Unit {0}
 

@@ -39,14 +39,14 @@ abbrev pub HasNumber : List Numbered → ℕ → ℕ → Type 0
 HasNumber receipts count number = (k : ℕ) × (one : Numbered) × (k < count) × (slice_get receipts k ≡ Some one) × (one.number ≡ number)
 
 -- no two receipts have the same number
-abbrev pub AreApart : List Numbered → Type 0
-AreApart receipts = (i k : ℕ) (one other : Numbered) → slice_get receipts i ≡ Some one → slice_get receipts k ≡ Some other → k < i
+abbrev pub AreSeparate : List Numbered → Type 0
+AreSeparate receipts = (i k : ℕ) (one other : Numbered) → slice_get receipts i ≡ Some one → slice_get receipts k ≡ Some other → k < i
     → other.number ≢ one.number
 
 -- The receipts are for different durable commands of this book.
 pub record AreReceiptsOf (book : Book) (receipts : List Numbered) : Type 0 where
   pub each : All (StandsAt book.accepted book.durable) receipts
-  pub apart : AreApart receipts
+  pub separate : AreSeparate receipts
 
 -- ---- workers
 

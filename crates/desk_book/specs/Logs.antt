@@ -10,7 +10,7 @@ use Rattle.station_jobs.specs.declared.log.Assignment.{Assignment}
 use Rattle.station_jobs.specs.declared.cycle.CycleNote.{CycleNote}
 use Rattle.station_jobs.specs.Dispatch.{with_outcome}
 use Rattle.desk_book.specs.declared.call.Call.{Call}
-use Rattle.desk_book.specs.declared.call.Call.TheVariants.{DiskAsked, DiskTold, SlaveAsked, SlaveTold, PlanAsked}
+use Rattle.desk_book.specs.declared.call.Call.TheVariants.{DiskAsked, DiskReported, SlaveAsked, SlaveReported, PlanAsked}
 
 -- the log with one more job, which has no outcome yet
 abbrev pub with_job : {J O : Type 0} → List (Assignment J O) → J → List (Assignment J O)
@@ -31,7 +31,7 @@ with_disk_answer log job = with_job log job
 -- the disk's log after one more call
 abbrev pub disk_noted : List DiskEntry → Call → List DiskEntry
 disk_noted log (DiskAsked answer) = with_disk_answer log answer
-disk_noted log (DiskTold outcome) = with_outcome log outcome
+disk_noted log (DiskReported outcome) = with_outcome log outcome
 disk_noted log call = log
 
 -- the actions on the disk that the calls handed out, with the outcomes that were reported
@@ -53,7 +53,7 @@ with_rom_answer log job = with_job log job
 -- the log of slave `i` after one more call
 abbrev pub rom_noted : ℕ → List RomEntry → Call → List RomEntry
 rom_noted i log (SlaveAsked slave answer) = if slave == i then with_rom_answer log answer else log
-rom_noted i log (SlaveTold slave outcome) = if slave == i then with_outcome log outcome else log
+rom_noted i log (SlaveReported slave outcome) = if slave == i then with_outcome log outcome else log
 rom_noted i log call = log
 
 -- the jobs of slave `i` that the calls handed out, with the outcomes that were reported

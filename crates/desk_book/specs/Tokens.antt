@@ -15,5 +15,5 @@ pub record IsToken (count parts amount : ℕ) : Type 0 where
 pub record IsRest (all parts amount left given : ℕ) : Type 0 where
   pub left_over : parts ≡ left
   pub nothing : amount ≡ 0
-  pub whole : left + given ≡ all
+  pub entire : left + given ≡ all
   pub fits : all < 2 ^ 64

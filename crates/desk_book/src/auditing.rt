@@ -16,7 +16,7 @@ pub(crate) fn lend_tickets<T: Tickets, R: Refusals>(
     rest: &mut ledger::Share<T>,
     book: &mut Book<T>,
 )
-    ensures whole { rest.old.parts + length shares.old ≡ T.parts
+    ensures entire { rest.old.parts + length shares.old ≡ T.parts
         → rest.old.amount + sum_by (λ (s : ShareCounts). s.tickets) shares.old ≡ book.old.total }
     ensures parts { rest.new.parts ≡ rest.old.parts }
     ensures amount { rest.new.amount ≡ rest.old.amount }
@@ -41,7 +41,7 @@ pub(crate) fn lend_refusals<T: Tickets, R: Refusals>(
     rest: &mut ledger::Share<R>,
     book: &mut Book<R>,
 )
-    ensures whole { rest.old.parts + length shares.old ≡ R.parts
+    ensures entire { rest.old.parts + length shares.old ≡ R.parts
         → rest.old.amount + sum_by (λ (s : ShareCounts). s.refusals) shares.old ≡ book.old.total }
     ensures parts { rest.new.parts ≡ rest.old.parts }
     ensures amount { rest.new.amount ≡ rest.old.amount }

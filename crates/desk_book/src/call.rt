@@ -48,7 +48,7 @@ pub enum Call {
         answer: Recalled<DiskNext>,
     },
     /// The outcome of the action on the disk was reported.
-    DiskTold {
+    DiskReported {
         /// Whether it succeeded.
         outcome: Result<(), DeviceFault>,
     },
@@ -60,7 +60,7 @@ pub enum Call {
         answer: RomNext,
     },
     /// The outcome of a slave's job was reported.
-    SlaveTold {
+    SlaveReported {
         /// The slave's number, from 0.
         slave: u16,
         /// How the job ended.

@@ -3,7 +3,7 @@
 ghost use Rattle.std.specs.Prelude.{◌↔◌, ◌≡◌, ◌≤◌, ◌^◌, length, sum_by, IfSome, IfNone, IsTrue, All};
 ghost use Rattle.desk_book.specs.Serving.{ShareCounts};
 ghost use Rattle.desk_book.specs.Numbered.{Numbered};
-ghost use Rattle.desk_book.specs.Closing.{StandsAt, HasNumber, AreApart};
+ghost use Rattle.desk_book.specs.Closing.{StandsAt, HasNumber, AreSeparate};
 
 use crate::naming::{Refusals, Tickets};
 use crate::share::Share;
@@ -65,15 +65,15 @@ pub(crate) fn stand_at_their_numbers(
 }
 
 /// Whether no two receipts have the same number. Receipts in the order of their numbers are told apart in one pass.
-pub(crate) fn are_apart(receipts: &[Receipt]) -> bool
-    ensures { IsTrue result ↔ AreApart receipts.now }
+pub(crate) fn are_separate(receipts: &[Receipt]) -> bool
+    ensures { IsTrue result ↔ AreSeparate receipts.now }
 {
     are_rising(receipts) || have_each_their_own(receipts)
 }
 
 /// Whether the number of each receipt is above that of the one before it.
 fn are_rising(receipts: &[Receipt]) -> bool
-    ensures { IsTrue result → AreApart receipts.now }
+    ensures { IsTrue result → AreSeparate receipts.now }
 {
     let mut least = 0;
     for i in 0..receipts.len() {
@@ -88,7 +88,7 @@ fn are_rising(receipts: &[Receipt]) -> bool
 
 /// Whether no two receipts have the same number, in any order. Compares each with all before it.
 fn have_each_their_own(receipts: &[Receipt]) -> bool
-    ensures { IsTrue result ↔ AreApart receipts.now }
+    ensures { IsTrue result ↔ AreSeparate receipts.now }
 {
     for i in 0..receipts.len() {
         let receipt = &receipts[i];

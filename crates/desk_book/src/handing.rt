@@ -1,7 +1,7 @@
 //! Hands out the disk's actions, and takes their outcomes.
 
 ghost use Rattle.std.specs.Prelude.{◌≡◌, ◌≤◌, ◌<◌, ◌++◌, ◌∷◌, [], vec_capacity, IfOk, OnOk};
-ghost use Rattle.desk_book.specs.Asking.{AsksDisk, HearsDisk, TellsDisk, disk_told, is_disk_job, bytes_of};
+ghost use Rattle.desk_book.specs.Asking.{AsksDisk, HearsDisk, TellsDisk, disk_reported, is_disk_job, bytes_of};
 ghost use Rattle.desk_book.specs.Calls.{AreAnswered};
 ghost use Rattle.desk_book.specs.Logs.{with_disk_answer};
 
@@ -140,13 +140,13 @@ impl<T: Tickets, R: Refusals> Served<T, R> {
 
     /// Reports the outcome of the disk action that is out. If none is out, nothing changes.
     pub fn disk_done(&mut self, outcome: Result<(), DeviceFault>)
-        ensures { self.new ≡ disk_told self.old outcome }
+        ensures { self.new ≡ disk_reported self.old outcome }
     {
         if !self.disk.is_waiting() {
             return;
         }
         self.core.disk_done(outcome);
-        note(&mut self.history, Call::DiskTold { outcome });
+        note(&mut self.history, Call::DiskReported { outcome });
         self.disk.tell(outcome);
     }
 }

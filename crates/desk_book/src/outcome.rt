@@ -7,7 +7,7 @@ ghost use Rattle.desk_book.specs.Calls.{replayed, AreAnswered};
 ghost use Rattle.desk_book.specs.Logs.{disk_log, cycle_log};
 ghost use Rattle.desk_book.specs.Closing.{CountAll, AreReceiptsOf, IsWorkOf, AreWorkersOf, AllWorked, is_served};
 
-use crate::counting::{all_refusals, all_tickets, are_apart, stand_at_their_numbers};
+use crate::counting::{all_refusals, all_tickets, are_separate, stand_at_their_numbers};
 use crate::naming::{Refusals, Tickets};
 use crate::served::Served;
 use crate::share::Share;
@@ -77,7 +77,7 @@ impl<T: Tickets, R: Refusals> Served<T, R> {
         ensures { IsTrue result ↔ AreReceiptsOf (replayed T.opened self.now.calls) receipts.now }
     {
         let durable = self.core.durable();
-        stand_at_their_numbers(receipts, self.core.accepted(), durable) && are_apart(receipts)
+        stand_at_their_numbers(receipts, self.core.accepted(), durable) && are_separate(receipts)
     }
 
     /// Whether this log has exactly the disk actions that were handed out, with the outcomes that were reported.

@@ -24,7 +24,7 @@ impl<T: Tickets, R: Refusals> Served<T, R> {
 
     /// The status that this answered last, or at first that of the open, and the status now.
     ///
-    /// Looking for the settled prefix takes a time that grows with the slaves, so who compares the status before a call and behind it
+    /// Looking for the settled prefix takes a time that grows with the slaves, so who compares the status before a call and after it
     /// asks once for both.
     pub fn progress(&mut self) -> (Status, Status)
         ensures before { result.0 ≡ self.old.seen }

@@ -5,7 +5,7 @@ ghost use Rattle.station_jobs.specs.Dispatch.{with_outcome};
 ghost use Rattle.station_jobs.specs.Noted.{is_waiting};
 ghost use Rattle.desk_book.specs.Logs.{with_rom_answer};
 ghost use Rattle.desk_book.specs.Serving.{IsNoted, entries_at, no_entries};
-ghost use Rattle.desk_book.specs.Asking.{AsksSlave, HearsSlave, SlaveIsTold, TellsSlave, WearsFew, is_rom_job};
+ghost use Rattle.desk_book.specs.Asking.{AsksSlave, HearsSlave, SlaveIsReported, TellsSlave, WearsFew, is_rom_job};
 ghost use Rattle.desk_book.specs.Calls.{AreAnswered, replayed};
 
 use crate::call::Call;
@@ -126,14 +126,14 @@ impl<T: Tickets, R: Refusals> Served<T, R> {
 
     /// Reports the outcome of the slave's job that is out. If none is out, nothing changes.
     pub fn slave_done(&mut self, slave: u16, outcome: RomOutcome)
-        ensures { SlaveIsTold slave outcome self.old self.new }
+        ensures { SlaveIsReported slave outcome self.old self.new }
     {
         let at = usize::from(slave);
         if at >= self.slaves.len() || !is_waiting_at(&self.slaves, at) {
             return;
         }
         self.core.rom_done(slave, outcome);
-        note(&mut self.history, Call::SlaveTold { slave, outcome });
+        note(&mut self.history, Call::SlaveReported { slave, outcome });
         tell_at(&mut self.slaves, at, outcome);
     }
 }

@@ -10,13 +10,13 @@ use Rattle.book_model.specs.DiskSteps.{action_of, doing_next, disk_next, went_on
 use Rattle.book_model.specs.RomSteps.{rom_next, rom_done}
 use Rattle.book_model.specs.Events.{in_progress, rested}
 use Rattle.desk_book.specs.declared.call.Call.{Call}
-use Rattle.desk_book.specs.declared.call.Call.TheVariants.{Submitted, DiskAsked, DiskTold, SlaveAsked, SlaveTold, PlanAsked, Finished}
+use Rattle.desk_book.specs.declared.call.Call.TheVariants.{Submitted, DiskAsked, DiskReported, SlaveAsked, SlaveReported, PlanAsked, Finished}
 use Rattle.desk_book.specs.Asking.{is_disk_job}
 use Rattle.desk_book.specs.Calls.{after, AreAnswered, IsAnswered}
 use Rattle.desk_book.specs.Logs.{DiskEntry, disk_noted, with_disk_answer}
 use Rattle.desk_book.proofs.LogLaws.{with-disk-job, with-disk-rest}
 use Rattle.desk_book.proofs.OutLaws.{Next, rests, issues, settles, next-of, SlaveGoes, back-of, no-action}
-use Rattle.desk_laws.proofs.LogBehind.{Notes, none, job, told, behind}
+use Rattle.desk_laws.proofs.LogAfter.{Notes, none, job, reported, afterwards}
 
 -- ---- what is handed out
 
@@ -88,11 +88,11 @@ asked-keeps book j = from (next-of book j)
   where
     from : Next book j → KeepsDisk book (rom_next book j).1
     from (rests answer idle is) = subst (λ (p : RomNext × Book). KeepsDisk book p.1) (sym is) (keeps-same book)
-    from (issues w others free todo within is) = subst (λ (p : RomNext × Book). KeepsDisk book p.1) (sym is) (record { out = refl; action = refl; failed = λ has. has })
+    from (issues w others vacant todo within is) = subst (λ (p : RomNext × Book). KeepsDisk book p.1) (sym is) (record { out = refl; action = refl; failed = λ has. has })
     from (settles word value taken unsettled within is) = subst (λ (p : RomNext × Book). KeepsDisk book p.1) (sym is) (record { out = refl; action = refl; failed = λ has. has })
 
-pub told-keeps : (book : Book) (j : ℕ) (outcome : RomOutcome) → KeepsDisk book (rom_done book j outcome)
-told-keeps book j outcome = from (back-of book j outcome)
+pub reported-keeps : (book : Book) (j : ℕ) (outcome : RomOutcome) → KeepsDisk book (rom_done book j outcome)
+reported-keeps book j outcome = from (back-of book j outcome)
   where
     from : (rom_done book j outcome ≡ book) ⊎ SlaveGoes book j (rom_done book j outcome) → KeepsDisk book (rom_done book j outcome)
     from (inl is) = subst (KeepsDisk book) (sym is) (keeps-same book)
@@ -112,11 +112,11 @@ disk-notes : (book : Book) (call : Call) → IsAnswered book call → Notes (λ 
 disk-notes book (Submitted command (Ok number)) is = none (λ log. refl) (λ now. now)
 disk-notes book (Submitted command (Err refusal)) is = none (λ log. refl) (λ now. now)
 disk-notes book (DiskAsked answer) is = asked-notes book answer is (handed-of book)
-disk-notes book (DiskTold outcome) is = told outcome is (λ log. refl)
+disk-notes book (DiskReported outcome) is = reported outcome is (λ log. refl)
 disk-notes book (SlaveAsked j answer) is = none (λ log. refl) (λ now. sym (asked-keeps book j).out ∙ now)
-disk-notes book (SlaveTold j outcome) is = none (λ log. refl) (λ now. sym (told-keeps book j outcome).out ∙ now)
+disk-notes book (SlaveReported j outcome) is = none (λ log. refl) (λ now. sym (reported-keeps book j outcome).out ∙ now)
 disk-notes book (PlanAsked answer) is = none (λ log. refl) (λ now. now)
 disk-notes book Finished is = none (λ log. refl) (λ now. now)
 
-pub disk-behind : (book : Book) (calls : List Call) (entry : DiskEntry) (log : List DiskEntry) → AreAnswered book calls → (book.is_handed_out ≡ true → 0 < length log) → fold disk_noted (entry ∷ log) calls ≡ entry ∷ fold disk_noted log calls
-disk-behind book calls entry log all has = behind entry disk_noted IsHandedOut disk-notes book calls log all has
+pub disk-afterwards : (book : Book) (calls : List Call) (entry : DiskEntry) (log : List DiskEntry) → AreAnswered book calls → (book.is_handed_out ≡ true → 0 < length log) → fold disk_noted (entry ∷ log) calls ≡ entry ∷ fold disk_noted log calls
+disk-afterwards book calls entry log all has = afterwards entry disk_noted IsHandedOut disk-notes book calls log all has

@@ -61,18 +61,18 @@ disk-returns action (Err fault) old new returns = subst (λ (s : State). FailsOn
 
 action-back : (entry : DiskEntry) (outcome : Result (Unit {0}) DeviceFault) (old new : Seen) → entry.outcome ≡ Some outcome → DoesAction entry.job outcome old new → outcome ≢ Err device.Stopped
     → DiskReturnsBy entry.job outcome old.state.disk new.state.disk
-action-back entry outcome old new told does going =
-    let turn : DoneInTurn DoesAction (entry ∷ []) old new = (new, record { outcome = outcome; told = told; does = does; going = action-goes entry.job outcome old new does going }, refl) in
+action-back entry outcome old new reported does going =
+    let turn : DoneInTurn DoesAction (entry ∷ []) old new = (new, record { outcome = outcome; reported = reported; does = does; going = action-goes entry.job outcome old new does going }, refl) in
     let back : CameBackInTurn ActionReturns (entry ∷ []) old.state new.state = actions-came-back (entry ∷ []) old new turn in
     let one = back.1 in
-    let same : one.outcome ≡ outcome = (let e : Some one.outcome ≡ Some outcome = sym one.told ∙ told in cc) in
+    let same : one.outcome ≡ outcome = (let e : Some one.outcome ≡ Some outcome = sym one.reported ∙ reported in cc) in
     disk-returns entry.job outcome old.state new.state
     (subst (λ (s : State). ActionReturns entry.job outcome old.state s) (sym back.2) (subst (λ (o : Result (Unit {0}) DeviceFault). ActionReturns entry.job o old.state back.0) same one.returns))
 
 action-steps : (entry : DiskEntry) (outcome : Result (Unit {0}) DeviceFault) (old new : Seen) → (entry.outcome ≡ Some outcome) ⊎ (entry.outcome ≡ None) → DoesAction entry.job outcome old new → DiskSteps entry old.state.disk new.state.disk
-action-steps entry outcome old new (inl told) does = record {
+action-steps entry outcome old new (inl reported) does = record {
   returns = λ said is going.
-      let same : outcome ≡ said = (let e : Some outcome ≡ Some said = sym told ∙ is in cc) in
+      let same : outcome ≡ said = (let e : Some outcome ≡ Some said = sym reported ∙ is in cc) in
       action-back entry said old new is (subst (λ (o : Result (Unit {0}) DeviceFault). DoesAction entry.job o old new) same does) going;
   leaves = action-left entry.job outcome old new does;
 }
@@ -87,11 +87,11 @@ led-turn : (log rest : List DiskEntry) (old mid : Seen) (new : Disk) → DoneInT
 led-turn [] rest old mid new same led = subst (λ (s : Seen). DiskLedBy rest s.state.disk new) same led
 led-turn (entry ∷ log) rest old mid new turn led =
     let one = turn.1 in
-    (turn.0.state.disk, action-steps entry one.outcome old turn.0 (inl one.told) one.does, led-turn log rest turn.0 mid new turn.2 led)
+    (turn.0.state.disk, action-steps entry one.outcome old turn.0 (inl one.reported) one.does, led-turn log rest turn.0 mid new turn.2 led)
 
 led-last : (last rest : List DiskEntry) (mid end : Seen) (new : Disk) → MayEnd DoesAction last mid end → DiskLedBy rest end.state.disk new → DiskLedBy (last ++ rest) mid.state.disk new
 led-last [] rest mid end new same led = subst (λ (s : Seen). DiskLedBy rest s.state.disk new) same led
-led-last (entry ∷ []) rest mid end new ends led = (end.state.disk, action-steps entry ends.outcome mid end ends.told ends.does, led)
+led-last (entry ∷ []) rest mid end new ends led = (end.state.disk, action-steps entry ends.outcome mid end ends.reported ends.does, led)
 led-last (entry ∷ next ∷ last) rest mid end new ends led = absurd ends
 
 -- the last one may be in progress

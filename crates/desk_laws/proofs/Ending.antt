@@ -24,7 +24,7 @@ use Rattle.desk_book.specs.Calls.{replayed, AreAnswered, IsOut}
 use Rattle.desk_book.specs.Closing.{is_served}
 use Rattle.desk_book.proofs.BaseLaws.{base-replayed}
 use Rattle.desk_laws.proofs.SlaveLaws.{served-is}
-use Rattle.desk_laws.proofs.StandLaws.{opened-free}
+use Rattle.desk_laws.proofs.StandLaws.{opened-vacant}
 use Rattle.desk_laws.specs.Joined.{AllGo, IsOpenedOn, IsKeptAs, LeadsTo, served_by}
 use Rattle.desk_laws.proofs.DiskWork.{led-disk}
 use Rattle.desk_laws.proofs.HalfWork.{led-slave}
@@ -91,15 +91,15 @@ module _ (machine : Machine) (journal : Journal) (old new : State) (calls : List
         stands = stands-up opened u.frame refl u.up (record { closed = refl; form = refl; worn = worn-opened (words_in old.halves) (capacity_in old.disk.bytes) journal });
         fits = fits-reopened machine u.k desk.fits;
       } in
-      let free = λ (i : ℕ) (half : SlaveHalf) (here : slice_get old.halves i ≡ Some half).
-      let within = slice_get_within old.halves i half here in opened-free (words_in old.halves) (capacity_in old.disk.bytes) journal i (omega (arith, within, length-map old.halves (λ (h : SlaveHalf). h.words))) in
+      let vacant = λ (i : ℕ) (half : SlaveHalf) (here : slice_get old.halves i ≡ Some half).
+      let within = slice_get_within old.halves i half here in opened-vacant (words_in old.halves) (capacity_in old.disk.bytes) journal i (omega (arith, within, length-map old.halves (λ (h : SlaveHalf). h.words))) in
       let joined = joins-all new calls opened answered desk.commands_fit (record {
         state = old;
         took = none;
         stays = stays;
         disk = record { log = []; real = old.disk; on = rests refl refl refl; led = led-disk calls old.disk new.disk go.disk };
         count = go.count;
-        courses = λ i half end here there. course-of i calls opened half end answered (λ out. subst IsOut (free i half here) out) (led-slave calls i half end (go.slaves i half end here there));
+        courses = λ i half end here there. course-of i calls opened half end answered (λ out. subst IsOut (vacant i half here) out) (led-slave calls i half end (go.slaves i half end here there));
       }) in
       let last = ends-before (replayed opened calls) joined.state joined.took new.halves joined.stays joined.count joined.courses (length joined.state.halves) (omega arith) in
       let base = u.up.of.base ∙ sym (base-replayed opened calls) in
@@ -112,9 +112,9 @@ module _ (machine : Machine) (journal : Journal) (old new : State) (calls : List
       let session = desk-kept in
       let kept = session.kept pair leaves in
       let all = served-is book served in
-      let whole : take kept.k book.accepted ≡ book.accepted = take_all kept.k book.accepted (omega (arith, kept.may_keep.0, all.durable)) in
+      let entire : take kept.k book.accepted ≡ book.accepted = take_all kept.k book.accepted (omega (arith, kept.may_keep.0, all.durable)) in
       record {
         journal = kept.journal;
         live = kept.live;
-        same = kept.same ∙ ap (λ (p : List (List ℕ)). contents p (take kept.k book.accepted)) session.base ∙ ap (contents (base_of book)) whole;
+        same = kept.same ∙ ap (λ (p : List (List ℕ)). contents p (take kept.k book.accepted)) session.base ∙ ap (contents (base_of book)) entire;
       }

@@ -4,10 +4,10 @@ use Rattle.sii_edit.specs.declared.command.Command.{Command}
 use Rattle.book_model.specs.declared.refusal.SubmitRefusal.{SubmitRefusal}
 use Rattle.book_model.specs.Book.{Book}
 use Rattle.book_model.specs.Submit.{submit}
-use Rattle.world_law.specs.World.{Told, World}
+use Rattle.world_law.specs.World.{Reported, World}
 use Rattle.world_law.specs.Happenings.{HappensUp, submitted}
 use Rattle.desk_book.specs.declared.call.Call.{Call}
-use Rattle.desk_book.specs.declared.call.Call.TheVariants.{Submitted, DiskAsked, DiskTold, SlaveAsked, SlaveTold, PlanAsked, Finished}
+use Rattle.desk_book.specs.declared.call.Call.TheVariants.{Submitted, DiskAsked, DiskReported, SlaveAsked, SlaveReported, PlanAsked, Finished}
 use Rattle.desk_book.specs.Calls.{after, IsAnswered}
 use Rattle.desk_laws.specs.Events.{event_of}
 
@@ -19,12 +19,12 @@ submit-after : (book : Book) (command : Command) (answer : Result ℕ SubmitRefu
 submit-after book command (Ok number) is = rw (sym is) refl
 submit-after book command (Err refusal) is = rw (sym is) refl
 
-pub happens-after : (book : Book) (call : Call) (world later : World) (told : Told) → world.book ≡ Some book → IsAnswered book call → HappensUp (event_of call) book world told later → later.book ≡ Some (after book call)
-happens-after book (Submitted command answer) world later told up one h = ap up_in h.1 ∙ ap (λ (b : Book). Some b) (submit-after book command answer one)
-happens-after book (DiskAsked answer) world later told up one h = ap up_in h.1
-happens-after book (DiskTold (Ok done)) world later told up one h = ap up_in h.1.1
-happens-after book (DiskTold (Err fault)) world later told up one h = ap up_in h.1.4
-happens-after book (SlaveAsked slave answer) world later told up one h = ap up_in h.1.is
-happens-after book (SlaveTold slave outcome) world later told up one h = ap up_in h.1.is
-happens-after book (PlanAsked answer) world later told up one h = ap up_in h.1 ∙ up
-happens-after book Finished world later told up one h = ap up_in h.1
+pub happens-after : (book : Book) (call : Call) (world later : World) (reported : Reported) → world.book ≡ Some book → IsAnswered book call → HappensUp (event_of call) book world reported later → later.book ≡ Some (after book call)
+happens-after book (Submitted command answer) world later reported up one h = ap up_in h.1 ∙ ap (λ (b : Book). Some b) (submit-after book command answer one)
+happens-after book (DiskAsked answer) world later reported up one h = ap up_in h.1
+happens-after book (DiskReported (Ok done)) world later reported up one h = ap up_in h.1.1
+happens-after book (DiskReported (Err fault)) world later reported up one h = ap up_in h.1.4
+happens-after book (SlaveAsked slave answer) world later reported up one h = ap up_in h.1.is
+happens-after book (SlaveReported slave outcome) world later reported up one h = ap up_in h.1.is
+happens-after book (PlanAsked answer) world later reported up one h = ap up_in h.1 ∙ up
+happens-after book Finished world later reported up one h = ap up_in h.1

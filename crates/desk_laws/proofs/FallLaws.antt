@@ -6,11 +6,11 @@ use Rattle.book_model.specs.Book.{Book, Resting, appended}
 use Rattle.book_model.specs.Reading.{applied, planned}
 use Rattle.station_jobs.specs.declared.cycle.CycleNote.{CycleNote}
 use Rattle.desk_book.specs.declared.call.Call.{Call}
-use Rattle.desk_book.specs.declared.call.Call.TheVariants.{Submitted, DiskAsked, DiskTold, SlaveAsked, SlaveTold, PlanAsked, Finished}
+use Rattle.desk_book.specs.declared.call.Call.TheVariants.{Submitted, DiskAsked, DiskReported, SlaveAsked, SlaveReported, PlanAsked, Finished}
 use Rattle.desk_book.specs.Calls.{after, AreAnswered, turn_of}
 use Rattle.desk_book.specs.Logs.{turn_noted}
 use Rattle.desk_laws.specs.Turns.{NeverFallFrom, AppendsNext}
-use Rattle.desk_laws.proofs.GoesLaws.{GoesAndAppends, applied-stays, same-on, command-on, disk-asked-on, disk-told-on, slave-asked-on, slave-told-on}
+use Rattle.desk_laws.proofs.GoesLaws.{GoesAndAppends, applied-stays, same-on, command-on, disk-asked-on, disk-reported-on, slave-asked-on, slave-reported-on}
 
 -- ---- lists of turns
 
@@ -61,15 +61,15 @@ rise book (Submitted command (Ok number) ∷ calls) log appends all sofar le =
 rise book (DiskAsked answer ∷ calls) log appends all sofar le =
     let o = on book (DiskAsked answer) (top 0 log) (disk-asked-on book) appends le in
     rise (after book (DiskAsked answer)) calls log o.0 all.1 sofar o.1
-rise book (DiskTold outcome ∷ calls) log appends all sofar le =
-    let o = on book (DiskTold outcome) (top 0 log) (disk-told-on book outcome appends) appends le in
-    rise (after book (DiskTold outcome)) calls log o.0 all.1 sofar o.1
+rise book (DiskReported outcome ∷ calls) log appends all sofar le =
+    let o = on book (DiskReported outcome) (top 0 log) (disk-reported-on book outcome appends) appends le in
+    rise (after book (DiskReported outcome)) calls log o.0 all.1 sofar o.1
 rise book (SlaveAsked slave answer ∷ calls) log appends all sofar le =
     let o = on book (SlaveAsked slave answer) (top 0 log) (slave-asked-on book slave) appends le in
     rise (after book (SlaveAsked slave answer)) calls log o.0 all.1 sofar o.1
-rise book (SlaveTold slave outcome ∷ calls) log appends all sofar le =
-    let o = on book (SlaveTold slave outcome) (top 0 log) (slave-told-on book slave outcome) appends le in
-    rise (after book (SlaveTold slave outcome)) calls log o.0 all.1 sofar o.1
+rise book (SlaveReported slave outcome ∷ calls) log appends all sofar le =
+    let o = on book (SlaveReported slave outcome) (top 0 log) (slave-reported-on book slave outcome) appends le in
+    rise (after book (SlaveReported slave outcome)) calls log o.0 all.1 sofar o.1
 rise book (Finished ∷ calls) log appends all sofar le =
     let o = on book Finished (top 0 log) (finished-on book) appends le in
     rise (after book Finished) calls log o.0 all.1 sofar o.1

@@ -18,10 +18,10 @@ use Rattle.book_model.specs.declared.fault.Fault.TheVariants as faults
 use Rattle.book_model.specs.declared.next.RomOutcome.{RomOutcome}
 use Rattle.book_model.specs.declared.next.RomOutcome.TheVariants as outcomes
 use Rattle.book_model.specs.Entries.{runs_of}
-use Rattle.book_model.specs.Book.{Book, Slave, Doing, Resting, Payload, PayloadSync, OpenGate, OpenSync, CloseGate, CloseSync, FarGate, Mark, MarkSync, Version, VersionSync, Errand, Free, Issuing, Unsettled, Settling, base_of, own, appended, being_appended, queued, room, slave_at, all_cells, with_fault}
+use Rattle.book_model.specs.Book.{Book, Slave, Doing, Resting, Payload, PayloadSync, OpenGate, OpenSync, CloseGate, CloseSync, FarGate, Mark, MarkSync, Version, VersionSync, Operation, NoOperation, Issuing, Unsettled, Settling, base_of, own, appended, being_appended, queued, room, slave_at, all_cells, with_fault}
 use Rattle.book_model.specs.Submit.{with_command}
-use Rattle.book_model.specs.DiskSteps.{can_retire, can_migrate, begun, action_of, doing_next, disk_next, behind_far_gate, went_on, disk_done}
-use Rattle.book_model.specs.RomSteps.{to_do, is_last, was_taken, with_errand, with_again, rom_next, rom_done}
+use Rattle.book_model.specs.DiskSteps.{can_retire, can_migrate, begun, action_of, doing_next, disk_next, after_far_gate, went_on, disk_done}
+use Rattle.book_model.specs.RomSteps.{to_do, is_last, was_taken, with_operation, with_again, rom_next, rom_done}
 use Rattle.book_model.specs.Reading.{all_entries, applied, settled_prefix}
 use Rattle.book_model.specs.Fits.{OwesNoMore}
 use Rattle.book_model.proofs.SettlingLaws.{prefix-stays}
@@ -241,15 +241,15 @@ step-on book VersionSync is appends = nothing-on book (went_on (rested book) Ver
 fault-rests : (book : Book) (why : Fault) → GoesAndAppends book (with_fault (rested book) why)
 fault-rests book why = rest-on book (with_fault (rested book) why) (record { words = refl; found = refl; accepted = refl; durable = refl; doing = refl }) refl
 
-told-on : (book : Book) (out : Bool) (result : Result (Unit {0}) DeviceFault) → book.is_handed_out ≡ out → AppendsNext book → GoesAndAppends book (disk_done book result)
-told-on book false result o appends = let is : disk_done book result ≡ book = rw o refl in subst (GoesAndAppends book) (sym is) (same-on book)
-told-on book true (Ok done) o appends = let is : disk_done book (Ok done) ≡ went_on (rested book) book.doing = rw o refl in subst (GoesAndAppends book) (sym is) (step-on book book.doing refl appends)
-told-on book true (Err Disk) o appends = let is : disk_done book (Err Disk) ≡ with_fault (rested book) faults.Disk = rw o refl in subst (GoesAndAppends book) (sym is) (fault-rests book faults.Disk)
-told-on book true (Err Stopped) o appends = let is : disk_done book (Err Stopped) ≡ with_fault (rested book) faults.Stopped = rw o refl in subst (GoesAndAppends book) (sym is) (fault-rests book faults.Stopped)
-told-on book true (Err Lost) o appends = let is : disk_done book (Err Lost) ≡ book = rw o refl in subst (GoesAndAppends book) (sym is) (same-on book)
+reported-on : (book : Book) (out : Bool) (result : Result (Unit {0}) DeviceFault) → book.is_handed_out ≡ out → AppendsNext book → GoesAndAppends book (disk_done book result)
+reported-on book false result o appends = let is : disk_done book result ≡ book = rw o refl in subst (GoesAndAppends book) (sym is) (same-on book)
+reported-on book true (Ok done) o appends = let is : disk_done book (Ok done) ≡ went_on (rested book) book.doing = rw o refl in subst (GoesAndAppends book) (sym is) (step-on book book.doing refl appends)
+reported-on book true (Err Disk) o appends = let is : disk_done book (Err Disk) ≡ with_fault (rested book) faults.Disk = rw o refl in subst (GoesAndAppends book) (sym is) (fault-rests book faults.Disk)
+reported-on book true (Err Stopped) o appends = let is : disk_done book (Err Stopped) ≡ with_fault (rested book) faults.Stopped = rw o refl in subst (GoesAndAppends book) (sym is) (fault-rests book faults.Stopped)
+reported-on book true (Err Lost) o appends = let is : disk_done book (Err Lost) ≡ book = rw o refl in subst (GoesAndAppends book) (sym is) (same-on book)
 
-pub disk-told-on : (book : Book) (result : Result (Unit {0}) DeviceFault) → AppendsNext book → GoesAndAppends book (disk_done book result)
-disk-told-on book result appends = told-on book book.is_handed_out result refl appends
+pub disk-reported-on : (book : Book) (result : Result (Unit {0}) DeviceFault) → AppendsNext book → GoesAndAppends book (disk_done book result)
+disk-reported-on book result appends = reported-on book book.is_handed_out result refl appends
 
 -- ---- a slave
 
@@ -257,42 +257,42 @@ disk-told-on book result appends = told-on book book.is_handed_out result refl a
 same-but : (book : Book) (i : ℕ) (s : Slave) → OweLess (slave_at book i).cells s.cells → GoesAndAppends book (record book { slaves = set book.slaves i s })
 same-but book i s less = slave-on book (record book { slaves = set book.slaves i s }) i s (record { words = refl; found = refl; accepted = refl; durable = refl; doing = refl }) refl less
 
-errand-on : (book : Book) (i : ℕ) (errand : Errand) → GoesAndAppends book (with_errand book i errand)
-errand-on book i errand = same-but book i (record (slave_at book i) { errand = errand }) (owe-same (slave_at book i).cells)
+operation-on : (book : Book) (i : ℕ) (operation : Operation) → GoesAndAppends book (with_operation book i operation)
+operation-on book i operation = same-but book i (record (slave_at book i) { operation = operation }) (owe-same (slave_at book i).cells)
 
-fault-on : (book : Book) (i : ℕ) (errand : Errand) (why : Fault) → GoesAndAppends book (with_fault (with_errand book i errand) why)
-fault-on book i errand why =
-    slave-on book (with_fault (with_errand book i errand) why) i (record (slave_at book i) { errand = errand }) (record { words = refl; found = refl; accepted = refl; durable = refl; doing = refl }) refl (owe-same (slave_at book i).cells)
+fault-on : (book : Book) (i : ℕ) (operation : Operation) (why : Fault) → GoesAndAppends book (with_fault (with_operation book i operation) why)
+fault-on book i operation why =
+    slave-on book (with_fault (with_operation book i operation) why) i (record (slave_at book i) { operation = operation }) (record { words = refl; found = refl; accepted = refl; durable = refl; doing = refl }) refl (owe-same (slave_at book i).cells)
 
-next-on : (book : Book) (i : ℕ) (inside failed : Bool) (errand : Errand) (todo : List (ℕ × ℕ)) → nat_lt i (length book.slaves) ≡ inside → (slave_at book i).errand ≡ errand → is_some book.fault ≡ failed → to_do book i ≡ todo
+next-on : (book : Book) (i : ℕ) (inside failed : Bool) (operation : Operation) (todo : List (ℕ × ℕ)) → nat_lt i (length book.slaves) ≡ inside → (slave_at book i).operation ≡ operation → is_some book.fault ≡ failed → to_do book i ≡ todo
     → GoesAndAppends book (rom_next book i).1
-next-on book i false failed errand todo n e f t = rw n (same-on book)
-next-on book i true true Free todo n e f t = rw (n, e, f) (same-on book)
-next-on book i true false Free [] n e f t = rw (n, e, f, t) (same-on book)
-next-on book i true false Free (w ∷ others) n e f t = rw (n, e, f, t) (same-but book i _ (owe-asked (slave_at book i).cells w.0))
+next-on book i false failed operation todo n e f t = rw n (same-on book)
+next-on book i true true NoOperation todo n e f t = rw (n, e, f) (same-on book)
+next-on book i true false NoOperation [] n e f t = rw (n, e, f, t) (same-on book)
+next-on book i true false NoOperation (w ∷ others) n e f t = rw (n, e, f, t) (same-but book i _ (owe-asked (slave_at book i).cells w.0))
 next-on book i true failed (Issuing word value) todo n e f t = rw (n, e) (same-on book)
 next-on book i true true (Unsettled word value taken) todo n e f t = rw (n, e, f) (same-on book)
-next-on book i true false (Unsettled word value taken) todo n e f t = rw (n, e, f) (errand-on book i (Settling word value taken))
+next-on book i true false (Unsettled word value taken) todo n e f t = rw (n, e, f) (operation-on book i (Settling word value taken))
 next-on book i true failed (Settling word value taken) todo n e f t = rw (n, e) (same-on book)
 
 pub slave-asked-on : (book : Book) (i : ℕ) → GoesAndAppends book (rom_next book i).1
-slave-asked-on book i = next-on book i (nat_lt i (length book.slaves)) (is_some book.fault) (slave_at book i).errand (to_do book i) refl refl refl refl
+slave-asked-on book i = next-on book i (nat_lt i (length book.slaves)) (is_some book.fault) (slave_at book i).operation (to_do book i) refl refl refl refl
 
 again-on : (book : Book) (i word : ℕ) (last : Bool) → is_last (cell_of (slave_at book i).cells word).known ≡ last → GoesAndAppends book (with_again book i word)
-again-on book i word true is = rw is (fault-on book i Free (faults.SlaveDead i))
-again-on book i word false is = rw is (errand-on book i Free)
+again-on book i word true is = rw is (fault-on book i NoOperation (faults.SlaveDead i))
+again-on book i word false is = rw is (operation-on book i NoOperation)
 
-back-on : (book : Book) (i : ℕ) (errand : Errand) (outcome : RomOutcome) → (slave_at book i).errand ≡ errand → GoesAndAppends book (rom_done book i outcome)
-back-on book i Free outcome is = rw is (same-on book)
+back-on : (book : Book) (i : ℕ) (operation : Operation) (outcome : RomOutcome) → (slave_at book i).operation ≡ operation → GoesAndAppends book (rom_done book i outcome)
+back-on book i NoOperation outcome is = rw is (same-on book)
 back-on book i (Unsettled word value taken) outcome is = rw is (same-on book)
-back-on book i (Issuing word value) (outcomes.Issued how) is = rw is (errand-on book i (Unsettled word value (was_taken how)))
+back-on book i (Issuing word value) (outcomes.Issued how) is = rw is (operation-on book i (Unsettled word value (was_taken how)))
 back-on book i (Issuing word value) (outcomes.Settled how) is = rw is (same-on book)
-back-on book i (Issuing word value) outcomes.Stopped is = rw is (fault-on book i Free faults.Stopped)
+back-on book i (Issuing word value) outcomes.Stopped is = rw is (fault-on book i NoOperation faults.Stopped)
 back-on book i (Settling word value taken) (outcomes.Issued how) is = rw is (same-on book)
 back-on book i (Settling word value taken) (outcomes.Settled Written) is = rw is (same-but book i _ (owe-written (slave_at book i).cells word value))
 back-on book i (Settling word value taken) (outcomes.Settled Again) is = rw is (again-on book i word (is_last (cell_of (slave_at book i).cells word).known) refl)
-back-on book i (Settling word value taken) (outcomes.Settled Dead) is = rw is (fault-on book i Free (faults.SlaveDead i))
-back-on book i (Settling word value taken) outcomes.Stopped is = rw is (fault-on book i Free faults.Stopped)
+back-on book i (Settling word value taken) (outcomes.Settled Dead) is = rw is (fault-on book i NoOperation (faults.SlaveDead i))
+back-on book i (Settling word value taken) outcomes.Stopped is = rw is (fault-on book i NoOperation faults.Stopped)
 
-pub slave-told-on : (book : Book) (i : ℕ) (outcome : RomOutcome) → GoesAndAppends book (rom_done book i outcome)
-slave-told-on book i outcome = back-on book i (slave_at book i).errand outcome refl
+pub slave-reported-on : (book : Book) (i : ℕ) (outcome : RomOutcome) → GoesAndAppends book (rom_done book i outcome)
+slave-reported-on book i outcome = back-on book i (slave_at book i).operation outcome refl

@@ -8,7 +8,7 @@ use Rattle.esc_model.proofs.Resting.{MayRest-leaves, MayRest-twice, MayLeave-sam
 use Rattle.esc_model.proofs.OnlyResting.{MayRest-only, OnlyRests-leaves, OnlyRests-length}
 use Rattle.esc_model.proofs.WordWriting.{taken_then_well}
 use Rattle.book_model.specs.Cells.{Known, Cell, asked, written, opened, nothing, cell_of, next_issue}
-use Rattle.book_model.specs.Book.{Errand, Free, Issuing, Unsettled, Settling}
+use Rattle.book_model.specs.Book.{Operation, NoOperation, Issuing, Unsettled, Settling}
 use Rattle.book_model.specs.Owed.{MayBe, IsUnsure}
 use Rattle.book_model.specs.Slaves.{HasTaken}
 use Rattle.book_model.specs.Steps.{TakesOrNot}
@@ -25,21 +25,21 @@ pub record IsIssued (slave word value : ℕ) (taken : Bool) (half : SlaveHalf) (
   pub took : taken ≡ true → HasTaken slave word value half
 
 -- nothing is said of a word that is being issued until the issue returns
-abbrev pub ErrandFits : ℕ → Errand → SlaveHalf → List Cell → Type 0
-ErrandFits slave Free half cells = Unit {0}
-ErrandFits slave (Issuing word value) half cells = IsAsked word cells
-ErrandFits slave (Unsettled word value taken) half cells = IsIssued slave word value taken half cells
-ErrandFits slave (Settling word value taken) half cells = IsIssued slave word value taken half cells
+abbrev pub OperationFits : ℕ → Operation → SlaveHalf → List Cell → Type 0
+OperationFits slave NoOperation half cells = Unit {0}
+OperationFits slave (Issuing word value) half cells = IsAsked word cells
+OperationFits slave (Unsettled word value taken) half cells = IsIssued slave word value taken half cells
+OperationFits slave (Settling word value taken) half cells = IsIssued slave word value taken half cells
 
 -- each word may hold what a power cut leaves in it
-pub record HalfFits (slave : ℕ) (half : SlaveHalf) (errand : Errand) (cells : List Cell) : Type 0 where
+pub record HalfFits (slave : ℕ) (half : SlaveHalf) (operation : Operation) (cells : List Cell) : Type 0 where
   pub size : length cells ≡ length half.words
   pub words : (left : List ℕ) → MayLeave half left → (at : ℕ) → at < length cells → MayBe (cell_of cells at).known (get_or left at 0)
-  pub asks : ErrandFits slave errand half cells
+  pub asks : OperationFits slave operation half cells
 
 -- ---- as it was read
 
-pub half-opened : (slave : ℕ) (half : SlaveHalf) → IsIdle half → HalfFits slave half Free (map opened half.words)
+pub half-opened : (slave : ℕ) (half : SlaveHalf) → IsIdle half → HalfFits slave half NoOperation (map opened half.words)
 half-opened slave half idle = record {
   size = length-map half.words opened;
   words = λ left may at within.
@@ -58,23 +58,23 @@ pub record SameKnown (cells later : List Cell) : Type 0 where
 asked-same : (word : ℕ) (cells later : List Cell) → SameKnown cells later → IsAsked word cells → IsAsked word later
 asked-same word cells later same asked = record { inside = omega (arith, asked.inside, same.size); unsure = (asked.unsure.0, same.known word ∙ asked.unsure.1) }
 
-errand-same : (slave : ℕ) (errand : Errand) (half : SlaveHalf) (cells later : List Cell) → SameKnown cells later → ErrandFits slave errand half cells → ErrandFits slave errand half later
-errand-same slave Free half cells later same fits = tt
-errand-same slave (Issuing word value) half cells later same fits = asked-same word cells later same fits
-errand-same slave (Unsettled word value taken) half cells later same fits = record { asked = asked-same word cells later same fits.asked; took = fits.took }
-errand-same slave (Settling word value taken) half cells later same fits = record { asked = asked-same word cells later same fits.asked; took = fits.took }
+operation-same : (slave : ℕ) (operation : Operation) (half : SlaveHalf) (cells later : List Cell) → SameKnown cells later → OperationFits slave operation half cells → OperationFits slave operation half later
+operation-same slave NoOperation half cells later same fits = tt
+operation-same slave (Issuing word value) half cells later same fits = asked-same word cells later same fits
+operation-same slave (Unsettled word value taken) half cells later same fits = record { asked = asked-same word cells later same fits.asked; took = fits.took }
+operation-same slave (Settling word value taken) half cells later same fits = record { asked = asked-same word cells later same fits.asked; took = fits.took }
 
-pub half-same : (slave : ℕ) (errand : Errand) (half : SlaveHalf) (cells later : List Cell) → SameKnown cells later → HalfFits slave half errand cells → HalfFits slave half errand later
-half-same slave errand half cells later same fits = record {
+pub half-same : (slave : ℕ) (operation : Operation) (half : SlaveHalf) (cells later : List Cell) → SameKnown cells later → HalfFits slave half operation cells → HalfFits slave half operation later
+half-same slave operation half cells later same fits = record {
   size = same.size ∙ fits.size;
   words = λ left may at within. subst (λ (k : Known). MayBe k (get_or left at 0)) (sym (same.known at)) (fits.words left may at (omega (arith, within, same.size)));
-  asks = errand-same slave errand half cells later same fits.asks;
+  asks = operation-same slave operation half cells later same fits.asks;
 }
 
 -- ---- a word changes its cell
 
 -- it is handed out to be issued
-pub half-asked : (slave word value : ℕ) (half : SlaveHalf) (cells : List Cell) → word < length cells → HalfFits slave half Free cells
+pub half-asked : (slave word value : ℕ) (half : SlaveHalf) (cells : List Cell) → word < length cells → HalfFits slave half NoOperation cells
     → HalfFits slave half (Issuing word value) (set cells word (asked (cell_of cells word)))
 half-asked slave word value half cells inside fits = record {
   size = length-set cells word (asked (cell_of cells word)) ∙ fits.size;
@@ -122,7 +122,7 @@ half-issued taken said slave word value half begun later cells begins rests so f
 
 -- the word is written
 pub half-written : (slave word value : ℕ) (half later : SlaveHalf) (cells : List Cell) → MayRest half later → IsWell later → HalfFits slave half (Settling word value true) cells
-    → HalfFits slave later Free (set cells word (written (cell_of cells word) value))
+    → HalfFits slave later NoOperation (set cells word (written (cell_of cells word) value))
 half-written slave word value half later cells rests well fits =
     let issued : IsIssued slave word value true half cells = fits.asks in
     let inside : word < length cells = issued.asked.inside in
@@ -137,8 +137,8 @@ half-written slave word value half later cells rests well fits =
     }
 
 -- the slave is free
-pub half-freed : (slave : ℕ) (half later : SlaveHalf) (errand : Errand) (cells : List Cell) → OnlyRests half later → HalfFits slave half errand cells → HalfFits slave later Free cells
-half-freed slave half later errand cells rests fits = record {
+pub half-freed : (slave : ℕ) (half later : SlaveHalf) (operation : Operation) (cells : List Cell) → OnlyRests half later → HalfFits slave half operation cells → HalfFits slave later NoOperation cells
+half-freed slave half later operation cells rests fits = record {
   size = fits.size ∙ sym (OnlyRests-length half later rests);
   words = λ left may. fits.words left (OnlyRests-leaves half later left rests may);
   asks = tt;

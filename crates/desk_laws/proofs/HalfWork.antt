@@ -49,12 +49,12 @@ pub set-here : {A : Type 0} (xs : List A) (i : ℕ) (x : A) → i < length xs �
 set-here {A} xs i x within =
     slice_get-get_or (set xs i x) i x (omega (arith, within, length-set xs i x)) ∙ ap (λ (y : A). Some y) (get_or-set_same xs i x x within)
 
-pub set-apart : {A : Type 0} (xs : List A) (j i : ℕ) (x : A) → i ≢ j → slice_get (set xs j x) i ≡ slice_get xs i
-set-apart [] j i x other = refl
-set-apart (y ∷ xs) zero zero x other = absurd (other refl)
-set-apart (y ∷ xs) zero (suc i) x other = refl
-set-apart (y ∷ xs) (suc j) zero x other = refl
-set-apart (y ∷ xs) (suc j) (suc i) x other = set-apart xs j i x (λ same. other (ap suc same))
+pub set-separate : {A : Type 0} (xs : List A) (j i : ℕ) (x : A) → i ≢ j → slice_get (set xs j x) i ≡ slice_get xs i
+set-separate [] j i x other = refl
+set-separate (y ∷ xs) zero zero x other = absurd (other refl)
+set-separate (y ∷ xs) zero (suc i) x other = refl
+set-separate (y ∷ xs) (suc j) zero x other = refl
+set-separate (y ∷ xs) (suc j) (suc i) x other = set-separate xs j i x (λ same. other (ap suc same))
 
 -- ---- one job
 
@@ -127,18 +127,18 @@ half-returns i job outcome old new half later returns here there =
     subst (HalfReturns i job outcome half) second (subst (λ (h : SlaveHalf). HalfReturns i job outcome h returns.later) first returns.goes)
 
 last-steps : (i : ℕ) (entry : RomEntry) (mid new : Seen) (outcome : RomOutcome) → entry.outcome ≡ Some outcome → CallsSlave i entry.job outcome mid new → outcome ≢ outcomes.Stopped → SlaveReturns i entry.job outcome mid.state new.state
-last-steps i entry mid new outcome told does going =
-    let turn : DoneInTurn (CallsSlave i) (entry ∷ []) mid new = (new, record { outcome = outcome; told = told; does = does; going = call-goes i entry.job outcome mid new does going }, refl) in
+last-steps i entry mid new outcome reported does going =
+    let turn : DoneInTurn (CallsSlave i) (entry ∷ []) mid new = (new, record { outcome = outcome; reported = reported; does = does; going = call-goes i entry.job outcome mid new does going }, refl) in
     let back : CameBackInTurn (SlaveReturns i) (entry ∷ []) mid.state new.state = calls-came-back i (entry ∷ []) mid new turn in
     let one = back.1 in
-    let same : one.outcome ≡ outcome = (let e : Some one.outcome ≡ Some outcome = sym one.told ∙ told in cc) in
+    let same : one.outcome ≡ outcome = (let e : Some one.outcome ≡ Some outcome = sym one.reported ∙ reported in cc) in
     subst (λ (s : State). SlaveReturns i entry.job outcome mid.state s) (sym back.2) (subst (λ (o : RomOutcome). SlaveReturns i entry.job o mid.state back.0) same one.returns)
 
 call-steps : (i : ℕ) (entry : RomEntry) (outcome : RomOutcome) (old new : Seen) (half later : SlaveHalf) → (entry.outcome ≡ Some outcome) ⊎ (entry.outcome ≡ None) → CallsSlave i entry.job outcome old new
     → slice_get old.state.halves i ≡ Some half → slice_get new.state.halves i ≡ Some later → HalfSteps i entry half later
-call-steps i entry outcome old new half later (inl told) does here there = record {
+call-steps i entry outcome old new half later (inl reported) does here there = record {
   returns = λ said is going.
-      let same : outcome ≡ said = (let e : Some outcome ≡ Some said = sym told ∙ is in cc) in
+      let same : outcome ≡ said = (let e : Some outcome ≡ Some said = sym reported ∙ is in cc) in
       half-returns i entry.job said old.state new.state half later (last-steps i entry old new said is (subst (λ (o : RomOutcome). CallsSlave i entry.job o old new) same does) going) here there;
   leaves = job-left i entry.job old.state new.state half later (call-left i entry.job outcome old new does) here there;
 }
@@ -178,19 +178,19 @@ led-none i old new half same here = record { later = half; there = ap (λ (s : S
 
 led-job : (i : ℕ) (entry : RomEntry) (log : List RomEntry) (outcome : RomOutcome) (old mid : Seen) (new : State) (half : SlaveHalf) → (entry.outcome ≡ Some outcome) ⊎ (entry.outcome ≡ None) → CallsSlave i entry.job outcome old mid → slice_get old.state.halves i ≡ Some half
     → ((half : SlaveHalf) → slice_get mid.state.halves i ≡ Some half → LedOn i log half new) → LedOn i (entry ∷ log) half new
-led-job i entry log outcome old mid new half told does here others =
+led-job i entry log outcome old mid new half reported does here others =
     let on = half-stays i entry.job old.state mid.state half (call-left i entry.job outcome old mid does) here in
     let rest = others on.0 on.1 in
-    record { later = rest.later; there = rest.there; led = λ more end led. (on.0, call-steps i entry outcome old mid half on.0 told does here on.1, rest.led more end led) }
+    record { later = rest.later; there = rest.there; led = λ more end led. (on.0, call-steps i entry outcome old mid half on.0 reported does here on.1, rest.led more end led) }
 
 led-turn : (i : ℕ) (log : List RomEntry) (old new : Seen) (half : SlaveHalf) → DoneInTurn (CallsSlave i) log old new → slice_get old.state.halves i ≡ Some half → LedOn i log half new.state
 led-turn i [] old new half same here = led-none i old new half same here
 led-turn i (entry ∷ log) old new half turn here =
-    let one = turn.1 in led-job i entry log one.outcome old turn.0 new.state half (inl one.told) one.does here (λ h there. led-turn i log turn.0 new h turn.2 there)
+    let one = turn.1 in led-job i entry log one.outcome old turn.0 new.state half (inl one.reported) one.does here (λ h there. led-turn i log turn.0 new h turn.2 there)
 
 led-last : (i : ℕ) (last : List RomEntry) (old new : Seen) (half : SlaveHalf) → MayEnd (CallsSlave i) last old new → slice_get old.state.halves i ≡ Some half → LedOn i last half new.state
 led-last i [] old new half same here = led-none i old new half same here
-led-last i (entry ∷ []) old new half ends here = led-job i entry [] ends.outcome old new new.state half ends.told ends.does here (λ h there. led-none i new new h refl there)
+led-last i (entry ∷ []) old new half ends here = led-job i entry [] ends.outcome old new new.state half ends.reported ends.does here (λ h there. led-none i new new h refl there)
 led-last i (entry ∷ next ∷ last) old new half ends here = absurd ends
 
 led-worked : (i : ℕ) (log : List RomEntry) (old new : Seen) (half : SlaveHalf) → IsWorked i log old new → slice_get old.state.halves i ≡ Some half → LedOn i log half new.state

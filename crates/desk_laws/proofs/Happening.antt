@@ -15,7 +15,7 @@ use Rattle.book_model.specs.declared.next.RomNext.{RomNext}
 use Rattle.book_model.specs.declared.next.RomNext.TheVariants as rom
 use Rattle.book_model.specs.declared.next.RomOutcome.{RomOutcome}
 use Rattle.book_model.specs.declared.next.RomOutcome.TheVariants.{Issued, Settled, Stopped}
-use Rattle.book_model.specs.Book.{Book, Errand, Free, Issuing, Unsettled, Settling, slave_at}
+use Rattle.book_model.specs.Book.{Book, Operation, NoOperation, Issuing, Unsettled, Settling, slave_at}
 use Rattle.book_model.specs.Submit.{submit}
 use Rattle.book_model.specs.Open.{finish}
 use Rattle.book_model.specs.DiskSteps.{disk_next, disk_done}
@@ -25,11 +25,11 @@ use Rattle.book_model.specs.Events.{begun_on, ended_on, FailsOn, in_progress}
 use Rattle.book_model.specs.Steps.{MayBegin, MayComeBack, took_after}
 use Rattle.sii_image.specs.ProcessImage.{process_image}
 use Rattle.world_law.specs.World.{World, RomIssue, RomDone, DiskDone, Nothing, Planned, Closed}
-use Rattle.world_law.specs.Happenings.{submitted, with_book, with_disk, told_of, fault_told}
+use Rattle.world_law.specs.Happenings.{submitted, with_book, with_disk, reported_of, fault_reported}
 use Rattle.desk_book.specs.declared.call.Call.{Call}
-use Rattle.desk_book.specs.declared.call.Call.TheVariants.{Submitted, DiskAsked, DiskTold, SlaveAsked, SlaveTold, PlanAsked, Finished}
+use Rattle.desk_book.specs.declared.call.Call.TheVariants.{Submitted, DiskAsked, DiskReported, SlaveAsked, SlaveReported, PlanAsked, Finished}
 use Rattle.desk_book.specs.Calls.{IsAnswered}
-use Rattle.desk_laws.specs.Events.{event_of, CanHappen, IsOfErrand, IsOfItsJob}
+use Rattle.desk_laws.specs.Events.{event_of, CanHappen, IsOfOperation, IsOfItsJob}
 
 -- ---- the disk
 
@@ -49,14 +49,14 @@ disk-happens : (book : Book) (outcome : Result (Unit {0}) DeviceFault) → book.
 disk-happens book (Ok done) out not = record {
   world = world_of book;
   up = refl;
-  told = told_of book (disk_done book (Ok tt));
+  reported = reported_of book (disk_done book (Ok tt));
   later = with_disk (world_of book) (disk_done book (Ok tt)) (ended_on (in_progress book) no_disk);
   happens = (out, (refl, refl));
 }
 disk-happens book (Err fault) out not = record {
   world = world_of book;
   up = refl;
-  told = Closed;
+  reported = Closed;
   later = with_disk (world_of book) (disk_done book (Err fault)) no_disk;
   happens = (out, (no_disk, (λ e. not cc), fails-same (in_progress book) no_disk, refl, refl));
 }
@@ -96,7 +96,7 @@ slave-begins book slave =
     record {
       world = world;
       up = refl;
-      told = Nothing;
+      reported = Nothing;
       later = record {
         book = Some (rom_next book slave).1;
         state = with_half world.state slave well;
@@ -110,8 +110,8 @@ abbrev took_for : RomOutcome → Bool
 took_for (Issued Taken) = true
 took_for outcome = false
 
-comes-back : (errand : Errand) (outcome : RomOutcome) → IsOfErrand errand outcome → MayComeBack (took_for outcome) errand outcome well well
-comes-back Free outcome of = absurd of
+comes-back : (operation : Operation) (outcome : RomOutcome) → IsOfOperation operation outcome → MayComeBack (took_for outcome) operation outcome well well
+comes-back NoOperation outcome of = absurd of
 comes-back (Unsettled word value taken) outcome of = absurd of
 comes-back (Issuing word value) (Issued Taken) of = (refl, refl)
 comes-back (Issuing word value) (Issued NotTaken) of = (refl, refl)
@@ -124,13 +124,13 @@ comes-back (Settling word value taken) (Settled Again) of = (refl, record { stat
 comes-back (Settling word value taken) (Settled Dead) of = record { station = refl; words = inl (refl, refl) }
 comes-back (Settling word value taken) Stopped of = record { station = refl; words = inl (refl, refl) }
 
-slave-happens : (book : Book) (slave : ℕ) (outcome : RomOutcome) → IsOfErrand (slave_at book slave).errand outcome → CanHappen (RomDone slave outcome) book
+slave-happens : (book : Book) (slave : ℕ) (outcome : RomOutcome) → IsOfOperation (slave_at book slave).operation outcome → CanHappen (RomDone slave outcome) book
 slave-happens book slave outcome of =
     let world : World = world_with book slave (took_for outcome) in
     record {
       world = world;
       up = refl;
-      told = fault_told (rom_done book slave outcome);
+      reported = fault_reported (rom_done book slave outcome);
       later = record { book = Some (rom_done book slave outcome); state = with_half world.state slave well; took = world.took };
       happens = (
         refl,
@@ -138,7 +138,7 @@ slave-happens book slave outcome of =
           half = well;
           here = at-place slave well;
           after = well;
-          may = rw (index-place slave (took_for outcome) false) (comes-back (slave_at book slave).errand outcome of);
+          may = rw (index-place slave (took_for outcome) false) (comes-back (slave_at book slave).operation outcome of);
           is = refl;
         },
       );
@@ -149,44 +149,44 @@ slave-happens book slave outcome of =
 pub can-happen : (book : Book) (call : Call) → IsAnswered book call → IsOfItsJob book call → CanHappen (event_of call) book
 can-happen book (Submitted command answer) answered of =
     let after = submitted book command (submit book command) in
-    record { world = world_of book; up = refl; told = after.1; later = with_book (world_of book) after.0; happens = (refl, refl) }
+    record { world = world_of book; up = refl; reported = after.1; later = with_book (world_of book) after.0; happens = (refl, refl) }
 can-happen book (DiskAsked answer) answered of = record {
   world = world_of book;
   up = refl;
-  told = Nothing;
+  reported = Nothing;
   later = with_disk (world_of book) (disk_next book).1 (begun_on (Some (disk_next book).0) no_disk);
   happens = (refl, refl);
 }
-can-happen book (DiskTold outcome) answered of = disk-happens book outcome answered of
+can-happen book (DiskReported outcome) answered of = disk-happens book outcome answered of
 can-happen book (SlaveAsked slave answer) answered of = slave-begins book slave
-can-happen book (SlaveTold slave outcome) answered of = slave-happens book slave outcome of
+can-happen book (SlaveReported slave outcome) answered of = slave-happens book slave outcome of
 can-happen book (PlanAsked answer) answered of =
-    record { world = world_of book; up = refl; told = Planned (applied book) (process_image (planned book)); later = world_of book; happens = (refl, refl) }
+    record { world = world_of book; up = refl; reported = Planned (applied book) (process_image (planned book)); later = world_of book; happens = (refl, refl) }
 can-happen book Finished answered of =
-    record { world = world_of book; up = refl; told = Closed; later = with_book (world_of book) (finish book); happens = (refl, refl) }
+    record { world = world_of book; up = refl; reported = Closed; later = with_book (world_of book) (finish book); happens = (refl, refl) }
 
 -- ---- no event with any other outcome
 
-of-errand : (took : Bool) (errand : Errand) (outcome : RomOutcome) (half later : SlaveHalf) → MayComeBack took errand outcome half later → IsOfErrand errand outcome
-of-errand took Free outcome half later back = absurd back
-of-errand took (Unsettled word value taken) outcome half later back = absurd back
-of-errand took (Issuing word value) (Issued issued) half later back = tt
-of-errand took (Issuing word value) (Settled settled) half later back = absurd back
-of-errand took (Issuing word value) Stopped half later back = tt
-of-errand took (Settling word value taken) (Issued issued) half later back = absurd back
-of-errand took (Settling word value taken) (Settled Written) half later back = back.0
-of-errand took (Settling word value taken) (Settled Again) half later back = tt
-of-errand took (Settling word value taken) (Settled Dead) half later back = tt
-of-errand took (Settling word value taken) Stopped half later back = tt
+of-operation : (took : Bool) (operation : Operation) (outcome : RomOutcome) (half later : SlaveHalf) → MayComeBack took operation outcome half later → IsOfOperation operation outcome
+of-operation took NoOperation outcome half later back = absurd back
+of-operation took (Unsettled word value taken) outcome half later back = absurd back
+of-operation took (Issuing word value) (Issued issued) half later back = tt
+of-operation took (Issuing word value) (Settled settled) half later back = absurd back
+of-operation took (Issuing word value) Stopped half later back = tt
+of-operation took (Settling word value taken) (Issued issued) half later back = absurd back
+of-operation took (Settling word value taken) (Settled Written) half later back = back.0
+of-operation took (Settling word value taken) (Settled Again) half later back = tt
+of-operation took (Settling word value taken) (Settled Dead) half later back = tt
+of-operation took (Settling word value taken) Stopped half later back = tt
 
 pub only-of-its-job : (book : Book) (call : Call) → CanHappen (event_of call) book → IsOfItsJob book call
 only-of-its-job book (Submitted command answer) can = tt
 only-of-its-job book (DiskAsked answer) can = tt
-only-of-its-job book (DiskTold (Ok done)) can = λ e. absurd cc
-only-of-its-job book (DiskTold (Err fault)) can = λ e. can.happens.1.1 cc
+only-of-its-job book (DiskReported (Ok done)) can = λ e. absurd cc
+only-of-its-job book (DiskReported (Err fault)) can = λ e. can.happens.1.1 cc
 only-of-its-job book (SlaveAsked slave answer) can = tt
-only-of-its-job book (SlaveTold slave outcome) can =
+only-of-its-job book (SlaveReported slave outcome) can =
     let back = can.happens.1 in
-    of-errand (slice_index_or can.world.took slave false) (slave_at book slave).errand outcome back.half back.after back.may
+    of-operation (slice_index_or can.world.took slave false) (slave_at book slave).operation outcome back.half back.after back.may
 only-of-its-job book (PlanAsked answer) can = tt
 only-of-its-job book Finished can = tt

@@ -11,15 +11,15 @@ use Rattle.book_model.specs.Open.{finish}
 use Rattle.book_model.specs.RomSteps.{rom_done}
 use Rattle.world_law.specs.World.{Submit, Finish, Accepted, Closed}
 use Rattle.desk_book.specs.declared.call.Call.{Call}
-use Rattle.desk_book.specs.declared.call.Call.TheVariants.{Submitted, DiskAsked, DiskTold, SlaveAsked, SlaveTold, PlanAsked, Finished}
+use Rattle.desk_book.specs.declared.call.Call.TheVariants.{Submitted, DiskAsked, DiskReported, SlaveAsked, SlaveReported, PlanAsked, Finished}
 use Rattle.desk_book.specs.Calls.{after, replayed, AreAnswered, IsAnswered}
 use Rattle.desk_book.specs.Logs.{DiskEntry, disk_noted}
 use Rattle.desk_laws.specs.Joined.{CallFits}
 use Rattle.desk_laws.proofs.DiskWork.{DiskLedBy}
-use Rattle.desk_laws.proofs.DiskLog.{KeepsDisk, asked-keeps, told-keeps}
-use Rattle.desk_laws.proofs.DiskUp.{DiskPart, DiskGoesOn, disk-keeps, disk-asked, disk-told}
+use Rattle.desk_laws.proofs.DiskLog.{KeepsDisk, asked-keeps, reported-keeps}
+use Rattle.desk_laws.proofs.DiskUp.{DiskPart, DiskGoesOn, disk-keeps, disk-asked, disk-reported}
 use Rattle.desk_laws.proofs.WorldLaws.{Stays, happens}
-use Rattle.desk_laws.proofs.SlaveOn.{Courses, SlaveGoesOn, courses-behind, slave-asked, slave-told}
+use Rattle.desk_laws.proofs.SlaveOn.{Courses, SlaveGoesOn, courses-afterwards, slave-asked, slave-reported}
 
 -- The main law's invariant holds with this book, and the rest of the calls leads the disk and each slave to the end.
 pub record Joined (end : State) (calls : List Call) (book : Book) : Type 0 where
@@ -39,7 +39,7 @@ part-keeps book later call calls end stands keeps unnoted part = record {
   led = subst (λ (l : List DiskEntry). DiskLedBy (fold disk_noted l calls) part.real end) (unnoted part.log) part.led;
 }
 
-module _ (end : State) (calls : List Call) (book : Book) (call : Call) (j : Joined end (call ∷ calls) book) (untold : (i : ℕ) (outcome : RomOutcome) → call ≡ SlaveTold i outcome → ⊥) where
+module _ (end : State) (calls : List Call) (book : Book) (call : Call) (j : Joined end (call ∷ calls) book) (unreported : (i : ℕ) (outcome : RomOutcome) → call ≡ SlaveReported i outcome → ⊥) where
   -- no half changes, and the disk has no part in the call
   joins-quiet : (took : List Bool) → Stays (after book call) j.state took → KeepsDisk book (after book call) → ((log : List DiskEntry) → disk_noted log call ≡ log) → Joined end calls (after book call)
   joins-quiet took stays keeps unnoted = record {
@@ -48,7 +48,7 @@ module _ (end : State) (calls : List Call) (book : Book) (call : Call) (j : Join
     stays = stays;
     disk = part-keeps book (after book call) call calls end.disk j.state.disk keeps unnoted j.disk;
     count = j.count;
-    courses = courses-behind book call calls j.state.halves end.halves untold j.courses;
+    courses = courses-afterwards book call calls j.state.halves end.halves unreported j.courses;
   }
 
   joins-disk : DiskGoesOn (after book call) calls end.disk j.state j.took → Joined end calls (after book call)
@@ -58,11 +58,11 @@ module _ (end : State) (calls : List Call) (book : Book) (call : Call) (j : Join
     stays = goes.stays;
     disk = goes.part;
     count = j.count;
-    courses = courses-behind book call calls j.state.halves end.halves untold j.courses;
+    courses = courses-afterwards book call calls j.state.halves end.halves unreported j.courses;
   }
 
-joins-told : (end : State) (calls : List Call) (book later : Book) (call : Call) → KeepsDisk book later → ((log : List DiskEntry) → disk_noted log call ≡ log) → (j : Joined end (call ∷ calls) book) → SlaveGoesOn later calls end.halves j.state → Joined end calls later
-joins-told end calls book later call keeps unnoted j goes = record {
+joins-reported : (end : State) (calls : List Call) (book later : Book) (call : Call) → KeepsDisk book later → ((log : List DiskEntry) → disk_noted log call ≡ log) → (j : Joined end (call ∷ calls) book) → SlaveGoesOn later calls end.halves j.state → Joined end calls later
+joins-reported end calls book later call keeps unnoted j goes = record {
   state = record j.state { halves = goes.halves };
   took = goes.took;
   stays = goes.stays;
@@ -80,12 +80,12 @@ joins-call end calls book (Submitted command (Err refusal)) is all small j =
     joins-quiet end calls book (Submitted command (Err refusal)) j (λ i outcome no. cc no) j.took j.stays (record { out = refl; action = refl; failed = λ has. has }) (λ log. refl)
 joins-call end calls book (DiskAsked answer) is all small j =
     joins-disk end calls book (DiskAsked answer) j (λ i outcome no. cc no) (disk-asked book calls end.disk j.state j.took j.stays j.disk.log j.disk.real answer is j.disk.on j.disk.led)
-joins-call end calls book (DiskTold outcome) is all small j =
-    joins-disk end calls book (DiskTold outcome) j (λ i outcome no. cc no) (disk-told book calls end.disk j.state j.took j.stays j.disk.log j.disk.real outcome is j.disk.on all j.disk.led)
+joins-call end calls book (DiskReported outcome) is all small j =
+    joins-disk end calls book (DiskReported outcome) j (λ i outcome no. cc no) (disk-reported book calls end.disk j.state j.took j.stays j.disk.log j.disk.real outcome is j.disk.on all j.disk.led)
 joins-call end calls book (SlaveAsked slave answer) is all small j =
     let now = slave-asked book j.state j.took slave j.stays in joins-quiet end calls book (SlaveAsked slave answer) j (λ i outcome no. cc no) now.took now.stays (asked-keeps book slave) (λ log. refl)
-joins-call end calls book (SlaveTold slave outcome) is all small j =
-    joins-told end calls book (rom_done book slave outcome) (SlaveTold slave outcome) (told-keeps book slave outcome) (λ log. refl) j (slave-told book calls end.halves j.state j.took j.stays slave outcome j.courses j.count is)
+joins-call end calls book (SlaveReported slave outcome) is all small j =
+    joins-reported end calls book (rom_done book slave outcome) (SlaveReported slave outcome) (reported-keeps book slave outcome) (λ log. refl) j (slave-reported book calls end.halves j.state j.took j.stays slave outcome j.courses j.count is)
 joins-call end calls book (PlanAsked answer) is all small j =
     joins-quiet end calls book (PlanAsked answer) j (λ i outcome no. cc no) j.took j.stays (record { out = refl; action = refl; failed = λ has. has }) (λ log. refl)
 joins-call end calls book Finished is all small j =

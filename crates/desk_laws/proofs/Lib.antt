@@ -8,7 +8,7 @@ pub mod FallLaws
 pub mod HalfLaws
 pub mod WordLaws
 pub mod StandLaws
-pub mod LogBehind
+pub mod LogAfter
 pub mod HalfWork
 pub mod Courses
 pub mod ServeLaws

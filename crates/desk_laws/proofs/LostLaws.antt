@@ -30,7 +30,7 @@ not-lost disk.Stop outcome old new does = absurd does
 
 done-not-lost : (entry : DiskEntry) (old new : Seen) → IsDone DoesAction entry old new → entry.outcome ≢ Some (Err device.Lost)
 done-not-lost entry old new done e =
-    let told = done.told in
+    let reported = done.reported in
     not-lost entry.job done.outcome old new done.does cc
 
 done-none : (log : List DiskEntry) (old new : Seen) → DoneInTurn DoesAction log old new → NoneIsLost log
@@ -38,9 +38,9 @@ done-none [] old new done = tt
 done-none (first ∷ others) old new done = (done-not-lost first old done.0 done.1, done-none others done.0 new done.2)
 
 last-not-lost : (entry : DiskEntry) (old new : Seen) → IsLast DoesAction entry old new → entry.outcome ≢ Some (Err device.Lost)
-last-not-lost entry old new last e = elim last.told [
-  | inl told ↦ not-lost entry.job last.outcome old new last.does cc
-  | inr told ↦ absurd cc
+last-not-lost entry old new last e = elim last.reported [
+  | inl reported ↦ not-lost entry.job last.outcome old new last.does cc
+  | inr reported ↦ absurd cc
 ]
 
 last-none : (log : List DiskEntry) (old new : Seen) → MayEnd DoesAction log old new → NoneIsLost log

@@ -14,22 +14,22 @@ use Rattle.book_model.specs.declared.next.RomNext.{RomNext}
 use Rattle.book_model.specs.declared.next.RomNext.TheVariants as next
 use Rattle.book_model.specs.declared.next.RomOutcome.{RomOutcome}
 use Rattle.book_model.specs.declared.next.RomOutcome.TheVariants as outcomes
-use Rattle.book_model.specs.Book.{Book, Errand, Free, Issuing, Unsettled, Settling, slave_at}
+use Rattle.book_model.specs.Book.{Book, Operation, NoOperation, Issuing, Unsettled, Settling, slave_at}
 use Rattle.book_model.specs.DiskSteps.{disk_next}
 use Rattle.book_model.specs.RomSteps.{was_taken, is_last, rom_next, rom_done}
 use Rattle.book_model.proofs.CellLaws.{asked-fits, written-fits}
 use Rattle.book_model.specs.Steps.{MayComeBack}
 use Rattle.station_jobs.specs.Working.{HalfReturns}
 use Rattle.desk_book.specs.declared.call.Call.{Call}
-use Rattle.desk_book.specs.declared.call.Call.TheVariants.{Submitted, DiskAsked, DiskTold, SlaveAsked, SlaveTold, PlanAsked, Finished}
+use Rattle.desk_book.specs.declared.call.Call.TheVariants.{Submitted, DiskAsked, DiskReported, SlaveAsked, SlaveReported, PlanAsked, Finished}
 use Rattle.desk_book.specs.Calls.{after, replayed}
 use Rattle.desk_book.proofs.LogLaws.{same-or-not}
-use Rattle.desk_book.proofs.OutLaws.{Next, rests, issues, settles, next-of, DiskNexts, disk_rests, disk_goes, nexts-of, SlaveGoes, back-of, issued-slave, asked-apart, told-apart}
+use Rattle.desk_book.proofs.OutLaws.{Next, rests, issues, settles, next-of, DiskNexts, disk_rests, disk_goes, nexts-of, SlaveGoes, back-of, issued-slave, asked-separate, reported-separate}
 use Rattle.desk_laws.proofs.HalfWork.{HalfSteps}
 use Rattle.desk_laws.proofs.Courses.{IsJobOf, Moves, still, came, EndsOut, Course}
 use Rattle.desk_laws.proofs.HalfLaws.{IsIssued, HalfFits, half-asked, half-issued, half-written, half-freed}
 use Rattle.desk_laws.proofs.WordLaws.{words-cell}
-use Rattle.desk_laws.proofs.StandLaws.{Stands, all_runs, stands-command, stands-asked, stands-told, stands-slave, stands-apart, told-failed, to-do-owed}
+use Rattle.desk_laws.proofs.StandLaws.{Stands, all_runs, stands-command, stands-asked, stands-reported, stands-slave, stands-separate, reported-failed, to-do-owed}
 
 -- ---- a fault stays
 
@@ -44,14 +44,14 @@ failed-after book (DiskAsked answer) has = from (nexts-of book)
     from : DiskNexts book → is_some (disk_next book).1.fault ≡ true
     from (disk_rests answer none is) = ap (λ (a : DiskNext × Book). is_some a.1.fault) is ∙ has
     from (disk_goes action is) = ap (λ (a : DiskNext × Book). is_some a.1.fault) is ∙ has
-failed-after book (DiskTold outcome) has = told-failed book outcome has
+failed-after book (DiskReported outcome) has = reported-failed book outcome has
 failed-after book (SlaveAsked j answer) has = from (next-of book j)
   where
     from : Next book j → is_some (rom_next book j).1.fault ≡ true
     from (rests answer none is) = ap (λ (a : RomNext × Book). is_some a.1.fault) is ∙ has
-    from (issues w others free todo within is) = ap (λ (a : RomNext × Book). is_some a.1.fault) is ∙ has
+    from (issues w others vacant todo within is) = ap (λ (a : RomNext × Book). is_some a.1.fault) is ∙ has
     from (settles word value taken unsettled within is) = ap (λ (a : RomNext × Book). is_some a.1.fault) is ∙ has
-failed-after book (SlaveTold j outcome) has = from (back-of book j outcome)
+failed-after book (SlaveReported j outcome) has = from (back-of book j outcome)
   where
     from : (rom_done book j outcome ≡ book) ⊎ SlaveGoes book j (rom_done book j outcome) → is_some (rom_done book j outcome).fault ≡ true
     from (inl is) = ap (λ (b : Book). is_some b.fault) is ∙ has
@@ -76,7 +76,7 @@ issued-so taken word value Lost rested later back = (back, λ said. absurd cc)
 issue-returns : (i word value : ℕ) (how : Issued) (half later : SlaveHalf) (cells : List Cell) → HalfFits i half (Issuing word value) cells → HalfReturns i (next.Issue word value) (outcomes.Issued how) half later
     → HalfFits i later (Unsettled word value (was_taken how)) cells
 issue-returns i word value how half later cells fits returns =
-    let back = subst (λ (e : Errand). MayComeBack returns.taken e (outcomes.Issued how) returns.rested later) returns.errand_is returns.comes_back in
+    let back = subst (λ (e : Operation). MayComeBack returns.taken e (outcomes.Issued how) returns.rested later) returns.operation_is returns.comes_back in
     let so = issued-so returns.taken word value how returns.rested later back in
     half-issued returns.taken (was_taken how) i word value half returns.begun later cells returns.begins (subst (MayRest returns.begun) (sym so.0) returns.rests) so.1 fits
 
@@ -84,20 +84,20 @@ issue-returns i word value how half later cells fits returns =
 settle-rests : (i : ℕ) (taken : Bool) (outcome : RomOutcome) (half later : SlaveHalf) (returns : HalfReturns i (next.Settle taken) outcome half later) → MayRest half returns.rested
 settle-rests i taken outcome half later returns = subst (λ (h : SlaveHalf). MayRest h returns.rested) returns.begins returns.rests
 
-settle-back : (i : ℕ) (taken : Bool) (outcome : RomOutcome) (half later : SlaveHalf) (returns : HalfReturns i (next.Settle taken) outcome half later) → MayComeBack returns.taken (Settling returns.errand_is.0 returns.errand_is.1 taken) outcome returns.rested later
-settle-back i taken outcome half later returns = subst (λ (e : Errand). MayComeBack returns.taken e outcome returns.rested later) returns.errand_is.2 returns.comes_back
+settle-back : (i : ℕ) (taken : Bool) (outcome : RomOutcome) (half later : SlaveHalf) (returns : HalfReturns i (next.Settle taken) outcome half later) → MayComeBack returns.taken (Settling returns.operation_is.0 returns.operation_is.1 taken) outcome returns.rested later
+settle-back i taken outcome half later returns = subst (λ (e : Operation). MayComeBack returns.taken e outcome returns.rested later) returns.operation_is.2 returns.comes_back
 
 settle-written : (i word value : ℕ) (taken : Bool) (half later : SlaveHalf) (cells : List Cell) → HalfFits i half (Settling word value taken) cells → HalfReturns i (next.Settle taken) (outcomes.Settled Written) half later
-    → HalfFits i later Free (set cells word (written (cell_of cells word) value))
+    → HalfFits i later NoOperation (set cells word (written (cell_of cells word) value))
 settle-written i word value taken half later cells fits returns =
     let back = settle-back i taken (outcomes.Settled Written) half later returns in
     half-written i word value half later cells (subst (MayRest half) (sym back.2) (settle-rests i taken (outcomes.Settled Written) half later returns)) (subst IsWell (sym back.2) back.1)
     (subst (λ (t : Bool). HalfFits i half (Settling word value t) cells) back.0 fits)
 
-settle-again : (i : ℕ) (taken : Bool) (half later : SlaveHalf) (errand : Errand) (cells : List Cell) → HalfFits i half errand cells → HalfReturns i (next.Settle taken) (outcomes.Settled Again) half later → HalfFits i later Free cells
-settle-again i taken half later errand cells fits returns =
+settle-again : (i : ℕ) (taken : Bool) (half later : SlaveHalf) (operation : Operation) (cells : List Cell) → HalfFits i half operation cells → HalfReturns i (next.Settle taken) (outcomes.Settled Again) half later → HalfFits i later NoOperation cells
+settle-again i taken half later operation cells fits returns =
     let back = settle-back i taken (outcomes.Settled Again) half later returns in
-    half-freed i half later errand cells (OnlyRests-then half returns.rested later (MayRest-only half returns.rested (settle-rests i taken (outcomes.Settled Again) half later returns)) back.1) fits
+    half-freed i half later operation cells (OnlyRests-then half returns.rested later (MayRest-only half returns.rested (settle-rests i taken (outcomes.Settled Again) half later returns)) back.1) fits
 
 -- ---- another slave goes on
 
@@ -106,49 +106,49 @@ asked-stands i book j half other stands = from (next-of book j)
   where
     from : Next book j → Stands i (rom_next book j).1 half
     from (rests answer none is) = subst (λ (a : RomNext × Book). Stands i a.1 half) (sym is) stands
-    from (issues w others free todo within is) = stands-apart i book (rom_next book j).1 j (issued-slave book j w) book.fault half (ap (λ (a : RomNext × Book). a.1) is) (asked-apart book j i other) stands
-    from (settles word value taken unsettled within is) = stands-apart i book (rom_next book j).1 j (record (slave_at book j) { errand = Settling word value taken }) book.fault half (ap (λ (a : RomNext × Book). a.1) is) (asked-apart book j i other) stands
+    from (issues w others vacant todo within is) = stands-separate i book (rom_next book j).1 j (issued-slave book j w) book.fault half (ap (λ (a : RomNext × Book). a.1) is) (asked-separate book j i other) stands
+    from (settles word value taken unsettled within is) = stands-separate i book (rom_next book j).1 j (record (slave_at book j) { operation = Settling word value taken }) book.fault half (ap (λ (a : RomNext × Book). a.1) is) (asked-separate book j i other) stands
 
-told-stands : (i : ℕ) (book : Book) (j : ℕ) (outcome : RomOutcome) (half : SlaveHalf) → i ≢ j → Stands i book half → Stands i (rom_done book j outcome) half
-told-stands i book j outcome half other stands = from (back-of book j outcome)
+reported-stands : (i : ℕ) (book : Book) (j : ℕ) (outcome : RomOutcome) (half : SlaveHalf) → i ≢ j → Stands i book half → Stands i (rom_done book j outcome) half
+reported-stands i book j outcome half other stands = from (back-of book j outcome)
   where
     from : (rom_done book j outcome ≡ book) ⊎ SlaveGoes book j (rom_done book j outcome) → Stands i (rom_done book j outcome) half
     from (inl is) = subst (λ (b : Book). Stands i b half) (sym is) stands
-    from (inr goes) = stands-apart i book (rom_done book j outcome) j goes.slave goes.fault half goes.is (told-apart book j i outcome other) stands
+    from (inr goes) = stands-separate i book (rom_done book j outcome) j goes.slave goes.fault half goes.is (reported-separate book j i outcome other) stands
 
 -- ---- a call leaves the half as it is
 
 asked-itself : (i : ℕ) (book : Book) (half : SlaveHalf) → Stands i book half → Next book i → Stands i (rom_next book i).1 half
 asked-itself i book half stands (rests nothing rest goes) = subst (λ (a : RomNext × Book). Stands i a.1 half) (sym goes) stands
-asked-itself i book half stands (issues w others free todo within goes) =
+asked-itself i book half stands (issues w others vacant todo within goes) =
     let cells = (slave_at book i).cells in
     let owed = to-do-owed book i w others todo in
-    let fits : HalfFits i half Free cells = subst (λ (e : Errand). HalfFits i half e cells) free stands.fits in
+    let fits : HalfFits i half NoOperation cells = subst (λ (e : Operation). HalfFits i half e cells) vacant stands.fits in
     stands-slave i book (rom_next book i).1 (issued-slave book i w) book.fault half half (ap (λ (a : RomNext × Book). a.1) goes) stands
     (words-cell i (words_of book.words i) (all_runs book) cells w.0 (asked (cell_of cells w.0)) owed.0 (λ target fit. asked-fits (all_runs book) i w.0 target (cell_of cells w.0) owed.1 fit) stands.words)
     (half-asked i w.0 w.1 half cells owed.0 fits)
 asked-itself i book half stands (settles word value taken unsettled within goes) =
-    let fits : HalfFits i half (Unsettled word value taken) (slave_at book i).cells = subst (λ (e : Errand). HalfFits i half e (slave_at book i).cells) unsettled stands.fits in
-    stands-slave i book (rom_next book i).1 (record (slave_at book i) { errand = Settling word value taken }) book.fault half half (ap (λ (a : RomNext × Book). a.1) goes) stands stands.words
+    let fits : HalfFits i half (Unsettled word value taken) (slave_at book i).cells = subst (λ (e : Operation). HalfFits i half e (slave_at book i).cells) unsettled stands.fits in
+    stands-slave i book (rom_next book i).1 (record (slave_at book i) { operation = Settling word value taken }) book.fault half half (ap (λ (a : RomNext × Book). a.1) goes) stands stands.words
     (record { size = fits.size; words = fits.words; asks = fits.asks })
 
-stands-still : (i : ℕ) (book : Book) (call : Call) (half : SlaveHalf) → ((outcome : RomOutcome) → call ≡ SlaveTold i outcome → rom_done book i outcome ≡ book) → Stands i book half → Stands i (after book call) half
-stands-still i book (Submitted command (Ok number)) half told stands = stands-command i book command half stands
-stands-still i book (Submitted command (Err refusal)) half told stands = stands
-stands-still i book (DiskAsked answer) half told stands = stands-asked i book half stands
-stands-still i book (DiskTold outcome) half told stands = stands-told i book outcome half stands
-stands-still i book (SlaveAsked j answer) half told stands = elim (same-or-not i j) [
+stands-still : (i : ℕ) (book : Book) (call : Call) (half : SlaveHalf) → ((outcome : RomOutcome) → call ≡ SlaveReported i outcome → rom_done book i outcome ≡ book) → Stands i book half → Stands i (after book call) half
+stands-still i book (Submitted command (Ok number)) half reported stands = stands-command i book command half stands
+stands-still i book (Submitted command (Err refusal)) half reported stands = stands
+stands-still i book (DiskAsked answer) half reported stands = stands-asked i book half stands
+stands-still i book (DiskReported outcome) half reported stands = stands-reported i book outcome half stands
+stands-still i book (SlaveAsked j answer) half reported stands = elim (same-or-not i j) [
   | inl it ↦ subst (λ (k : ℕ). Stands i (rom_next book k).1 half) it (asked-itself i book half stands (next-of book i))
   | inr other ↦ asked-stands i book j half other stands
 ]
-stands-still i book (SlaveTold j outcome) half told stands = elim (same-or-not i j) [
+stands-still i book (SlaveReported j outcome) half reported stands = elim (same-or-not i j) [
   | inl it ↦
-      let same : rom_done book i outcome ≡ book = told outcome (ap (λ (k : ℕ). SlaveTold k outcome) (sym it)) in
+      let same : rom_done book i outcome ≡ book = reported outcome (ap (λ (k : ℕ). SlaveReported k outcome) (sym it)) in
       subst (λ (k : ℕ). Stands i (rom_done book k outcome) half) it (subst (λ (b : Book). Stands i b half) (sym same) stands)
-  | inr other ↦ told-stands i book j outcome half other stands
+  | inr other ↦ reported-stands i book j outcome half other stands
 ]
-stands-still i book (PlanAsked answer) half told stands = stands
-stands-still i book Finished half told stands = record { appends = stands.appends; few = stands.few; plant = stands.plant; inside = stands.inside; words = stands.words; fits = stands.fits }
+stands-still i book (PlanAsked answer) half reported stands = stands
+stands-still i book Finished half reported stands = record { appends = stands.appends; few = stands.few; plant = stands.plant; inside = stands.inside; words = stands.words; fits = stands.fits }
 
 -- ---- its job comes back, and the book has no fault
 
@@ -156,23 +156,23 @@ module _ (i : ℕ) (book : Book) (half later : SlaveHalf) (stands : Stands i boo
   abbrev Comes : RomNext → RomOutcome → Type 0
   Comes job outcome = (is_some (rom_done book i outcome).fault ≡ true → ⊥) → HalfSteps i (record { job = job; outcome = Some outcome }) half later → Stands i (rom_done book i outcome) later
 
-  issue-comes : (word value : ℕ) (outcome : RomOutcome) → (slave_at book i).errand ≡ Issuing word value → Comes (next.Issue word value) outcome
+  issue-comes : (word value : ℕ) (outcome : RomOutcome) → (slave_at book i).operation ≡ Issuing word value → Comes (next.Issue word value) outcome
   issue-comes word value (outcomes.Issued how) is dead steps =
-      let fits : HalfFits i half (Issuing word value) (slave_at book i).cells = subst (λ (e : Errand). HalfFits i half e (slave_at book i).cells) is stands.fits in
-      stands-slave i book (rom_done book i (outcomes.Issued how)) (record (slave_at book i) { errand = Unsettled word value (was_taken how) }) book.fault later half (rw is refl) stands stands.words
+      let fits : HalfFits i half (Issuing word value) (slave_at book i).cells = subst (λ (e : Operation). HalfFits i half e (slave_at book i).cells) is stands.fits in
+      stands-slave i book (rom_done book i (outcomes.Issued how)) (record (slave_at book i) { operation = Unsettled word value (was_taken how) }) book.fault later half (rw is refl) stands stands.words
       (issue-returns i word value how half later (slave_at book i).cells fits (steps.returns (outcomes.Issued how) refl (λ no. absurd (cc no))))
   issue-comes word value (outcomes.Settled how) is dead steps =
       let returns = steps.returns (outcomes.Settled how) refl (λ no. absurd (cc no)) in
-      absurd (subst (λ (e : Errand). MayComeBack returns.taken e (outcomes.Settled how) returns.rested later) returns.errand_is returns.comes_back)
+      absurd (subst (λ (e : Operation). MayComeBack returns.taken e (outcomes.Settled how) returns.rested later) returns.operation_is returns.comes_back)
   issue-comes word value outcomes.Stopped is dead steps = absurd (dead (rw is refl))
 
-  settle-comes : (word value : ℕ) (taken : Bool) (outcome : RomOutcome) → (slave_at book i).errand ≡ Settling word value taken → Comes (next.Settle taken) outcome
+  settle-comes : (word value : ℕ) (taken : Bool) (outcome : RomOutcome) → (slave_at book i).operation ≡ Settling word value taken → Comes (next.Settle taken) outcome
   settle-comes word value taken (outcomes.Issued how) is dead steps = let back = settle-back i taken (outcomes.Issued how) half later (steps.returns (outcomes.Issued how) refl (λ no. absurd (cc no))) in absurd back
   settle-comes word value taken (outcomes.Settled Written) is dead steps =
       let cells = (slave_at book i).cells in
-      let fits : HalfFits i half (Settling word value taken) cells = subst (λ (e : Errand). HalfFits i half e cells) is stands.fits in
+      let fits : HalfFits i half (Settling word value taken) cells = subst (λ (e : Operation). HalfFits i half e cells) is stands.fits in
       let issued : IsIssued i word value taken half cells = fits.asks in
-      stands-slave i book (rom_done book i (outcomes.Settled Written)) (record (slave_at book i) { cells = set cells word (written (cell_of cells word) value); errand = Free }) book.fault later half (rw is refl) stands
+      stands-slave i book (rom_done book i (outcomes.Settled Written)) (record (slave_at book i) { cells = set cells word (written (cell_of cells word) value); operation = NoOperation }) book.fault later half (rw is refl) stands
       (words-cell i (words_of book.words i) (all_runs book) cells word (written (cell_of cells word) value) issued.asked.inside
       (λ target fit. written-fits (all_runs book) i word target value issued.asked.unsure.0 (cell_of cells word) issued.asked.unsure.1 fit) stands.words)
       (settle-written i word value taken half later cells fits (steps.returns (outcomes.Settled Written) refl (λ no. absurd (cc no))))
@@ -181,13 +181,13 @@ module _ (i : ℕ) (book : Book) (half later : SlaveHalf) (stands : Stands i boo
       again : (last : Bool) → is_last (cell_of (slave_at book i).cells word).known ≡ last → Stands i (rom_done book i (outcomes.Settled Again)) later
       again true lasts = absurd (dead (rw (is, lasts) refl))
       again false lasts =
-          stands-slave i book (rom_done book i (outcomes.Settled Again)) (record (slave_at book i) { errand = Free }) book.fault later half (rw (is, lasts) refl) stands stands.words
-          (settle-again i taken half later (slave_at book i).errand (slave_at book i).cells stands.fits (steps.returns (outcomes.Settled Again) refl (λ no. absurd (cc no))))
+          stands-slave i book (rom_done book i (outcomes.Settled Again)) (record (slave_at book i) { operation = NoOperation }) book.fault later half (rw (is, lasts) refl) stands stands.words
+          (settle-again i taken half later (slave_at book i).operation (slave_at book i).cells stands.fits (steps.returns (outcomes.Settled Again) refl (λ no. absurd (cc no))))
   settle-comes word value taken (outcomes.Settled Dead) is dead steps = absurd (dead (rw is refl))
   settle-comes word value taken outcomes.Stopped is dead steps = absurd (dead (rw is refl))
 
-  comes : (errand : Errand) (job : RomNext) (outcome : RomOutcome) → (slave_at book i).errand ≡ errand → IsJobOf errand job → Comes job outcome
-  comes Free job outcome is of = absurd of
+  comes : (operation : Operation) (job : RomNext) (outcome : RomOutcome) → (slave_at book i).operation ≡ operation → IsJobOf operation job → Comes job outcome
+  comes NoOperation job outcome is of = absurd of
   comes (Issuing word value) job outcome is of = subst (λ (n : RomNext). Comes n outcome) (sym of) (issue-comes word value outcome is)
   comes (Unsettled word value taken) job outcome is of = absurd of
   comes (Settling word value taken) job outcome is of = subst (λ (n : RomNext). Comes n outcome) (sym of) (settle-comes word value taken outcome is)
@@ -198,14 +198,14 @@ module _ (i : ℕ) (book : Book) (half later : SlaveHalf) (stands : Stands i boo
 pub record Ends (i : ℕ) (book : Book) (end : SlaveHalf) : Type 0 where
   pub half : SlaveHalf
   pub stands : Stands i book half
-  pub ends : EndsOut (slave_at book i).errand half end
+  pub ends : EndsOut (slave_at book i).operation half end
 
 pub serves-all : (i : ℕ) (calls : List Call) (book : Book) (half end : SlaveHalf) → NoFault (replayed book calls) → Stands i book half → Course i book calls half end → Ends i (replayed book calls) end
 serves-all i [] book half end none stands course = record { half = half; stands = stands; ends = course }
 serves-all i (call ∷ calls) book half end none stands course = serves-all i calls (after book call) course.0 end none (from course.1) course.2
   where
     from : Moves i book call half course.0 → Stands i (after book call) course.0
-    from (still is told) = subst (λ (h : SlaveHalf). Stands i (after book call) h) (sym is) (stands-still i book call half told stands)
-    from (came outcome told job of steps) =
-        let dead : is_some (rom_done book i outcome).fault ≡ true → ⊥ = λ has. never-failed (after book call) calls none (subst (λ (c : Call). is_some (after book c).fault ≡ true) (sym told) has) in
-        subst (λ (c : Call). Stands i (after book c) course.0) (sym told) (comes i book half course.0 stands (slave_at book i).errand job outcome refl of dead steps)
+    from (still is reported) = subst (λ (h : SlaveHalf). Stands i (after book call) h) (sym is) (stands-still i book call half reported stands)
+    from (came outcome reported job of steps) =
+        let dead : is_some (rom_done book i outcome).fault ≡ true → ⊥ = λ has. never-failed (after book call) calls none (subst (λ (c : Call). is_some (after book c).fault ≡ true) (sym reported) has) in
+        subst (λ (c : Call). Stands i (after book c) course.0) (sym reported) (comes i book half course.0 stands (slave_at book i).operation job outcome refl of dead steps)

@@ -17,7 +17,7 @@ use Rattle.site_core.specs.State.{State, Seen}
 use Rattle.book_model.specs.Cells.{Cell, cell_of}
 use Rattle.book_model.proofs.SettledLaws.{and-left, and-right}
 use Rattle.book_model.specs.Entries.{runs_of}
-use Rattle.book_model.specs.Book.{Book, Errand, Free, Issuing, Unsettled, Settling, base_of, contents_of, own, all_cells, slave_at}
+use Rattle.book_model.specs.Book.{Book, Operation, NoOperation, Issuing, Unsettled, Settling, base_of, contents_of, own, all_cells, slave_at}
 use Rattle.book_model.specs.Reading.{all_entries, settled_prefix}
 use Rattle.book_model.proofs.BookLaws.{cells_of, length-all_cells}
 use Rattle.book_model.proofs.CommandLaws.{entries-contents}
@@ -34,7 +34,7 @@ use Rattle.desk_book.proofs.CountLaws.{each-slave}
 use Rattle.desk_laws.specs.Slaves.{IsJustOpened, IsAsOpened, ReadsAsContents, AllReadAsContents}
 use Rattle.desk_laws.proofs.HalfLaws.{HalfFits, IsAsked, IsIssued}
 use Rattle.desk_laws.proofs.WordLaws.{WordsFit, IsSettledWord, unsure-owes, words-lead, all-settled}
-use Rattle.desk_laws.proofs.StandLaws.{Stands, all_runs, stands-opened, opened-free}
+use Rattle.desk_laws.proofs.StandLaws.{Stands, all_runs, stands-opened, opened-vacant}
 use Rattle.desk_laws.proofs.HalfWork.{led-to-end}
 use Rattle.desk_laws.proofs.Courses.{job-is_out, EndsOut, course-of}
 use Rattle.desk_laws.proofs.ServeLaws.{NoFault, Ends, serves-all}
@@ -71,8 +71,8 @@ contents-are book durable =
 -- ---- the slave
 
 -- nothing is out for it
-nothing-out : (i : ℕ) (half : SlaveHalf) (words : List ℕ) (runs : List Run) (cells : List Cell) (errand : Errand) → IsOut errand → HalfFits i half errand cells → WordsFit i words runs cells → ((at : ℕ) → IsSettledWord runs i at (cell_of cells at)) → ⊥
-nothing-out i half words runs cells Free out fits leads settled = out
+nothing-out : (i : ℕ) (half : SlaveHalf) (words : List ℕ) (runs : List Run) (cells : List Cell) (operation : Operation) → IsOut operation → HalfFits i half operation cells → WordsFit i words runs cells → ((at : ℕ) → IsSettledWord runs i at (cell_of cells at)) → ⊥
+nothing-out i half words runs cells NoOperation out fits leads settled = out
 nothing-out i half words runs cells (Issuing word value) out fits leads settled = let asked : IsAsked word cells = fits.asks in unsure-owes i words runs cells word leads asked.inside (settled word) asked.unsure
 nothing-out i half words runs cells (Unsettled word value taken) out fits leads settled = out
 nothing-out i half words runs cells (Settling word value taken) out fits leads settled =
@@ -97,20 +97,20 @@ reads-contents i book new end served there is = from is.ends
         words-lead book.words i (all_runs book) (slave_at book i).cells left s.plant s.words settled (length-MayLeave is.half left may ∙ sym s.fits.size) (s.fits.words left may)
         ∙ ap (λ (p : List (List ℕ)). words_of p i) (contents-are book served.durable)
 
-    from : EndsOut (slave_at book i).errand is.half end → ReadsAsContents book new i
+    from : EndsOut (slave_at book i).operation is.half end → ReadsAsContents book new i
     from (inl less) = record { half = end; here = there; is = record { holds = leaves end.words (less end.words (MayLeave-same end)); leaves = λ left may. leaves left (less left may) } }
     from (inr out) =
-        absurd (nothing-out i is.half (words_of book.words i) (all_runs book) (slave_at book i).cells (slave_at book i).errand (job-is_out (slave_at book i).errand out.0 out.1) s.fits s.words settled)
+        absurd (nothing-out i is.half (words_of book.words i) (all_runs book) (slave_at book i).cells (slave_at book i).operation (job-is_out (slave_at book i).operation out.0 out.1) s.fits s.words settled)
 
 pub slave-reads : (opened : Book) (calls : List Call) (slave : ℕ) (old new : Seen) → IsJustOpened opened → AreAnswered opened calls → is_served (replayed opened calls) ≡ true → slave < length opened.words
     → IsWorked slave (rom_log slave calls) old new → IsAsOpened opened old.state slave → ReadsAsContents (replayed opened calls) new.state slave
 slave-reads opened calls slave old new just all served within worked start =
     let stands : Stands slave opened start.half = subst (λ (b : Book). Stands slave b start.half) (sym just.1) (stands-opened opened.words opened.capacity just.0 slave start.half within start.is.idle start.is.holds) in
-    let free : (slave_at opened slave).errand ≡ Free = ap (λ (b : Book). (slave_at b slave).errand) just.1 ∙ opened-free opened.words opened.capacity just.0 slave within in
+    let vacant : (slave_at opened slave).operation ≡ NoOperation = ap (λ (b : Book). (slave_at b slave).operation) just.1 ∙ opened-vacant opened.words opened.capacity just.0 slave within in
     let is = served-is (replayed opened calls) served in
     let led = led-to-end slave (rom_log slave calls) old new start.half worked start.here in
     reads-contents slave (replayed opened calls) new.state led.0 is led.1
-    (serves-all slave calls opened start.half led.0 is.none stands (course-of slave calls opened start.half led.0 all (λ out. subst IsOut free out) led.2))
+    (serves-all slave calls opened start.half led.0 is.none stands (course-of slave calls opened start.half led.0 all (λ out. subst IsOut vacant out) led.2))
 
 -- ---- the line
 

@@ -12,21 +12,21 @@ use Rattle.book_model.specs.declared.next.RomNext.{RomNext}
 use Rattle.book_model.specs.declared.next.RomNext.TheVariants as next
 use Rattle.book_model.specs.declared.next.RomOutcome.{RomOutcome}
 use Rattle.book_model.specs.declared.next.RomOutcome.TheVariants as outcomes
-use Rattle.book_model.specs.Book.{Book, Slave, Errand, Free, Issuing, Unsettled, Settling, nobody, slave_at, with_fault}
+use Rattle.book_model.specs.Book.{Book, Slave, Operation, NoOperation, Issuing, Unsettled, Settling, nobody, slave_at, with_fault}
 use Rattle.book_model.specs.declared.fault.Fault.TheVariants as faults
-use Rattle.book_model.specs.RomSteps.{with_errand, rom_next, rom_done}
+use Rattle.book_model.specs.RomSteps.{with_operation, rom_next, rom_done}
 use Rattle.book_model.specs.Steps.{MayBegin, took_after, MayComeBack}
 use Rattle.book_model.proofs.LineLaws.{half-there}
 use Rattle.book_model.proofs.OutcomeLaws.{set-same}
 use Rattle.world_law.specs.World.{Nothing, RomIssue, RomDone, RomResolve}
-use Rattle.world_law.specs.Happenings.{fault_told}
+use Rattle.world_law.specs.Happenings.{fault_reported}
 use Rattle.station_jobs.specs.Working.{HalfReturns}
 use Rattle.desk_book.specs.declared.call.Call.{Call}
-use Rattle.desk_book.specs.declared.call.Call.TheVariants.{SlaveTold}
+use Rattle.desk_book.specs.declared.call.Call.TheVariants.{SlaveReported}
 use Rattle.desk_book.specs.Calls.{after, IsOut}
 use Rattle.desk_book.proofs.LogLaws.{same-or-not}
 use Rattle.desk_book.proofs.OutLaws.{Next, rests, issues, settles, next-of}
-use Rattle.desk_laws.proofs.HalfWork.{HalfLeft, HalfSteps, set-here, set-apart}
+use Rattle.desk_laws.proofs.HalfWork.{HalfLeft, HalfSteps, set-here, set-separate}
 use Rattle.desk_laws.proofs.Courses.{IsJobOf, LeavesLess, Moves, still, came, EndsOut, Course, out-within}
 use Rattle.desk_laws.proofs.WorldLaws.{Stays, happens, slave-count, took-count, takes, tears, fades}
 
@@ -35,15 +35,15 @@ abbrev pub Courses : Book → List Call → (now ends : List SlaveHalf) → Type
 Courses book calls now ends = (i : ℕ) (half end : SlaveHalf) → slice_get now i ≡ Some half → slice_get ends i ≡ Some end → Course i book calls half end
 
 -- a call that reports no outcome of the slave
-course-behind : (i : ℕ) (book : Book) (call : Call) (calls : List Call) (half end : SlaveHalf) → ((outcome : RomOutcome) → call ≡ SlaveTold i outcome → ⊥) → Course i book (call ∷ calls) half end → Course i (after book call) calls half end
-course-behind i book call calls half end other course = from course.1
+course-afterwards : (i : ℕ) (book : Book) (call : Call) (calls : List Call) (half end : SlaveHalf) → ((outcome : RomOutcome) → call ≡ SlaveReported i outcome → ⊥) → Course i book (call ∷ calls) half end → Course i (after book call) calls half end
+course-afterwards i book call calls half end other course = from course.1
   where
     from : Moves i book call half course.0 → Course i (after book call) calls half end
-    from (still is told) = subst (λ (h : SlaveHalf). Course i (after book call) calls h end) is course.2
-    from (came outcome told job of steps) = absurd (other outcome told)
+    from (still is reported) = subst (λ (h : SlaveHalf). Course i (after book call) calls h end) is course.2
+    from (came outcome reported job of steps) = absurd (other outcome reported)
 
-pub courses-behind : (book : Book) (call : Call) (calls : List Call) (now ends : List SlaveHalf) → ((i : ℕ) (outcome : RomOutcome) → call ≡ SlaveTold i outcome → ⊥) → Courses book (call ∷ calls) now ends → Courses (after book call) calls now ends
-courses-behind book call calls now ends other courses i half end here there = course-behind i book call calls half end (other i) (courses i half end here there)
+pub courses-afterwards : (book : Book) (call : Call) (calls : List Call) (now ends : List SlaveHalf) → ((i : ℕ) (outcome : RomOutcome) → call ≡ SlaveReported i outcome → ⊥) → Courses book (call ∷ calls) now ends → Courses (after book call) calls now ends
+courses-afterwards book call calls now ends other courses i half end here there = course-afterwards i book call calls half end (other i) (courses i half end here there)
 
 -- of which slaves a datagram was taken, and that the main law's invariant holds
 pub record StaysNow (book : Book) (state : State) : Type 0 where
@@ -68,7 +68,7 @@ slave-asked book state took j stays = from (next-of book j)
   where
     from : Next book j → StaysNow (rom_next book j).1 state
     from (rests answer none is) = record { took = took; stays = subst (λ (p : RomNext × Book). Stays p.1 state took) (sym is) stays }
-    from (issues w others free todo inside is) = handed book state took j (next.Issue w.0 w.1) _ stays is inside (λ half. inl refl)
+    from (issues w others vacant todo inside is) = handed book state took j (next.Issue w.0 w.1) _ stays is inside (λ half. inl refl)
     from (settles word value taken unsettled inside is) = handed book state took j (next.Settle taken) _ stays is inside (λ half. refl)
 
 -- ---- it comes back
@@ -86,15 +86,15 @@ module _ (book : Book) (state : State) (took : List Bool) (j : ℕ) (half mid : 
   inside = slice_get_within state.halves j half here
 
   -- from this half on it rests, and then comes back
-  comes : (begun rested later : SlaveHalf) (t : List Bool) (errand : Errand) (outcome : RomOutcome) → (slave_at book j).errand ≡ errand → Stays book (with_half state j begun) t → MayRest begun rested → MayComeBack (get_or t j false) errand outcome rested later
+  comes : (begun rested later : SlaveHalf) (t : List Bool) (operation : Operation) (outcome : RomOutcome) → (slave_at book j).operation ≡ operation → Stays book (with_half state j begun) t → MayRest begun rested → MayComeBack (get_or t j false) operation outcome rested later
       → Stays (rom_done book j outcome) (with_half state j later) t
-  comes begun rested later t errand outcome is now resting back =
+  comes begun rested later t operation outcome is now resting back =
       let first = set-here state.halves j begun inside in
       let s = with_half state j begun in
       let at_rest = happens (RomResolve j) Nothing book book s (with_half s j rested) t t now tt (refl, record { half = begun; here = first; later = rested; new_is = refl; goes = resting }, refl) in
       let there = set-here s.halves j rested (slice_get_within s.halves j begun first) in
-      let may = subst (λ (e : Errand). MayComeBack (get_or t j false) e outcome rested later) (sym is) back in
-      let done = happens (RomDone j outcome) (fault_told (rom_done book j outcome)) book (rom_done book j outcome) (with_half s j rested) (with_half (with_half s j rested) j later) t t at_rest tt
+      let may = subst (λ (e : Operation). MayComeBack (get_or t j false) e outcome rested later) (sym is) back in
+      let done = happens (RomDone j outcome) (fault_reported (rom_done book j outcome)) book (rom_done book j outcome) (with_half s j rested) (with_half (with_half s j rested) j later) t t at_rest tt
       (book, refl, (refl, record { half = rested; here = there; after = later; may = may; is = refl })) in
       subst (λ (l : List SlaveHalf). Stays (rom_done book j outcome) (record state { halves = l }) t) (set-set (set state.halves j begun) j rested later ∙ set-set state.halves j begun later) done
 
@@ -105,30 +105,30 @@ module _ (book : Book) (state : State) (took : List Bool) (j : ℕ) (half mid : 
   taken-here : (t : Bool) → get_or (set took j t) j false ≡ t
   taken-here t = get_or-set_same took j t false (omega (arith, inside, slave-count book state took stays, took-count book state took stays))
 
-  abbrev Told : RomOutcome → Type 0
-  Told outcome = StaysNow (rom_done book j outcome) (with_half state j mid)
+  abbrev Reported : RomOutcome → Type 0
+  Reported outcome = StaysNow (rom_done book j outcome) (with_half state j mid)
 
-  issue-back : (word value : ℕ) (outcome : RomOutcome) → (slave_at book j).errand ≡ Issuing word value → HalfReturns j (next.Issue word value) outcome half mid → Told outcome
+  issue-back : (word value : ℕ) (outcome : RomOutcome) → (slave_at book j).operation ≡ Issuing word value → HalfReturns j (next.Issue word value) outcome half mid → Reported outcome
   issue-back word value outcome is returns =
       let t = returns.taken in
-      let back = subst (λ (b : Bool). MayComeBack b (Issuing word value) outcome returns.rested mid) (sym (taken-here t)) (subst (λ (e : Errand). MayComeBack t e outcome returns.rested mid) returns.errand_is returns.comes_back) in
+      let back = subst (λ (b : Bool). MayComeBack b (Issuing word value) outcome returns.rested mid) (sym (taken-here t)) (subst (λ (e : Operation). MayComeBack t e outcome returns.rested mid) returns.operation_is returns.comes_back) in
       record { took = set took j t; stays = comes returns.begun returns.rested mid (set took j t) (Issuing word value) outcome is (takes book state took j word value half returns.begun t stays is here returns.begins) returns.rests back }
 
-  settle-back : (word value : ℕ) (taken : Bool) (outcome : RomOutcome) → (slave_at book j).errand ≡ Settling word value taken → HalfReturns j (next.Settle taken) outcome half mid → Told outcome
+  settle-back : (word value : ℕ) (taken : Bool) (outcome : RomOutcome) → (slave_at book j).operation ≡ Settling word value taken → HalfReturns j (next.Settle taken) outcome half mid → Reported outcome
   settle-back word value taken outcome is returns =
-      let e = returns.errand_is in
-      let any = settle-any returns.taken (get_or took j false) taken e.0 e.1 word value outcome returns.rested mid (subst (λ (x : Errand). MayComeBack returns.taken x outcome returns.rested mid) e.2 returns.comes_back) in
+      let e = returns.operation_is in
+      let any = settle-any returns.taken (get_or took j false) taken e.0 e.1 word value outcome returns.rested mid (subst (λ (x : Operation). MayComeBack returns.taken x outcome returns.rested mid) e.2 returns.comes_back) in
       record { took = took; stays = comes half returns.rested mid took (Settling word value taken) outcome is unchanged (subst (λ (h : SlaveHalf). MayRest h returns.rested) returns.begins returns.rests) any }
 
-  job-back : (errand : Errand) (job : RomNext) (outcome : RomOutcome) → (slave_at book j).errand ≡ errand → IsJobOf errand job → HalfReturns j job outcome half mid → Told outcome
-  job-back Free job outcome is of returns = absurd of
+  job-back : (operation : Operation) (job : RomNext) (outcome : RomOutcome) → (slave_at book j).operation ≡ operation → IsJobOf operation job → HalfReturns j job outcome half mid → Reported outcome
+  job-back NoOperation job outcome is of returns = absurd of
   job-back (Unsettled word value taken) job outcome is of returns = absurd of
   job-back (Issuing word value) job outcome is of returns = issue-back word value outcome is (subst (λ (n : RomNext). HalfReturns j n outcome half mid) of returns)
   job-back (Settling word value taken) job outcome is of returns = settle-back word value taken outcome is (subst (λ (n : RomNext). HalfReturns j n outcome half mid) of returns)
 
   -- its site stopped: nothing more is said than what a power cut leaves of it
-  job-stops : (errand : Errand) (job : RomNext) → (slave_at book j).errand ≡ errand → IsJobOf errand job → ((left : List ℕ) → MayLeave mid left → HalfLeft job half left) → Told outcomes.Stopped
-  job-stops Free job is of leaves = absurd of
+  job-stops : (operation : Operation) (job : RomNext) → (slave_at book j).operation ≡ operation → IsJobOf operation job → ((left : List ℕ) → MayLeave mid left → HalfLeft job half left) → Reported outcomes.Stopped
+  job-stops NoOperation job is of leaves = absurd of
   job-stops (Unsettled word value taken) job is of leaves = absurd of
   job-stops (Issuing word value) job is of leaves =
       let torn = tears book state took j word value half mid stays is here (subst (λ (n : RomNext). (left : List ℕ) → MayLeave mid left → HalfLeft n half left) of leaves) in
@@ -136,16 +136,16 @@ module _ (book : Book) (state : State) (took : List Bool) (j : ℕ) (half mid : 
   job-stops (Settling word value taken) job is of leaves =
       let later = rom_done book j outcomes.Stopped in
       let done = comes half half half took (Settling word value taken) outcomes.Stopped is unchanged (inl refl) (OnlyRests-same half) in
-      let later_is : later ≡ with_fault (with_errand book j Free) faults.Stopped = rw is refl in
-      let free : (slave_at later j).errand ≡ Free =
-      ap (λ (b : Book). (slave_at b j).errand) later_is ∙ ap (λ (s : Slave). s.errand) (get_or-set_same book.slaves j (record (slave_at book j) { errand = Free }) nobody (omega (arith, inside, slave-count book state took stays))) in
-      let faded = fades later (with_half state j half) took j half mid done free (set-here state.halves j half inside) (subst (λ (n : RomNext). (left : List ℕ) → MayLeave mid left → HalfLeft n half left) of leaves) in
+      let later_is : later ≡ with_fault (with_operation book j NoOperation) faults.Stopped = rw is refl in
+      let vacant : (slave_at later j).operation ≡ NoOperation =
+      ap (λ (b : Book). (slave_at b j).operation) later_is ∙ ap (λ (s : Slave). s.operation) (get_or-set_same book.slaves j (record (slave_at book j) { operation = NoOperation }) nobody (omega (arith, inside, slave-count book state took stays))) in
+      let faded = fades later (with_half state j half) took j half mid done vacant (set-here state.halves j half inside) (subst (λ (n : RomNext). (left : List ℕ) → MayLeave mid left → HalfLeft n half left) of leaves) in
       record { took = set took j false; stays = subst (λ (l : List SlaveHalf). Stays later (record state { halves = l }) (set took j false)) (set-set state.halves j half mid) faded }
 
-  told-back : (outcome : RomOutcome) (job : RomNext) → IsJobOf (slave_at book j).errand job → HalfSteps j (record { job = job; outcome = Some outcome }) half mid → Told outcome
-  told-back (outcomes.Issued how) job of steps = job-back (slave_at book j).errand job (outcomes.Issued how) refl of (steps.returns (outcomes.Issued how) refl (λ no. absurd (cc no)))
-  told-back (outcomes.Settled how) job of steps = job-back (slave_at book j).errand job (outcomes.Settled how) refl of (steps.returns (outcomes.Settled how) refl (λ no. absurd (cc no)))
-  told-back outcomes.Stopped job of steps = job-stops (slave_at book j).errand job refl of steps.leaves
+  reported-back : (outcome : RomOutcome) (job : RomNext) → IsJobOf (slave_at book j).operation job → HalfSteps j (record { job = job; outcome = Some outcome }) half mid → Reported outcome
+  reported-back (outcomes.Issued how) job of steps = job-back (slave_at book j).operation job (outcomes.Issued how) refl of (steps.returns (outcomes.Issued how) refl (λ no. absurd (cc no)))
+  reported-back (outcomes.Settled how) job of steps = job-back (slave_at book j).operation job (outcomes.Settled how) refl of (steps.returns (outcomes.Settled how) refl (λ no. absurd (cc no)))
+  reported-back outcomes.Stopped job of steps = job-stops (slave_at book j).operation job refl of steps.leaves
 
 -- ---- the slaves behind the call
 
@@ -156,11 +156,11 @@ pub record SlaveGoesOn (later : Book) (calls : List Call) (ends : List SlaveHalf
   pub count : length halves ≡ length state.halves
   pub courses : Courses later calls halves ends
 
-module _ (book : Book) (calls : List Call) (ends : List SlaveHalf) (state : State) (took : List Bool) (stays : Stays book state took) (j : ℕ) (outcome : RomOutcome) (courses : Courses book (SlaveTold j outcome ∷ calls) state.halves ends) where
+module _ (book : Book) (calls : List Call) (ends : List SlaveHalf) (state : State) (took : List Bool) (stays : Stays book state took) (j : ℕ) (outcome : RomOutcome) (courses : Courses book (SlaveReported j outcome ∷ calls) state.halves ends) where
   -- this is the slave's half now, and the others stay as they are
   others-stay : (now : List SlaveHalf) (half end : SlaveHalf) → ((i : ℕ) → i ≢ j → slice_get now i ≡ slice_get state.halves i) → slice_get now j ≡ Some half → slice_get ends j ≡ Some end → Course j (rom_done book j outcome) calls half end
       → Courses (rom_done book j outcome) calls now ends
-  others-stay now half end apart here there course i h e is last = one (same-or-not i j)
+  others-stay now half end separate here there course i h e is last = one (same-or-not i j)
     where
       one : (i ≡ j) ⊎ (i ≢ j) → Course i (rom_done book j outcome) calls h e
       one (inl it) =
@@ -168,43 +168,43 @@ module _ (book : Book) (calls : List Call) (ends : List SlaveHalf) (state : Stat
           let end_is : end ≡ e = (let q : Some end ≡ Some e = sym there ∙ subst (λ (k : ℕ). slice_get ends k ≡ Some e) it last in cc) in
           subst (λ (k : ℕ). Course k (rom_done book j outcome) calls h e) (sym it)
           (subst (λ (x : SlaveHalf). Course j (rom_done book j outcome) calls x e) half_is (subst (λ (x : SlaveHalf). Course j (rom_done book j outcome) calls half x) end_is course))
-      one (inr other) = course-behind i book (SlaveTold j outcome) calls h e (λ o told. let q : i ≡ j = cc told in other q) (courses i h e (sym (apart i other) ∙ is) last)
+      one (inr other) = course-afterwards i book (SlaveReported j outcome) calls h e (λ o reported. let q : i ≡ j = cc reported in other q) (courses i h e (sym (separate i other) ∙ is) last)
 
-  told-by : (half end : SlaveHalf) → slice_get state.halves j ≡ Some half → slice_get ends j ≡ Some end → (mid : SlaveHalf) → Moves j book (SlaveTold j outcome) half mid → Course j (rom_done book j outcome) calls mid end
+  reported-by : (half end : SlaveHalf) → slice_get state.halves j ≡ Some half → slice_get ends j ≡ Some end → (mid : SlaveHalf) → Moves j book (SlaveReported j outcome) half mid → Course j (rom_done book j outcome) calls mid end
       → SlaveGoesOn (rom_done book j outcome) calls ends state
-  told-by half end here there mid (still is told) course = record {
+  reported-by half end here there mid (still is reported) course = record {
     halves = state.halves;
     took = took;
-    stays = subst (λ (b : Book). Stays b state took) (sym (told outcome refl)) stays;
+    stays = subst (λ (b : Book). Stays b state took) (sym (reported outcome refl)) stays;
     count = refl;
     courses = others-stay state.halves half end (λ i other. refl) here there (subst (λ (h : SlaveHalf). Course j (rom_done book j outcome) calls h end) is course);
   }
-  told-by half end here there mid (came o told job of steps) course =
-      let it : o ≡ outcome = cc told in
-      let now = told-back book state took j half mid stays here outcome job of (subst (λ (x : RomOutcome). HalfSteps j (record { job = job; outcome = Some x }) half mid) it steps) in
+  reported-by half end here there mid (came o reported job of steps) course =
+      let it : o ≡ outcome = cc reported in
+      let now = reported-back book state took j half mid stays here outcome job of (subst (λ (x : RomOutcome). HalfSteps j (record { job = job; outcome = Some x }) half mid) it steps) in
       let inside = slice_get_within state.halves j half here in
       record {
         halves = set state.halves j mid;
         took = now.took;
         stays = now.stays;
         count = length-set state.halves j mid;
-        courses = others-stay (set state.halves j mid) mid end (λ i other. set-apart state.halves j i mid other) (set-here state.halves j mid inside) there course;
+        courses = others-stay (set state.halves j mid) mid end (λ i other. set-separate state.halves j i mid other) (set-here state.halves j mid inside) there course;
       }
 
-  pub slave-told : length ends ≡ length state.halves → IsOut (slave_at book j).errand → SlaveGoesOn (rom_done book j outcome) calls ends state
-  slave-told count out =
+  pub slave-reported : length ends ≡ length state.halves → IsOut (slave_at book j).operation → SlaveGoesOn (rom_done book j outcome) calls ends state
+  slave-reported count out =
       let within = out-within j book (nat_lt j (length book.slaves)) refl out in
       let h = half-there state.halves j (omega (arith, within, slave-count book state took stays)) in
       let e = half-there ends j (omega (arith, within, slave-count book state took stays, count)) in
       let course = courses j h.0 e.0 h.1 e.1 in
-      told-by h.0 e.0 h.1 e.1 course.0 course.1 course.2
+      reported-by h.0 e.0 h.1 e.1 course.0 course.1 course.2
 
 -- ---- in the end
 
 -- a power cut leaves no more of it, or its word may hold anything
-ends-so : (errand : Errand) (half end : SlaveHalf) → EndsOut errand half end → LeavesLess half end ⊎ ((word : ℕ) × (value : ℕ) × (errand ≡ Issuing word value) × ((left : List ℕ) → MayLeave end left → HalfLeft (next.Issue word value) half left))
-ends-so errand half end (inl less) = inl less
-ends-so Free half end (inr out) = absurd out.1
+ends-so : (operation : Operation) (half end : SlaveHalf) → EndsOut operation half end → LeavesLess half end ⊎ ((word : ℕ) × (value : ℕ) × (operation ≡ Issuing word value) × ((left : List ℕ) → MayLeave end left → HalfLeft (next.Issue word value) half left))
+ends-so operation half end (inl less) = inl less
+ends-so NoOperation half end (inr out) = absurd out.1
 ends-so (Unsettled word value taken) half end (inr out) = absurd out.1
 ends-so (Issuing word value) half end (inr out) = inr (word, value, refl, subst (λ (n : RomNext). (left : List ℕ) → MayLeave end left → HalfLeft n half left) out.1 out.2)
 ends-so (Settling word value taken) half end (inr out) = inl (subst (λ (n : RomNext). (left : List ℕ) → MayLeave end left → HalfLeft n half left) out.1 out.2)
@@ -228,28 +228,28 @@ module _ (book : Book) (state : State) (ends : List SlaveHalf) (n : ℕ) (b : En
   -- one slave more
   one-more : (halves : List SlaveHalf) (took : List Bool) (half end : SlaveHalf) → Stays book (record state { halves = halves }) took → length halves ≡ length state.halves → ((i : ℕ) → i ≢ n → slice_get halves i ≡ slice_get b.halves i)
       → slice_get halves n ≡ Some half → slice_get ends n ≡ Some end → LeavesLess half end → EndsBefore book state ends (suc n)
-  one-more halves took half end stays count apart here there less = record {
+  one-more halves took half end stays count separate here there less = record {
     halves = halves;
     took = took;
     stays = stays;
     count = count;
     less = λ i h e lt is last. elim (below-or-last i n lt) [
-      | inl below ↦ b.less i h e below (sym (apart i (λ it. omega (arith, it, below))) ∙ is) last
+      | inl below ↦ b.less i h e below (sym (separate i (λ it. omega (arith, it, below))) ∙ is) last
       | inr it ↦
           let half_is : half ≡ h = (let q : Some half ≡ Some h = sym here ∙ subst (λ (k : ℕ). slice_get halves k ≡ Some h) it is in cc) in
           let end_is : end ≡ e = (let q : Some end ≡ Some e = sym there ∙ subst (λ (k : ℕ). slice_get ends k ≡ Some e) it last in cc) in
           subst (λ (x : SlaveHalf). LeavesLess x e) half_is (subst (λ (x : SlaveHalf). LeavesLess half x) end_is less)
     ];
-    others = λ i le. apart i (λ it. omega (arith, it, le)) ∙ b.others i (omega (arith, le));
+    others = λ i le. separate i (λ it. omega (arith, it, le)) ∙ b.others i (omega (arith, le));
   }
 
-  ends-next : (half end : SlaveHalf) → slice_get state.halves n ≡ Some half → slice_get ends n ≡ Some end → EndsOut (slave_at book n).errand half end → EndsBefore book state ends (suc n)
+  ends-next : (half end : SlaveHalf) → slice_get state.halves n ≡ Some half → slice_get ends n ≡ Some end → EndsOut (slave_at book n).operation half end → EndsBefore book state ends (suc n)
   ends-next half end here there out =
       let now : slice_get b.halves n ≡ Some half = b.others n (omega arith) ∙ here in
-      elim (ends-so (slave_at book n).errand half end out) [
+      elim (ends-so (slave_at book n).operation half end out) [
         | inl less ↦ one-more b.halves b.took half end b.stays b.count (λ i other. refl) now there less
         | inr torn ↦ one-more (set b.halves n end) (set b.took n false) end end (tears book (record state { halves = b.halves }) b.took n torn.0 torn.1 half end b.stays torn.2 now torn.3) (length-set b.halves n end ∙ b.count)
-            (λ i other. set-apart b.halves n i end other) (set-here b.halves n end (slice_get_within b.halves n half now)) there (λ left may. may)
+            (λ i other. set-separate b.halves n i end other) (set-here b.halves n end (slice_get_within b.halves n half now)) there (λ left may. may)
       ]
 
 pub ends-before : (book : Book) (state : State) (took : List Bool) (ends : List SlaveHalf) → Stays book state took → length ends ≡ length state.halves → Courses book [] state.halves ends → (n : ℕ) → n ≤ length state.halves → EndsBefore book state ends n

@@ -17,7 +17,7 @@ use Rattle.book_model.specs.Cells.{is_any, opened, cell_of}
 use Rattle.book_model.specs.declared.next.DiskNext.{DiskNext}
 use Rattle.book_model.specs.declared.fault.Fault.{Fault}
 use Rattle.book_model.specs.declared.fault.Fault.TheVariants as faults
-use Rattle.book_model.specs.Book.{Book, Slave, Doing, Resting, Payload, PayloadSync, OpenGate, OpenSync, CloseGate, CloseSync, FarGate, Mark, MarkSync, Version, VersionSync, Free, own, base_of, appended, nobody, slave_at, with_fault}
+use Rattle.book_model.specs.Book.{Book, Slave, Doing, Resting, Payload, PayloadSync, OpenGate, OpenSync, CloseGate, CloseSync, FarGate, Mark, MarkSync, Version, VersionSync, NoOperation, own, base_of, appended, nobody, slave_at, with_fault}
 use Rattle.book_model.specs.Open.{opened_slave, open_book, owing_words, owing_slaves}
 use Rattle.book_model.specs.Submit.{with_command}
 use Rattle.book_model.specs.DiskSteps.{disk_next, went_on, disk_done}
@@ -33,7 +33,7 @@ use Rattle.book_model.proofs.WorkLaws.{owed-inside, some-of}
 use Rattle.book_model.specs.Events.{rested}
 use Rattle.desk_book.proofs.OutLaws.{DiskNexts, disk_rests, disk_goes, nexts-of}
 use Rattle.desk_laws.specs.Turns.{AppendsNext}
-use Rattle.desk_laws.proofs.GoesLaws.{command-on, disk-asked-on, disk-told-on}
+use Rattle.desk_laws.proofs.GoesLaws.{command-on, disk-asked-on, disk-reported-on}
 use Rattle.desk_laws.proofs.FallLaws.{resting-next}
 use Rattle.desk_laws.proofs.HalfLaws.{HalfFits, half-opened, half-same}
 use Rattle.desk_laws.proofs.WordLaws.{WordsFit, words-opened, words-live, same-owing}
@@ -50,7 +50,7 @@ pub record Stands (i : ℕ) (book : Book) (half : SlaveHalf) : Type 0 where
   pub plant : i < length book.words
   pub inside : i < length book.slaves
   pub words : WordsFit i (words_of book.words i) (all_runs book) (slave_at book i).cells
-  pub fits : HalfFits i half (slave_at book i).errand (slave_at book i).cells
+  pub fits : HalfFits i half (slave_at book i).operation (slave_at book i).cells
 
 -- ---- a batch that becomes live, for one slave
 
@@ -70,8 +70,8 @@ slave-opened : (words : List (List ℕ)) (runs : List Run) (i : ℕ) → i < len
 slave-opened words runs i within =
     slave-owing runs (map opened_slave words) i (omega (arith, within, length-map words opened_slave)) ∙ ap (λ (s : Slave). record s { cells = owing_words runs i 0 s.cells }) (slave-read words i within)
 
-pub opened-free : (words : List (List ℕ)) (capacity : ℕ) (journal : Journal) (i : ℕ) → i < length words → (slave_at (open_book words capacity journal) i).errand ≡ Free
-opened-free words capacity journal i within = ap (λ (s : Slave). s.errand) (slave-opened words (runs_of (open_book words capacity journal).found) i within)
+pub opened-vacant : (words : List (List ℕ)) (capacity : ℕ) (journal : Journal) (i : ℕ) → i < length words → (slave_at (open_book words capacity journal) i).operation ≡ NoOperation
+opened-vacant words capacity journal i within = ap (λ (s : Slave). s.operation) (slave-opened words (runs_of (open_book words capacity journal).found) i within)
 
 pub stands-opened : (words : List (List ℕ)) (capacity : ℕ) (journal : Journal) (i : ℕ) (half : SlaveHalf) → i < length words → IsIdle half → half.words ≡ words_of words i
     → Stands i (open_book words capacity journal) half
@@ -90,8 +90,8 @@ stands-opened words capacity journal i half within idle holds =
       inside = omega (arith, within, count, length-owing_slaves runs 0 read);
       words = subst (λ (s : Slave). WordsFit i (words_of words i) (all_runs book) s.cells) (sym slave)
           (subst (λ (es : List Entry). WordsFit i (words_of words i) (runs_of es) cells) (sym all) (words-live i (words_of words i) [] runs (map opened (words_of words i)) (words-opened i (words_of words i))));
-      fits = subst (λ (s : Slave). HalfFits i half s.errand s.cells) (sym slave)
-          (half-same i Free half (map opened (words_of words i)) cells (same-owing runs i (map opened (words_of words i))) (subst (λ (w : List ℕ). HalfFits i half Free (map opened w)) holds (half-opened i half idle)));
+      fits = subst (λ (s : Slave). HalfFits i half s.operation s.cells) (sym slave)
+          (half-same i NoOperation half (map opened (words_of words i)) cells (same-owing runs i (map opened (words_of words i))) (subst (λ (w : List ℕ). HalfFits i half NoOperation (map opened w)) holds (half-opened i half idle)));
     }
 
 -- ---- a call that leaves the slaves and the entries as they are
@@ -167,12 +167,12 @@ went-back book VersionSync is = quiet (record { words = refl; found = refl; acce
 fault-back : (book : Book) (why : Fault) → DiskBack book (with_fault (rested book) why)
 fault-back book why = quiet (record { words = refl; found = refl; accepted = refl; durable = refl; slaves = refl }) (λ has. refl)
 
-told-back : (book : Book) (out : Bool) (result : Result (Unit {0}) DeviceFault) → book.is_handed_out ≡ out → DiskBack book (disk_done book result)
-told-back book false result o = let is : disk_done book result ≡ book = rw o refl in subst (DiskBack book) (sym is) (quiet (unchanged book) (λ has. has))
-told-back book true (Ok done) o = let is : disk_done book (Ok done) ≡ went_on (rested book) book.doing = rw o refl in subst (DiskBack book) (sym is) (went-back book book.doing refl)
-told-back book true (Err Disk) o = let is : disk_done book (Err Disk) ≡ with_fault (rested book) faults.Disk = rw o refl in subst (DiskBack book) (sym is) (fault-back book faults.Disk)
-told-back book true (Err Stopped) o = let is : disk_done book (Err Stopped) ≡ with_fault (rested book) faults.Stopped = rw o refl in subst (DiskBack book) (sym is) (fault-back book faults.Stopped)
-told-back book true (Err Lost) o = let is : disk_done book (Err Lost) ≡ book = rw o refl in subst (DiskBack book) (sym is) (quiet (unchanged book) (λ has. has))
+reported-back : (book : Book) (out : Bool) (result : Result (Unit {0}) DeviceFault) → book.is_handed_out ≡ out → DiskBack book (disk_done book result)
+reported-back book false result o = let is : disk_done book result ≡ book = rw o refl in subst (DiskBack book) (sym is) (quiet (unchanged book) (λ has. has))
+reported-back book true (Ok done) o = let is : disk_done book (Ok done) ≡ went_on (rested book) book.doing = rw o refl in subst (DiskBack book) (sym is) (went-back book book.doing refl)
+reported-back book true (Err Disk) o = let is : disk_done book (Err Disk) ≡ with_fault (rested book) faults.Disk = rw o refl in subst (DiskBack book) (sym is) (fault-back book faults.Disk)
+reported-back book true (Err Stopped) o = let is : disk_done book (Err Stopped) ≡ with_fault (rested book) faults.Stopped = rw o refl in subst (DiskBack book) (sym is) (fault-back book faults.Stopped)
+reported-back book true (Err Lost) o = let is : disk_done book (Err Lost) ≡ book = rw o refl in subst (DiskBack book) (sym is) (quiet (unchanged book) (λ has. has))
 
 stands-live : (i : ℕ) (book : Book) (half : SlaveHalf) (place : Place) (entries : List Entry) → book.doing ≡ OpenSync place entries → AppendsNext (went_on (rested book) (OpenSync place entries)) → Stands i book half
     → Stands i (went_on (rested book) (OpenSync place entries)) half
@@ -192,22 +192,22 @@ stands-live i book half place entries is appends stands =
       inside = omega (arith, stands.inside, length-owing_slaves runs 0 book.slaves);
       words = subst (λ (s : Slave). WordsFit i (words_of book.words i) (all_runs later) s.cells) (sym slave)
           (subst (λ (r : List Run). WordsFit i (words_of book.words i) r (owing_words runs i 0 cells)) (sym (ap runs_of all ∙ runs_of-append (all_entries book) entries)) (words-live i (words_of book.words i) (all_runs book) runs cells stands.words));
-      fits = subst (λ (s : Slave). HalfFits i half s.errand s.cells) (sym slave) (half-same i (slave_at book i).errand half cells (owing_words runs i 0 cells) (same-owing runs i cells) stands.fits);
+      fits = subst (λ (s : Slave). HalfFits i half s.operation s.cells) (sym slave) (half-same i (slave_at book i).operation half cells (owing_words runs i 0 cells) (same-owing runs i cells) stands.fits);
     }
 
-pub stands-told : (i : ℕ) (book : Book) (result : Result (Unit {0}) DeviceFault) (half : SlaveHalf) → Stands i book half → Stands i (disk_done book result) half
-stands-told i book result half stands = from (told-back book book.is_handed_out result refl)
+pub stands-reported : (i : ℕ) (book : Book) (result : Result (Unit {0}) DeviceFault) (half : SlaveHalf) → Stands i book half → Stands i (disk_done book result) half
+stands-reported i book result half stands = from (reported-back book book.is_handed_out result refl)
   where
     appends : AppendsNext (disk_done book result)
-    appends = (disk-told-on book result stands.appends).appends stands.appends
+    appends = (disk-reported-on book result stands.appends).appends stands.appends
 
     from : DiskBack book (disk_done book result) → Stands i (disk_done book result) half
     from (quiet same failed) = stands-quiet i book (disk_done book result) half same appends stands
     from (lives place entries doing is) =
         subst (λ (b : Book). Stands i b half) (sym is) (stands-live i book half place entries doing (subst AppendsNext is appends) stands)
 
-pub told-failed : (book : Book) (result : Result (Unit {0}) DeviceFault) → is_some book.fault ≡ true → is_some (disk_done book result).fault ≡ true
-told-failed book result has = from (told-back book book.is_handed_out result refl)
+pub reported-failed : (book : Book) (result : Result (Unit {0}) DeviceFault) → is_some book.fault ≡ true → is_some (disk_done book result).fault ≡ true
+reported-failed book result has = from (reported-back book book.is_handed_out result refl)
   where
     from : DiskBack book (disk_done book result) → is_some (disk_done book result).fault ≡ true
     from (quiet same stays) = stays has
@@ -216,7 +216,7 @@ told-failed book result has = from (told-back book book.is_handed_out result ref
 -- ---- the slave itself goes on
 
 pub stands-slave : (i : ℕ) (book later : Book) (slave : Slave) (fault : Option Fault) (half : SlaveHalf) (old : SlaveHalf) → later ≡ record book { slaves = set book.slaves i slave; fault = fault } → Stands i book old
-    → WordsFit i (words_of book.words i) (all_runs book) slave.cells → HalfFits i half slave.errand slave.cells → Stands i later half
+    → WordsFit i (words_of book.words i) (all_runs book) slave.cells → HalfFits i half slave.operation slave.cells → Stands i later half
 stands-slave i book later slave fault half old is stands words fits =
     let here : get_or (set book.slaves i slave) i nobody ≡ slave = get_or-set_same book.slaves i slave nobody stands.inside in
     subst (λ (b : Book). Stands i b half) (sym is)
@@ -226,13 +226,13 @@ stands-slave i book later slave fault half old is stands words fits =
       plant = stands.plant;
       inside = omega (arith, stands.inside, length-set book.slaves i slave);
       words = subst (λ (s : Slave). WordsFit i (words_of book.words i) (all_runs book) s.cells) (sym here) words;
-      fits = subst (λ (s : Slave). HalfFits i half s.errand s.cells) (sym here) fits;
+      fits = subst (λ (s : Slave). HalfFits i half s.operation s.cells) (sym here) fits;
     })
 
 -- another one does
-pub stands-apart : (i : ℕ) (book later : Book) (j : ℕ) (slave : Slave) (fault : Option Fault) (half : SlaveHalf) → later ≡ record book { slaves = set book.slaves j slave; fault = fault } → slave_at later i ≡ slave_at book i
+pub stands-separate : (i : ℕ) (book later : Book) (j : ℕ) (slave : Slave) (fault : Option Fault) (half : SlaveHalf) → later ≡ record book { slaves = set book.slaves j slave; fault = fault } → slave_at later i ≡ slave_at book i
     → Stands i book half → Stands i later half
-stands-apart i book later j slave fault half is same stands =
+stands-separate i book later j slave fault half is same stands =
     let here : slave_at (record book { slaves = set book.slaves j slave; fault = fault }) i ≡ slave_at book i = ap (λ (b : Book). slave_at b i) (sym is) ∙ same in
     subst (λ (b : Book). Stands i b half) (sym is)
     (record {
@@ -241,7 +241,7 @@ stands-apart i book later j slave fault half is same stands =
       plant = stands.plant;
       inside = omega (arith, stands.inside, length-set book.slaves j slave);
       words = subst (λ (s : Slave). WordsFit i (words_of book.words i) (all_runs book) s.cells) (sym here) stands.words;
-      fits = subst (λ (s : Slave). HalfFits i half s.errand s.cells) (sym here) stands.fits;
+      fits = subst (λ (s : Slave). HalfFits i half s.operation s.cells) (sym here) stands.fits;
     })
 
 -- ---- a word that is to be done

@@ -11,7 +11,7 @@ use Rattle.book_model.specs.Reading.{applied, planned}
 use Rattle.station_jobs.specs.declared.cycle.CycleNote.{CycleNote}
 use Rattle.world_law.proofs.StandsLaws.{applied-few}
 use Rattle.desk_book.specs.declared.call.Call.{Call}
-use Rattle.desk_book.specs.declared.call.Call.TheVariants.{Submitted, DiskAsked, DiskTold, SlaveAsked, SlaveTold, PlanAsked, Finished}
+use Rattle.desk_book.specs.declared.call.Call.TheVariants.{Submitted, DiskAsked, DiskReported, SlaveAsked, SlaveReported, PlanAsked, Finished}
 use Rattle.desk_book.specs.Calls.{after, replayed, AreAnswered, turn_of}
 use Rattle.desk_book.specs.Logs.{turn_noted}
 use Rattle.desk_book.proofs.KeptLaws.{keeps-disk_next, keeps-disk_done, keeps-rom_next, keeps-rom_done}
@@ -33,9 +33,9 @@ after-more : (book : Book) (call : Call) → IsMore book.accepted (after book ca
 after-more book (Submitted command (Ok number)) = record { more = command ∷ []; all = refl }
 after-more book (Submitted command (Err refusal)) = same-commands book.accepted book.accepted refl
 after-more book (DiskAsked answer) = same-commands book.accepted (after book (DiskAsked answer)).accepted (keeps-disk_next book).accepted
-after-more book (DiskTold outcome) = same-commands book.accepted (after book (DiskTold outcome)).accepted (keeps-disk_done book outcome).accepted
+after-more book (DiskReported outcome) = same-commands book.accepted (after book (DiskReported outcome)).accepted (keeps-disk_done book outcome).accepted
 after-more book (SlaveAsked slave answer) = same-commands book.accepted (after book (SlaveAsked slave answer)).accepted (keeps-rom_next book slave).accepted
-after-more book (SlaveTold slave outcome) = same-commands book.accepted (after book (SlaveTold slave outcome)).accepted (keeps-rom_done book slave outcome).accepted
+after-more book (SlaveReported slave outcome) = same-commands book.accepted (after book (SlaveReported slave outcome)).accepted (keeps-rom_done book slave outcome).accepted
 after-more book (PlanAsked answer) = same-commands book.accepted book.accepted refl
 after-more book Finished = same-commands book.accepted book.accepted refl
 
@@ -77,7 +77,7 @@ module _ (base : List (List ℕ)) (final : List Command) where
   turns-are book (PlanAsked None ∷ calls) log all same last sofar = turns-are book calls log all.1 same last sofar
   turns-are book (Submitted command answer ∷ calls) log all same last sofar = turns-are (after book (Submitted command answer)) calls log all.1 (base-replayed book (Submitted command answer ∷ []) ∙ same) last sofar
   turns-are book (DiskAsked answer ∷ calls) log all same last sofar = turns-are (after book (DiskAsked answer)) calls log all.1 (base-replayed book (DiskAsked answer ∷ []) ∙ same) last sofar
-  turns-are book (DiskTold outcome ∷ calls) log all same last sofar = turns-are (after book (DiskTold outcome)) calls log all.1 (base-replayed book (DiskTold outcome ∷ []) ∙ same) last sofar
+  turns-are book (DiskReported outcome ∷ calls) log all same last sofar = turns-are (after book (DiskReported outcome)) calls log all.1 (base-replayed book (DiskReported outcome ∷ []) ∙ same) last sofar
   turns-are book (SlaveAsked slave answer ∷ calls) log all same last sofar = turns-are (after book (SlaveAsked slave answer)) calls log all.1 (base-replayed book (SlaveAsked slave answer ∷ []) ∙ same) last sofar
-  turns-are book (SlaveTold slave outcome ∷ calls) log all same last sofar = turns-are (after book (SlaveTold slave outcome)) calls log all.1 (base-replayed book (SlaveTold slave outcome ∷ []) ∙ same) last sofar
+  turns-are book (SlaveReported slave outcome ∷ calls) log all same last sofar = turns-are (after book (SlaveReported slave outcome)) calls log all.1 (base-replayed book (SlaveReported slave outcome ∷ []) ∙ same) last sofar
   turns-are book (Finished ∷ calls) log all same last sofar = turns-are (after book Finished) calls log all.1 (base-replayed book (Finished ∷ []) ∙ same) last sofar

@@ -123,17 +123,17 @@ words-lead plant slave runs cells left within fits settled size may =
 
 -- ---- the settled prefix is all there is
 
-settled-first : (cells : List (List Cell)) (behind runs : List Run) (slave at : ℕ) → runs_settled cells behind runs ≡ true → slave < length cells → IsSettledWord behind slave at (cell_of (get_or cells slave []) at)
-    → IsSettledWord (runs ++ behind) slave at (cell_of (get_or cells slave []) at)
-settled-first cells behind runs slave at is within (inr few) = inr few
-settled-first cells behind runs slave at is within (inl unnamed) =
-    let here : namings_settled (get_or cells slave []) (namings behind slave) (namings runs slave) ≡ true = rw zero-add at (slave-settled 0 cells behind runs slave is within) in
-    elim (word-settled (get_or cells slave []) (namings behind slave) (namings runs slave) at here) [
-      | inl none ↦ inl (values-append runs behind slave at ∙ ap (λ (l : List ℕ). l ++ values behind slave at) none ∙ unnamed)
+settled-first : (cells : List (List Cell)) (afterwards runs : List Run) (slave at : ℕ) → runs_settled cells afterwards runs ≡ true → slave < length cells → IsSettledWord afterwards slave at (cell_of (get_or cells slave []) at)
+    → IsSettledWord (runs ++ afterwards) slave at (cell_of (get_or cells slave []) at)
+settled-first cells afterwards runs slave at is within (inr few) = inr few
+settled-first cells afterwards runs slave at is within (inl unnamed) =
+    let here : namings_settled (get_or cells slave []) (namings afterwards slave) (namings runs slave) ≡ true = rw zero-add at (slave-settled 0 cells afterwards runs slave is within) in
+    elim (word-settled (get_or cells slave []) (namings afterwards slave) (namings runs slave) at here) [
+      | inl none ↦ inl (values-append runs afterwards slave at ∙ ap (λ (l : List ℕ). l ++ values afterwards slave at) none ∙ unnamed)
       | inr few ↦ inr (omega (arith, few, ap length unnamed))
     ]
 
--- the first entry is settled, and so are those behind it
+-- the first entry is settled, and so are those after it
 prefix-all : (first : Bool) (others all : ℕ) → (if first then suc others else 0) ≡ suc all → (first ≡ true) × (others ≡ all)
 prefix-all true others all is = (refl, omega (arith, is))
 prefix-all false others all is = absurd (omega (arith, is))

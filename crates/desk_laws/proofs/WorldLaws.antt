@@ -10,15 +10,15 @@ use Rattle.esc_model.proofs.Resting.{MayLeave-same, length-MayLeave}
 use Rattle.site_core.specs.State.{State, with_half}
 use Rattle.book_model.specs.Cells.{Cell, cell_of}
 use Rattle.book_model.specs.declared.next.RomNext.TheVariants as next
-use Rattle.book_model.specs.Book.{Book, Slave, Errand, Free, Issuing, nobody, slave_at}
-use Rattle.book_model.specs.RomSteps.{with_errand}
+use Rattle.book_model.specs.Book.{Book, Slave, Operation, NoOperation, Issuing, nobody, slave_at}
+use Rattle.book_model.specs.RomSteps.{with_operation}
 use Rattle.book_model.specs.Owed.{MayBe}
 use Rattle.book_model.specs.Frame.{JournalFrame}
 use Rattle.book_model.specs.Slaves.{SlaveFits, Asks}
 use Rattle.book_model.specs.Steps.{TakesOrNot}
 use Rattle.book_model.specs.Up.{Up}
-use Rattle.book_model.proofs.RomLaws.{up-errand}
-use Rattle.world_law.specs.World.{World, Event, Told}
+use Rattle.book_model.proofs.RomLaws.{up-operation}
+use Rattle.world_law.specs.World.{World, Event, Reported}
 use Rattle.world_law.specs.Happenings.{Happens}
 use Rattle.world_law.specs.Law.{Session, EventFits, MachineFits}
 use Rattle.world_law.proofs.StandsLaws.{IsOf, Stands, stands-up, stands-down}
@@ -37,9 +37,9 @@ pub record Stays (book : Book) (state : State) (took : List Bool) : Type 0 where
   pub fits : MachineFits session.machine
 
 -- an event of the main law happens
-pub happens : (event : Event) (told : Told) (book later : Book) (state after : State) (took taken : List Bool) → Stays book state took → EventFits event → Happens event (world_of book state took) told (world_of later after taken) → Stays later after taken
-happens event told book later state after took taken stays small is =
-    let goes = step-goes stays.session event (world_of book state took) (world_of later after taken) told stays.stands stays.fits small (inl is) in
+pub happens : (event : Event) (reported : Reported) (book later : Book) (state after : State) (took taken : List Bool) → Stays book state took → EventFits event → Happens event (world_of book state took) reported (world_of later after taken) → Stays later after taken
+happens event reported book later state after took taken stays small is =
+    let goes = step-goes stays.session event (world_of book state took) (world_of later after taken) reported stays.stands stays.fits small (inl is) in
     record { session = goes.session; stands = goes.stands; fits = goes.fits }
 
 record UpFor (book : Book) (state : State) (took : List Bool) (session : Session) : Type 0 where
@@ -62,20 +62,20 @@ took-count book state took stays = let u = up-for book state took stays.session 
 
 -- ---- a slave changes
 
-same-errand : (book : Book) (i : ℕ) (errand : Errand) → (slave_at book i).errand ≡ errand → with_errand book i errand ≡ book
-same-errand book i errand is =
-    ap (λ (e : Errand). with_errand book i e) (sym is) ∙ ap (λ (l : List Slave). record book { slaves = l }) (set-get_or book.slaves i nobody)
+same-operation : (book : Book) (i : ℕ) (operation : Operation) → (slave_at book i).operation ≡ operation → with_operation book i operation ≡ book
+same-operation book i operation is =
+    ap (λ (e : Operation). with_operation book i e) (sym is) ∙ ap (λ (l : List Slave). record book { slaves = l }) (set-get_or book.slaves i nobody)
 
 -- to a half that fits what the book knows of it
-changes : (book : Book) (state : State) (took : List Bool) (i : ℕ) (errand : Errand) (half later : SlaveHalf) (t : Bool) → Stays book state took → (slave_at book i).errand ≡ errand → slice_get state.halves i ≡ Some half
-    → (SlaveFits i half errand (get_or took i false) (slave_at book i).cells → SlaveFits i later errand t (slave_at book i).cells) → Stays book (with_half state i later) (set took i t)
-changes book state took i errand half later t stays is here fits =
+changes : (book : Book) (state : State) (took : List Bool) (i : ℕ) (operation : Operation) (half later : SlaveHalf) (t : Bool) → Stays book state took → (slave_at book i).operation ≡ operation → slice_get state.halves i ≡ Some half
+    → (SlaveFits i half operation (get_or took i false) (slave_at book i).cells → SlaveFits i later operation t (slave_at book i).cells) → Stays book (with_half state i later) (set took i t)
+changes book state took i operation half later t stays is here fits =
     let u = up-for book state took stays.session stays.stands in
     let m = stays.session.machine in
     let within : i < length book.slaves = (let lt = slice_get_within state.halves i half here in omega (arith, lt, u.up.slaves.count)) in
-    let was = subst (λ (e : Errand). SlaveFits i half e (get_or took i false) (slave_at book i).cells) is (u.up.slaves.each i half here) in
-    let up = up-errand u.frame book state took m i later errand t u.up within (fits was) in
-    record { session = stays.session; stands = stands-up book u.frame refl (subst (λ (b : Book). Up u.frame b (with_half state i later) (set took i t) m) (same-errand book i errand is) up) u.of; fits = stays.fits }
+    let was = subst (λ (e : Operation). SlaveFits i half e (get_or took i false) (slave_at book i).cells) is (u.up.slaves.each i half here) in
+    let up = up-operation u.frame book state took m i later operation t u.up within (fits was) in
+    record { session = stays.session; stands = stands-up book u.frame refl (subst (λ (b : Book). Up u.frame b (with_half state i later) (set took i t) m) (same-operation book i operation is) up) u.of; fits = stays.fits }
 
 -- ---- it takes the datagram of an issue, or doesn't
 
@@ -94,7 +94,7 @@ fits-begun i word value half begun took taken cells begins fits =
       };
     }
 
-pub takes : (book : Book) (state : State) (took : List Bool) (i word value : ℕ) (half begun : SlaveHalf) (taken : Bool) → Stays book state took → (slave_at book i).errand ≡ Issuing word value → slice_get state.halves i ≡ Some half
+pub takes : (book : Book) (state : State) (took : List Bool) (i word value : ℕ) (half begun : SlaveHalf) (taken : Bool) → Stays book state took → (slave_at book i).operation ≡ Issuing word value → slice_get state.halves i ≡ Some half
     → TakesOrNot taken i word value half begun → Stays book (with_half state i begun) (set took i taken)
 takes book state took i word value half begun taken stays is here begins =
     changes book state took i (Issuing word value) half begun taken stays is here (fits-begun i word value half begun (get_or took i false) taken (slave_at book i).cells begins)
@@ -133,20 +133,20 @@ fits-torn i word value half later took cells leaves fits =
       asks = record { inside = asks.inside; unsure = asks.unsure; owed = asks.owed; took = λ no. absurd (cc no) };
     }
 
-pub tears : (book : Book) (state : State) (took : List Bool) (i word value : ℕ) (half later : SlaveHalf) → Stays book state took → (slave_at book i).errand ≡ Issuing word value → slice_get state.halves i ≡ Some half
+pub tears : (book : Book) (state : State) (took : List Bool) (i word value : ℕ) (half later : SlaveHalf) → Stays book state took → (slave_at book i).operation ≡ Issuing word value → slice_get state.halves i ≡ Some half
     → ((left : List ℕ) → MayLeave later left → HalfLeft (next.Issue word value) half left) → Stays book (with_half state i later) (set took i false)
 tears book state took i word value half later stays is here leaves =
     changes book state took i (Issuing word value) half later false stays is here (fits-torn i word value half later (get_or took i false) (slave_at book i).cells leaves)
 
 -- ---- a power cut leaves no more of it
 
-fits-less : (i : ℕ) (half later : SlaveHalf) (took now : Bool) (cells : List Cell) → LeavesLess half later → SlaveFits i half Free took cells → SlaveFits i later Free now cells
+fits-less : (i : ℕ) (half later : SlaveHalf) (took now : Bool) (cells : List Cell) → LeavesLess half later → SlaveFits i half NoOperation took cells → SlaveFits i later NoOperation now cells
 fits-less i half later took now cells less fits = record {
   size = fits.size ∙ sym (length-MayLeave half later.words (less later.words (MayLeave-same later)));
   words = λ left may. fits.words left (less left may);
   asks = tt;
 }
 
-pub fades : (book : Book) (state : State) (took : List Bool) (i : ℕ) (half later : SlaveHalf) → Stays book state took → (slave_at book i).errand ≡ Free → slice_get state.halves i ≡ Some half → LeavesLess half later
+pub fades : (book : Book) (state : State) (took : List Bool) (i : ℕ) (half later : SlaveHalf) → Stays book state took → (slave_at book i).operation ≡ NoOperation → slice_get state.halves i ≡ Some half → LeavesLess half later
     → Stays book (with_half state i later) (set took i false)
-fades book state took i half later stays is here less = changes book state took i Free half later false stays is here (fits-less i half later (get_or took i false) false (slave_at book i).cells less)
+fades book state took i half later stays is here less = changes book state took i NoOperation half later false stays is here (fits-less i half later (get_or took i false) false (slave_at book i).cells less)

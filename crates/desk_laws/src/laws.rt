@@ -5,10 +5,10 @@ ghost use Rattle.site_core.specs.declared.fault.DeviceFault.TheVariants as devic
 ghost use Rattle.book_model.specs.Book.{Book, Resting, base_of};
 ghost use Rattle.station_jobs.specs.Flushing.{IsFlushed};
 ghost use Rattle.station_jobs.specs.Working.{IsWorked};
-ghost use Rattle.world_law.specs.World.{Told, World};
+ghost use Rattle.world_law.specs.World.{Reported, World};
 ghost use Rattle.world_law.specs.Happenings.{HappensUp};
 ghost use Rattle.desk_book.specs.declared.call.Call.{Call};
-ghost use Rattle.desk_book.specs.declared.call.Call.TheVariants.{DiskTold};
+ghost use Rattle.desk_book.specs.declared.call.Call.TheVariants.{DiskReported};
 ghost use Rattle.desk_book.specs.Calls.{after, AreAnswered, IsAnswered, replayed};
 ghost use Rattle.desk_book.specs.Closing.{is_served};
 ghost use Rattle.desk_book.specs.Logs.{DiskEntry, cycle_log, rom_log};
@@ -21,8 +21,8 @@ ghost use Rattle.desk_laws.specs.Turns.{IsTurnOf, NeverFall, AppendsNext};
 /// If the event happens in a world with this book, then whatever disk and slaves do in it, the book afterwards is the one that the
 /// history has after the call.
 pub fn desk_calls_are_events()
-    ensures { (book : Book) (call : Call) (world later : World) (told : Told) → world.book ≡ Some book → IsAnswered book call
-        → HappensUp (event_of call) book world told later → later.book ≡ Some (after book call) }
+    ensures { (book : Book) (call : Call) (world later : World) (reported : Reported) → world.book ≡ Some book → IsAnswered book call
+        → HappensUp (event_of call) book world reported later → later.book ≡ Some (after book call) }
 {}
 
 /// There is a world of the book in which the event of an answered call happens, exactly if the outcome that it reports is of its job's kind.
@@ -34,7 +34,7 @@ pub fn answered_calls_can_happen()
 ///
 /// No work done on a site comes to that: none of the disk's actions ends with `Lost`.
 pub fn a_lost_disk_changes_nothing()
-    ensures same { (book : Book) → after book (DiskTold (Err device.Lost)) ≡ book }
+    ensures same { (book : Book) → after book (DiskReported (Err device.Lost)) ≡ book }
     ensures never { (log : List DiskEntry) (old new : Seen) → IsFlushed log old new → NoneIsLost log }
 {}
 

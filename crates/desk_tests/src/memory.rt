@@ -14,7 +14,7 @@ pub(crate) enum Memory {
     RefusedOnce,
 }
 
-/// Puts an item behind the others.
+/// Puts an item after the others.
 pub(crate) fn put<T: Drop>(rt: &impl Abort, items: &mut Vec<T>, item: T) {
     match items.push(item) {
         Ok(()) => {}

@@ -181,7 +181,7 @@ fn held<T: Tickets, R: Refusals>(
     (shares, receipts)
 }
 
-/// Puts these receipts behind the others.
+/// Puts these receipts after the others.
 fn hand_in(rt: &impl Abort, receipts: &mut Vec<Receipt>, others: Vec<Receipt>) {
     for receipt in others {
         put(rt, receipts, receipt);

@@ -87,7 +87,7 @@ fn halves_with(
 pub(crate) fn site_of(rt: &impl Abort, alloc: Global, parts: Parts) -> MemSite
     ensures { result ≡ made_of parts }
 {
-    assert!(rt; parts.is_whole());
+    assert!(rt; parts.is_complete());
     MemSite::of_parts(alloc, parts)
 }
 

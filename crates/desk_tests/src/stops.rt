@@ -43,28 +43,28 @@ const STOPPING: Scenario = Scenario {
 /// - a recovery leaves no prefix of the commands, or one without an acknowledged command, or not all commands though nothing stopped the line
 /// - the desk wasn't closed because of a mismatch
 /// - all commands were queued before the line was served, and not three were accepted, or neither all of them nor none are left
-fn judged(pace: Pace, report: &Report) -> Option<bool> {
+fn validated(pace: Pace, report: &Report) -> Option<bool> {
     let place = report.place?;
     let least = match report.fault {
         None => 3,
         Some(CloseFault::Unserved) => report.acknowledged,
         Some(CloseFault::Mismatch) => return None,
     };
-    let is_whole = report.accepted == 3 && (place == 0 || place == 3);
-    if place < least || (matches!(pace, Pace::Queued) && !is_whole) {
+    let is_complete = report.accepted == 3 && (place == 0 || place == 3);
+    if place < least || (matches!(pace, Pace::Queued) && !is_complete) {
         return None;
     }
     Some(report.fault.is_some())
 }
 
-/// Runs the scenario. Whether its line was stopped. None: a promise was broken, as `judged` says.
+/// Runs the scenario. Whether its line was stopped. None: a promise was broken, as `validated` says.
 fn is_stopped<W: Wait + Threads + Sync + Abort>(
     rt: &W,
     alloc: Global,
     scenario: &Scenario,
 ) -> Option<bool> {
     let report = session(rt, alloc, scenario, &NoHook);
-    judged(scenario.pace, &report)
+    validated(scenario.pace, &report)
 }
 
 /// The scenario `STOPPING` with this pace and this trouble.

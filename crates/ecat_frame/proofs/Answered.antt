@@ -7,7 +7,7 @@ use Rattle.std.specs.List.{AllByRecursion}
 use Rattle.std.proofs.lemmas.List.{take_at, drop_at}
 use Rattle.ecat_frame.specs.Frame.{Pdu, Fits, datagram_bytes, length_word, header_word, follows, spelled_datagram, spelled, spelling}
 use Rattle.ecat_frame.specs.Answer.{answered}
-use Rattle.ecat_frame.specs.Kept.{last_at, Keeps, IsRest}
+use Rattle.ecat_frame.specs.Retained.{last_at, Keeps, IsRest}
 use Rattle.ecat_frame.proofs.Spelled.{length-spelled_datagram, follows-true}
 
 -- where the datagram at k begins
@@ -39,11 +39,11 @@ FitsIn ds k content = ForSome (slice_get ds k) (λ d. length content ≡ length 
 -- a datagram and what stands before it and behind it
 record Split (ds : List Pdu) (k : ℕ) (more : Bool) (content : List ℕ) (counter : ℕ) : Type 0 where
   pub one : Pdu
-  pub behind : List Pdu
+  pub after : List Pdu
   pub len : length content ≡ length one.content
-  pub was : spelled ds more ≡ spelled (take k ds) true ++ (spelled_datagram one (follows behind more) ++ spelled behind more)
+  pub was : spelled ds more ≡ spelled (take k ds) true ++ (spelled_datagram one (follows after more) ++ spelled after more)
   pub now : spelled (answered ds k content counter) more
-      ≡ spelled (take k ds) true ++ (spelled_datagram (record one { content = content; counter = counter }) (follows behind more) ++ spelled behind more)
+      ≡ spelled (take k ds) true ++ (spelled_datagram (record one { content = content; counter = counter }) (follows after more) ++ spelled after more)
 
 follows-some : (ds : List Pdu) (k : ℕ) (more : Bool) → k < length ds → follows ds more ≡ true
 follows-some [] k more lt = absurd (omega arith)
@@ -56,14 +56,14 @@ follows-answered (d ∷ ds) (suc k) content counter more lt = refl
 
 split : (ds : List Pdu) (k : ℕ) (more : Bool) (content : List ℕ) (counter : ℕ) → k < length ds → FitsIn ds k content → Split ds k more content counter
 split [] k more content counter lt fits = absurd (omega arith)
-split (d ∷ ds) zero more content counter lt fits = record { one = d; behind = ds; len = fits d refl; was = refl; now = refl }
+split (d ∷ ds) zero more content counter lt fits = record { one = d; after = ds; len = fits d refl; was = refl; now = refl }
 split (d ∷ ds) (suc k) more content counter lt fits =
     let deeper = split ds k more content counter (omega arith) fits in
     let first = spelled_datagram d true in
     let regroup = λ (t : List ℕ). sym (append_assoc first (spelled (take k ds) true) t) in
     record {
       one = deeper.one;
-      behind = deeper.behind;
+      after = deeper.after;
       len = deeper.len;
       was = rw (follows-some ds k more (omega arith), follows-true (take k ds)) (ap (λ (t : List ℕ). first ++ t) deeper.was ∙ regroup _);
       now = rw (follows-answered ds k content counter more (omega arith), follows-true (take k ds)) (ap (λ (t : List ℕ). first ++ t) deeper.now ∙ regroup _);
@@ -75,9 +75,9 @@ length-spelled-answered ds k more content counter lt fits =
     let parts = split ds k more content counter lt fits in
     let one = parts.one in
     let answer : Pdu = record one { content = content; counter = counter } in
-    let bit = follows parts.behind more in
+    let bit = follows parts.after more in
     let before = spelled (take k ds) true in
-    let rest = spelled parts.behind more in
+    let rest = spelled parts.after more in
     omega (
       arith,
       ap length parts.was,
@@ -103,9 +103,9 @@ pub answer-within : (bytes content : List ℕ) (count last at k : ℕ) (ds : Lis
 answer-within bytes content count last at k ds kept lt fits at_is =
     let parts = split ds k false content 0 lt fits in
     let one = parts.one in
-    let bit = follows parts.behind false in
+    let bit = follows parts.after false in
     let before = spelled (take k ds) true in
-    let rest = spelled parts.behind false in
+    let rest = spelled parts.after false in
     omega (
       arith,
       at_is,
@@ -147,9 +147,9 @@ overwrite_part : (front old new rest : List ℕ) (at : ℕ) → length old ≡ l
     → take at (front ++ (old ++ rest)) ++ new ++ drop (at + length new) (front ++ (old ++ rest)) ≡ front ++ (new ++ rest)
 overwrite_part front old new rest at len at_is =
     let before : take at (front ++ (old ++ rest)) ≡ front = take_at front (old ++ rest) at (sym at_is) in
-    let behind : drop (at + length new) (front ++ (old ++ rest)) ≡ rest =
+    let after : drop (at + length new) (front ++ (old ++ rest)) ≡ rest =
     ap (drop (at + length new)) (sym (append_assoc front old rest)) ∙ drop_at (front ++ old) rest (at + length new) (omega (arith, length-append front old)) in
-    rw (before, behind) (append_assoc front new rest)
+    rw (before, after) (append_assoc front new rest)
 
 -- the first ten bytes, which an answer doesn't change
 abbrev head_bytes : Pdu → (len : ℕ) → Bool → List ℕ
@@ -167,9 +167,9 @@ pub kept_answered : (bytes first second content part : List ℕ) (count last at 
 kept_answered bytes first second content part count last at k counter ds kept lt fits counter_fits at_is first_is part_is second_is =
     let parts = split ds k false content counter lt fits in
     let one = parts.one in
-    let more = follows parts.behind false in
+    let more = follows parts.after false in
     let before = spelled (take k ds) true in
-    let rest = spelled parts.behind false in
+    let rest = spelled parts.after false in
     let head = head_bytes one (length one.content) more in
     let header = to_le_bytes w16 (header_word (length (spelled ds false)) 0 1) in
     let front = header ++ (before ++ head) in

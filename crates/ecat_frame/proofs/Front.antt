@@ -54,11 +54,11 @@ has_header (a ∷ b ∷ bytes) fits len word e =
 pub header_inside : (bytes : List ℕ) (stated type : ℕ) → HasHeader bytes stated type (drop 2 bytes) → type ≡ 1
     → stated ≤ length (take (length bytes - 2) (drop 2 bytes)) → stated ≤ 1498 → HasInside bytes (take stated (take (length bytes - 2) (drop 2 bytes)))
 header_inside bytes stated type header e there room =
-    let behind = drop 2 bytes in
-    let all : take (length bytes - 2) behind ≡ behind = take_rest bytes 2 in
-    let len : length (take stated behind) ≡ stated = length-take-le stated behind (subst (λ (b : List ℕ). stated ≤ length b) all there) in
-    let cut : HasHeader bytes (length (take stated behind)) 1 (take stated behind ++ drop stated behind) = rw (len, take-append-drop stated behind, ← e) header in
-    rw all (drop stated behind, cut, rw len room)
+    let after = drop 2 bytes in
+    let all : take (length bytes - 2) after ≡ after = take_rest bytes 2 in
+    let len : length (take stated after) ≡ stated = length-take-le stated after (subst (λ (b : List ℕ). stated ≤ length b) all there) in
+    let cut : HasHeader bytes (length (take stated after)) 1 (take stated after ++ drop stated after) = rw (len, take-append-drop stated after, ← e) header in
+    rw all (drop stated after, cut, rw len room)
 
 pub header_outside : (bytes : List ℕ) (stated type : ℕ) → HasHeader bytes stated type (drop 2 bytes) → type ≡ 1
     → (1498 < stated) ⊎ ((stated ≤ 1498) × (length (take (length bytes - 2) (drop 2 bytes)) < stated)) → IsBadAt bytes 0
@@ -84,16 +84,16 @@ is_datagram c i a0 a1 a2 a3 w0 w1 q0 q1 x y word address counter content fits x_
     let lt : word < 2 ^ 16 = omega arith in
     let irq = q0 + q1 * 256 in
     let p : Pdu = record { command = c; index = i; address = address; content = content; counter = counter } in
-    let free = word / 2 ^ 11 % 2 ^ 4 in
+    let vacant = word / 2 ^ 11 % 2 ^ 4 in
     let more = not (eqb (bit_and word 32768) 0) in
-    let spelled_word : word ≡ length_word (length content) free more = rw len (length_word_read word lt) in
+    let spelled_word : word ≡ length_word (length content) vacant more = rw len (length_word_read word lt) in
     let four = four_bytes a0 a1 a2 a3 address b2 b3 b4 b5 address_is in
     let two = pair_bytes w0 w1 word b6 b7 word_is in
     let irq_two = pair_bytes q0 q1 irq b8 b9 refl in
     let counted = pair_bytes x y counter x_fits y_fits counter_is in
     record {
       fits = record { address = omega arith; length = rw (len, and_mask word 11) (omega arith); counter = omega arith };
-      free = free;
+      vacant = vacant;
       free_fits = omega arith;
       irq = irq;
       irq_fits = omega arith;
@@ -144,12 +144,12 @@ pub takes_datagram : (bytes content counted rest : List ℕ) (command word addre
     → drop 10 bytes ≡ content ++ (counted ++ rest)
     → (first : List ℕ) × (bytes ≡ first ++ rest) × IsDatagram first
     (record { command = command; index = get_or bytes 1 0; address = address; content = content; counter = counter }) (not (eqb (bit_and word 32768) 0))
-takes_datagram bytes content counted rest command word address counter fits len command_is word_is address_is counter_is content_len counted_len behind =
+takes_datagram bytes content counted rest command word address counter fits len command_is word_is address_is counter_is content_len counted_len after =
     let ten = ten_cells bytes len in
     let two = two_cells counted counted_len in
     let head = take 10 bytes in
-    let whole : bytes ≡ (head ++ content) ++ (counted ++ rest) = sym (take-append-drop 10 bytes) ∙ ap (λ (b : List ℕ). head ++ b) behind ∙ sym (append_assoc head content (counted ++ rest)) in
-    let part : (k : ℕ) → k < length counted → get_or counted k 0 < 256 = IsBytes-part (head ++ content) counted rest (subst IsBytes whole fits) in
+    let entire : bytes ≡ (head ++ content) ++ (counted ++ rest) = sym (take-append-drop 10 bytes) ∙ ap (λ (b : List ℕ). head ++ b) after ∙ sym (append_assoc head content (counted ++ rest)) in
+    let part : (k : ℕ) → k < length counted → get_or counted k 0 < 256 = IsBytes-part (head ++ content) counted rest (subst IsBytes entire fits) in
     let x = get_or counted 0 0 in
     let y = get_or counted 1 0 in
     let x_fits : x < 256 = part 0 (omega arith) in
@@ -160,14 +160,14 @@ takes_datagram bytes content counted rest command word address counter fits len 
     ∷ get_or bytes 6 0 ∷ get_or bytes 7 0 ∷ get_or bytes 8 0 ∷ get_or bytes 9 0 ∷ t in
     let last : content ++ (counted ++ rest) ≡ (content ++ x ∷ y ∷ []) ++ rest = ap (λ (t : List ℕ). content ++ (t ++ rest)) two ∙ sym (append_assoc content (x ∷ y ∷ []) rest) in (
       cells (get_or bytes 0 0) (content ++ x ∷ y ∷ []),
-      ten ∙ ap (cells (get_or bytes 0 0)) (behind ∙ last),
+      ten ∙ ap (cells (get_or bytes 0 0)) (after ∙ last),
       rw command_is (is_datagram (get_or bytes 0 0) (get_or bytes 1 0) (get_or bytes 2 0) (get_or bytes 3 0) (get_or bytes 4 0) (get_or bytes 5 0)
           (get_or bytes 6 0) (get_or bytes 7 0) (get_or bytes 8 0) (get_or bytes 9 0) x y word address counter content ten_fit x_fits y_fits word_is address_is counter_is content_len),
     )
 
--- Two cuts of what a slice pattern shows behind the first ten bytes.
-pub cut_twice : (bytes content behind counted rest : List ℕ) (n : ℕ) → content ≡ take n (take (length bytes - 10) (drop 10 bytes))
-    → behind ≡ drop n (take (length bytes - 10) (drop 10 bytes)) → counted ≡ take 2 behind → rest ≡ drop 2 behind → drop 10 bytes ≡ content ++ (counted ++ rest)
-cut_twice bytes content behind counted rest n content_is behind_is counted_is rest_is =
+-- Two cuts of what a slice pattern shows after the first ten bytes.
+pub cut_twice : (bytes content after counted rest : List ℕ) (n : ℕ) → content ≡ take n (take (length bytes - 10) (drop 10 bytes))
+    → after ≡ drop n (take (length bytes - 10) (drop 10 bytes)) → counted ≡ take 2 after → rest ≡ drop 2 after → drop 10 bytes ≡ content ++ (counted ++ rest)
+cut_twice bytes content after counted rest n content_is after_is counted_is rest_is =
     let all : take (length bytes - 10) (drop 10 bytes) ≡ drop 10 bytes = take_rest bytes 10 in
-    sym (rw (counted_is, rest_is, take-append-drop 2 behind, content_is, behind_is, all, take-append-drop n (drop 10 bytes)) refl)
+    sym (rw (counted_is, rest_is, take-append-drop 2 after, content_is, after_is, all, take-append-drop n (drop 10 bytes)) refl)

@@ -3,7 +3,7 @@ use Rattle.std.proofs.Common.{◌≡◌, ℕ, ◌<◌, ◌≤◌, Bool, true, fa
 use Rattle.std.specs.Int.{w16, to_le_bytes}
 use Rattle.std.proofs.lemmas.List.{append-nil}
 use Rattle.ecat_frame.specs.Frame.{Pdu, header_word, follows, IsDatagram, AreDatagrams, HasHeader, IsFrame}
-use Rattle.ecat_frame.specs.Fault.{NoDatagram, BreaksOff, not_whole, surplus, IsBadAt, no_header, other_type, bad_length, broken}
+use Rattle.ecat_frame.specs.Fault.{NoDatagram, BreaksOff, not_complete, surplus, IsBadAt, no_header, other_type, bad_length, broken}
 use Rattle.ecat_frame.proofs.Unique.{one_datagram, same_fronts, pair_same}
 use Rattle.ecat_frame.proofs.SoFar.{length-datagram}
 
@@ -61,11 +61,11 @@ compare_readings a x b y (d ∷ ds) (g ∷ es) m n as_a as_b e =
     sym (append_assoc as_a.0 as_a.1 x) ∙ ap (λ (s : List ℕ). s ++ x) (sym as_a.2) ∙ e ∙ ap (λ (s : List ℕ). s ++ y) as_b.2 ∙ append_assoc as_b.0 as_b.1 y in
     let one = one_datagram as_a.0 as_b.0 (as_a.1 ++ x) (as_b.1 ++ y) d g (follows ds m) (follows es n) as_a.3 as_b.3 cut in
     let tails = compare_readings as_a.1 x as_b.1 y ds es m n as_a.4 as_b.4 one.3 in
-    let whole = longer as_a.0 as_a.1 x as_b.1 y d ds es m n as_a.4 as_b.4 one.1 tails in
+    let entire = longer as_a.0 as_a.1 x as_b.1 y d ds es m n as_a.4 as_b.4 one.1 tails in
     let b_is : as_a.0 ++ as_b.1 ≡ b = ap (λ (s : List ℕ). s ++ as_b.1) one.2 ∙ sym as_b.2 in
     subst (λ (s : List ℕ). Compared s x b y (d ∷ ds) (g ∷ es) m n) (sym as_a.2)
     (subst (λ (s : List ℕ). Compared (as_a.0 ++ as_a.1) x s y (d ∷ ds) (g ∷ es) m n) b_is
-    (subst (λ (s : Pdu). Compared (as_a.0 ++ as_a.1) x (as_a.0 ++ as_b.1) y (d ∷ ds) (s ∷ es) m n) one.0 whole))
+    (subst (λ (s : Pdu). Compared (as_a.0 ++ as_a.1) x (as_a.0 ++ as_b.1) y (d ∷ ds) (s ∷ es) m n) one.0 entire))
 
 -- ---- datagrams inside a stated length
 
@@ -83,28 +83,28 @@ nothing_begins x begins = omega (arith, ap length begins.4, length-append begins
 none_begins : (x : List ℕ) → NoDatagram x → Begins x → ⊥
 none_begins x none begins = none begins.0 begins.1 begins.2 begins.3 begins.4 begins.5
 
-whole_or_broken : (before rest inside : List ℕ) (ds es : List Pdu) → inside ≡ before ++ rest → 0 < length inside → AreDatagrams before ds true → NoDatagram rest
+complete_or_broken : (before rest inside : List ℕ) (ds es : List Pdu) → inside ≡ before ++ rest → 0 < length inside → AreDatagrams before ds true → NoDatagram rest
     → AreDatagrams inside es false → ⊥
-whole_or_broken before rest inside ds es whole some as_a none as_b =
-    elim (compare_readings before rest inside [] ds es true false as_a as_b (sym whole ∙ sym (append-nil inside))) [
+complete_or_broken before rest inside ds es entire some as_a none as_b =
+    elim (compare_readings before rest inside [] ds es true false as_a as_b (sym entire ∙ sym (append-nil inside))) [
       | same t u v w ↦ let bit : true ≡ false = w (omega (arith, ap length t)) in cc
       | first_stops lt more short ↦ none_begins rest none more
-      | second_stops lt more short ↦ omega (arith, ap length whole, length-append before rest)
+      | second_stops lt more short ↦ omega (arith, ap length entire, length-append before rest)
     ]
 
-whole_or_surplus : (before rest inside : List ℕ) (ds es : List Pdu) → inside ≡ before ++ rest → 0 < length before → 0 < length rest → AreDatagrams before ds false
+complete_or_surplus : (before rest inside : List ℕ) (ds es : List Pdu) → inside ≡ before ++ rest → 0 < length before → 0 < length rest → AreDatagrams before ds false
     → AreDatagrams inside es false → ⊥
-whole_or_surplus before rest inside ds es whole some more as_a as_b =
-    elim (compare_readings before rest inside [] ds es false false as_a as_b (sym whole ∙ sym (append-nil inside))) [
+complete_or_surplus before rest inside ds es entire some more as_a as_b =
+    elim (compare_readings before rest inside [] ds es false false as_a as_b (sym entire ∙ sym (append-nil inside))) [
       | same t u v w ↦ omega (arith, ap length u)
       | first_stops lt begins short ↦ let bit : false ≡ true = short some in cc
-      | second_stops lt begins short ↦ omega (arith, ap length whole, length-append before rest)
+      | second_stops lt begins short ↦ omega (arith, ap length entire, length-append before rest)
     ]
 
 -- what breaks off is no list of datagrams
 pub no_list : (inside : List ℕ) (at : ℕ) (es : List Pdu) → BreaksOff inside at → AreDatagrams inside es false → ⊥
-no_list inside at es (not_whole before rest ds whole some as_a none place) as_b = whole_or_broken before rest inside ds es whole some as_a none as_b
-no_list inside at es (surplus before rest ds whole some more as_a place) as_b = whole_or_surplus before rest inside ds es whole some more as_a as_b
+no_list inside at es (not_complete before rest ds entire some as_a none place) as_b = complete_or_broken before rest inside ds es entire some as_a none as_b
+no_list inside at es (surplus before rest ds entire some more as_a place) as_b = complete_or_surplus before rest inside ds es entire some more as_a as_b
 
 both_broken : (a x b y : List ℕ) (ds es : List Pdu) → a ++ x ≡ b ++ y → AreDatagrams a ds true → AreDatagrams b es true → NoDatagram x → NoDatagram y → length a ≡ length b
 both_broken a x b y ds es e as_a as_b none none' =
@@ -132,19 +132,19 @@ broken_or_surplus a x b y ds es e some as_a as_b none =
 
 -- datagrams break off at one place
 pub one_place : (inside : List ℕ) (at at' : ℕ) → BreaksOff inside at → BreaksOff inside at' → at ≡ at'
-one_place inside at at' (not_whole a x ds whole some as_a none place) (not_whole b y es whole' some' as_b none' place') =
-    omega (arith, place, place', both_broken a x b y ds es (sym whole ∙ whole') as_a as_b none none')
-one_place inside at at' (not_whole a x ds whole some as_a none place) (surplus b y es whole' some' more' as_b place') =
-    absurd (broken_or_surplus a x b y ds es (sym whole ∙ whole') some' as_a as_b none)
-one_place inside at at' (surplus a x ds whole some more as_a place) (not_whole b y es whole' some' as_b none' place') =
-    absurd (broken_or_surplus b y a x es ds (sym whole' ∙ whole) some as_b as_a none')
-one_place inside at at' (surplus a x ds whole some more as_a place) (surplus b y es whole' some' more' as_b place') =
-    omega (arith, place, place', both_surplus a x b y ds es (sym whole ∙ whole') some some' as_a as_b)
+one_place inside at at' (not_complete a x ds entire some as_a none place) (not_complete b y es entire' some' as_b none' place') =
+    omega (arith, place, place', both_broken a x b y ds es (sym entire ∙ entire') as_a as_b none none')
+one_place inside at at' (not_complete a x ds entire some as_a none place) (surplus b y es entire' some' more' as_b place') =
+    absurd (broken_or_surplus a x b y ds es (sym entire ∙ entire') some' as_a as_b none)
+one_place inside at at' (surplus a x ds entire some more as_a place) (not_complete b y es entire' some' as_b none' place') =
+    absurd (broken_or_surplus b y a x es ds (sym entire' ∙ entire) some as_b as_a none')
+one_place inside at at' (surplus a x ds entire some more as_a place) (surplus b y es entire' some' more' as_b place') =
+    omega (arith, place, place', both_surplus a x b y ds es (sym entire ∙ entire') some some' as_a as_b)
 
 -- ---- whole frames
 
-header_long : (bytes : List ℕ) (stated type : ℕ) (behind : List ℕ) → HasHeader bytes stated type behind → 2 ≤ length bytes
-header_long bytes stated type behind header = omega (arith, ap length header.spelled)
+header_long : (bytes : List ℕ) (stated type : ℕ) (after : List ℕ) → HasHeader bytes stated type after → 2 ≤ length bytes
+header_long bytes stated type after header = omega (arith, ap length header.spelled)
 
 one_header : (bytes : List ℕ) (s t : ℕ) (b : List ℕ) (s' t' : ℕ) (b' : List ℕ) → HasHeader bytes s t b → HasHeader bytes s' t' b' → (s ≡ s') × (t ≡ t') × (b ≡ b')
 one_header bytes s t b s' t' b' h h' =
@@ -175,9 +175,9 @@ one_frame bytes ds es f g =
 -- bytes that are bad are no frame
 pub no_frame : (bytes : List ℕ) (at : ℕ) (ds : List Pdu) → IsBadAt bytes at → IsFrame bytes ds → ⊥
 no_frame bytes at ds (no_header short place) f = omega (arith, header_long bytes (length f.inside) 1 (f.inside ++ f.padding) f.header)
-no_frame bytes at ds (other_type stated type behind header other place) f = other (one_header bytes stated type behind (length f.inside) 1 (f.inside ++ f.padding) header f.header).1
-no_frame bytes at ds (bad_length stated behind header bad place) f =
-    let one = one_header bytes stated 1 behind (length f.inside) 1 (f.inside ++ f.padding) header f.header in
+no_frame bytes at ds (other_type stated type after header other place) f = other (one_header bytes stated type after (length f.inside) 1 (f.inside ++ f.padding) header f.header).1
+no_frame bytes at ds (bad_length stated after header bad place) f =
+    let one = one_header bytes stated 1 after (length f.inside) 1 (f.inside ++ f.padding) header f.header in
     let room = f.room in
     let long = length-append f.inside f.padding in
     elim bad [ inl over ↦ omega (arith, one.0) | inr short ↦ omega (arith, one.0, ap length one.2) ]
@@ -185,10 +185,10 @@ no_frame bytes at ds (broken inside padding header room breaks) f =
     let same_inside = one_inside bytes inside padding f.inside f.padding header f.header in
     no_list inside at ds breaks (rw same_inside f.datagrams)
 
-bad_or_broken : (bytes : List ℕ) (stated : ℕ) (behind inside padding : List ℕ) → HasHeader bytes stated 1 behind → (1498 < stated) ⊎ (length behind < stated)
+bad_or_broken : (bytes : List ℕ) (stated : ℕ) (after inside padding : List ℕ) → HasHeader bytes stated 1 after → (1498 < stated) ⊎ (length after < stated)
     → HasHeader bytes (length inside) 1 (inside ++ padding) → length inside ≤ 1498 → ⊥
-bad_or_broken bytes stated behind inside padding h bad h' room =
-    let one = one_header bytes stated 1 behind (length inside) 1 (inside ++ padding) h h' in
+bad_or_broken bytes stated after inside padding h bad h' room =
+    let one = one_header bytes stated 1 after (length inside) 1 (inside ++ padding) h h' in
     let long = length-append inside padding in
     elim bad [ inl over ↦ omega (arith, one.0) | inr short ↦ omega (arith, one.0, ap length one.2) ]
 

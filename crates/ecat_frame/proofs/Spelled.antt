@@ -7,7 +7,7 @@ use Rattle.std.proofs.lemmas.List.{append-nil, take_at, drop_at, drop-drop, set-
 use Rattle.std.proofs.lemmas.Nat.{or_comm, or_shifted}
 use Rattle.std.proofs.lemmas.Nat.{from_le_bytes-to_le_bytes_2, from_le_bytes-to_le_bytes_4}
 use Rattle.ecat_frame.specs.Frame.{Pdu, Fits, datagram_bytes, length_word, header_word, follows, spelled_datagram, spelled, spelling, IsDatagram, AreDatagrams, IsFrame}
-use Rattle.ecat_frame.specs.Kept.{first_length, first_pdu, pdus, last_at, Keeps, IsRest}
+use Rattle.ecat_frame.specs.Retained.{first_length, first_pdu, pdus, last_at, Keeps, IsRest}
 
 pub same_pdu : (a b : Pdu) → a.command ≡ b.command → a.index ≡ b.index → a.address ≡ b.address → a.content ≡ b.content → a.counter ≡ b.counter → a ≡ b
 same_pdu a b p q r s t = λ i. record { command = p i; index = q i; address = r i; content = s i; counter = t i }
@@ -31,9 +31,9 @@ first_pdu_is d more rest fits =
     let tail = (d.content ++ to_le_bytes w16 d.counter) ++ rest in
     let regrouped : tail ≡ d.content ++ (to_le_bytes w16 d.counter ++ rest) = append_assoc d.content (to_le_bytes w16 d.counter) rest in
     let content : take (first_length bytes) tail ≡ d.content = rw (n, regrouped) (take_at d.content (to_le_bytes w16 d.counter ++ rest) (length d.content) refl) in
-    let behind : drop (10 + first_length bytes) bytes ≡ to_le_bytes w16 d.counter ++ rest =
+    let after : drop (10 + first_length bytes) bytes ≡ to_le_bytes w16 d.counter ++ rest =
     rw n (sym (drop-drop (length d.content) 10 bytes) ∙ rw regrouped (drop_at d.content (to_le_bytes w16 d.counter ++ rest) (length d.content) refl)) in
-    let counter : from_le_bytes w16 (take 2 (drop (10 + first_length bytes) bytes)) ≡ d.counter = rw behind (from_le_bytes-to_le_bytes_2 d.counter fits.counter) in
+    let counter : from_le_bytes w16 (take 2 (drop (10 + first_length bytes) bytes)) ≡ d.counter = rw after (from_le_bytes-to_le_bytes_2 d.counter fits.counter) in
     same_pdu (first_pdu bytes) d refl refl (from_le_bytes-to_le_bytes_4 d.address fits.address) content counter
 
 -- the datagrams of the spelling are those that it spells
@@ -43,9 +43,9 @@ pdus-spelled [] more fits = refl
 pdus-spelled (d ∷ ds) more fits =
     let one = spelled_datagram d (follows ds more) in
     let n : first_length (one ++ spelled ds more) ≡ length d.content = first_length_is d (follows ds more) (spelled ds more) fits.0 in
-    let behind : drop (12 + first_length (one ++ spelled ds more)) (one ++ spelled ds more) ≡ spelled ds more =
+    let after : drop (12 + first_length (one ++ spelled ds more)) (one ++ spelled ds more) ≡ spelled ds more =
     rw n (drop_at one (spelled ds more) (12 + length d.content) (length-spelled_datagram d (follows ds more))) in
-    rw (first_pdu_is d (follows ds more) (spelled ds more) fits.0, behind, pdus-spelled ds more fits.1) refl
+    rw (first_pdu_is d (follows ds more) (spelled ds more) fits.0, after, pdus-spelled ds more fits.1) refl
 
 pub pdus-kept : (bytes : List ℕ) (count last : ℕ) (ds : List Pdu) → Keeps bytes count last ds → pdus count (drop 2 bytes) ≡ ds
 pdus-kept bytes count last ds kept = rw (kept.is_spelling, kept.counted) (pdus-spelled ds false kept.fits)
@@ -157,7 +157,7 @@ last-within bytes count last (d ∷ ds) kept = omega (arith, ap length kept.is_s
 pub count-within : (bytes : List ℕ) (count last : ℕ) (ds : List Pdu) → Keeps bytes count last ds → count ≤ length bytes
 count-within bytes count last ds kept = omega (arith, ap length kept.is_spelling, kept.counted, length-le-spelled ds false)
 
--- a frame's bytes with one more datagram behind those that promise it, under a new header
+-- a frame's bytes with one more datagram after those that promise it, under a new header
 pub appended : (bytes marked longer new : List ℕ) (count last len : ℕ) (ds : List Pdu) (d : Pdu) → Keeps bytes count last ds → Fits d
     → marked ≡ set bytes (last + 7) (bit_or (get_or bytes (last + 7) 0) 128) → longer ≡ marked ++ spelled_datagram d false
     → new ≡ to_le_bytes w16 (header_word (length longer - 2) 0 1) ++ drop 2 longer → len ≡ length marked
@@ -185,7 +185,7 @@ unfolding pdus last_at
 kept_empty bytes is = record { is_spelling = is; fits = tt; counted = refl; last_begins = refl }
 
 pub IsDatagram-spelled : (d : Pdu) (more : Bool) → Fits d → IsDatagram (spelled_datagram d more) d more
-IsDatagram-spelled d more fits = record { fits = fits; free = 0; free_fits = omega arith; irq = 0; irq_fits = omega arith; spelled = refl }
+IsDatagram-spelled d more fits = record { fits = fits; vacant = 0; free_fits = omega arith; irq = 0; irq_fits = omega arith; spelled = refl }
 
 AreDatagrams-spelled : (ds : List Pdu) (more : Bool) → AllByRecursion Fits ds → AreDatagrams (spelled ds more) ds more
 AreDatagrams-spelled [] more fits = refl

@@ -11,7 +11,7 @@ NoDatagram bytes = (first rest : List ℕ) (d : Pdu) (more : Bool) → bytes ≡
 -- The bytes inside the stated length aren't a list of datagrams: the first fault is at this place, counted from the frame's start.
 pub data BreaksOff (inside : List ℕ) (at : ℕ) : Type 0 where
   -- a datagram has to follow, as the stated length is above 0 or bit 15 is set, and it is cut off
-  not_whole : (before rest : List ℕ) (ds : List Pdu) → inside ≡ before ++ rest → 0 < length inside
+  not_complete : (before rest : List ℕ) (ds : List Pdu) → inside ≡ before ++ rest → 0 < length inside
       → AreDatagrams before ds true → NoDatagram rest → at ≡ 2 + length before → BreaksOff inside at
   -- bytes stand behind the last datagram, inside the stated length
   surplus : (before rest : List ℕ) (ds : List Pdu) → inside ≡ before ++ rest → 0 < length before → 0 < length rest
@@ -20,9 +20,9 @@ pub data BreaksOff (inside : List ℕ) (at : ℕ) : Type 0 where
 -- The bytes are no frame, and this is the place of their first fault.
 pub data IsBadAt (bytes : List ℕ) (at : ℕ) : Type 0 where
   no_header : length bytes < 2 → at ≡ 0 → IsBadAt bytes at
-  other_type : (stated type : ℕ) (behind : List ℕ) → HasHeader bytes stated type behind → type ≢ 1 → at ≡ 1 → IsBadAt bytes at
-  bad_length : (stated : ℕ) (behind : List ℕ) → HasHeader bytes stated 1 behind
-      → (1498 < stated) ⊎ (length behind < stated) → at ≡ 0 → IsBadAt bytes at
+  other_type : (stated type : ℕ) (after : List ℕ) → HasHeader bytes stated type after → type ≢ 1 → at ≡ 1 → IsBadAt bytes at
+  bad_length : (stated : ℕ) (after : List ℕ) → HasHeader bytes stated 1 after
+      → (1498 < stated) ⊎ (length after < stated) → at ≡ 0 → IsBadAt bytes at
   broken : (inside padding : List ℕ) → HasHeader bytes (length inside) 1 (inside ++ padding) → length inside ≤ 1498
       → BreaksOff inside at → IsBadAt bytes at
 

@@ -30,8 +30,8 @@ pub record Fits (d : Pdu) : Type 0 where
 
 -- The length word: bits 0 to 10 are the content's length, bits 11 to 14 are free (three reserved bits, and
 -- bit 14, set where the datagram is circulating), and bit 15 says that another datagram follows.
-abbrev pub length_word : (len free : ℕ) → Bool → ℕ
-length_word len free more = len + 2 ^ 11 * free + (if more then 2 ^ 15 else 0)
+abbrev pub length_word : (len vacant : ℕ) → Bool → ℕ
+length_word len vacant more = len + 2 ^ 11 * vacant + (if more then 2 ^ 15 else 0)
 
 -- command, index, address, length word, IRQ, content, working counter
 abbrev pub datagram_bytes : Pdu → (word irq : ℕ) → List ℕ
@@ -42,19 +42,19 @@ datagram_bytes d word irq =
 -- The bytes are this datagram, with any free bits and any IRQ word.
 pub record IsDatagram (bytes : List ℕ) (d : Pdu) (more : Bool) : Type 0 where
   pub fits : Fits d
-  pub free : ℕ
-  pub free_fits : free < 2 ^ 4
+  pub vacant : ℕ
+  pub free_fits : vacant < 2 ^ 4
   pub irq : ℕ
   pub irq_fits : irq < 2 ^ 16
-  pub spelled : bytes ≡ datagram_bytes d (length_word (length d.content) free more) irq
+  pub spelled : bytes ≡ datagram_bytes d (length_word (length d.content) vacant more) irq
 
 -- Whether a datagram in front of these is followed by another: yes if there are any, otherwise as `more` says.
 abbrev pub follows : List Pdu → Bool → Bool
 follows [] more = more
 follows (d ∷ ds) more = true
 
--- The bytes are these datagrams, one behind the other, with bit 15 set on all but the last. On the last one `more` decides: it is
--- set only if the frame is cut off behind it.
+-- The bytes are these datagrams, one after the other, with bit 15 set on all but the last. On the last one `more` decides: it is
+-- set only if the frame is cut off after it.
 abbrev pub AreDatagrams : List ℕ → List Pdu → Bool → Type 0
 AreDatagrams bytes [] more = bytes ≡ []
 AreDatagrams bytes (d ∷ ds) more =
@@ -65,12 +65,12 @@ abbrev pub header_word : (stated reserved type : ℕ) → ℕ
 header_word stated reserved type = stated + 2 ^ 11 * reserved + 2 ^ 12 * type
 
 -- The bytes begin with a header that states this length and this type, and go on with these.
-pub record HasHeader (bytes : List ℕ) (stated type : ℕ) (behind : List ℕ) : Type 0 where
+pub record HasHeader (bytes : List ℕ) (stated type : ℕ) (after : List ℕ) : Type 0 where
   pub stated_fits : stated < 2 ^ 11
   pub reserved : ℕ
   pub reserved_fits : reserved < 2
   pub type_fits : type < 2 ^ 4
-  pub spelled : bytes ≡ to_le_bytes w16 (header_word stated reserved type) ++ behind
+  pub spelled : bytes ≡ to_le_bytes w16 (header_word stated reserved type) ++ after
 
 -- The bytes are a frame of these datagrams: a header of type 1, the datagrams, 1,498 bytes at most, and any padding.
 pub record IsFrame (bytes : List ℕ) (ds : List Pdu) : Type 0 where
@@ -86,7 +86,7 @@ pub record IsFrame (bytes : List ℕ) (ds : List Pdu) : Type 0 where
 abbrev pub spelled_datagram : Pdu → Bool → List ℕ
 spelled_datagram d more = datagram_bytes d (length_word (length d.content) 0 more) 0
 
--- datagrams, one behind the other
+-- datagrams, one after the other
 abbrev pub spelled : List Pdu → Bool → List ℕ
 spelled [] more = []
 spelled (d ∷ ds) more = spelled_datagram d (follows ds more) ++ spelled ds more

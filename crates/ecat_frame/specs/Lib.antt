@@ -1,7 +1,7 @@
 pub mod Command
 pub mod Frame
 pub mod Fault
-pub mod Kept
+pub mod Retained
 pub mod Answer
 pub mod Reading
 pub mod Copies

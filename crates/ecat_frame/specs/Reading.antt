@@ -3,7 +3,7 @@ use Rattle.std.specs.Prelude.{◌≡◌, ◌≤◌, ℕ, Bool, List, ◌++◌, l
 use Rattle.ecat_frame.specs.declared.datagram.Datagram.{Datagram}
 use Rattle.ecat_frame.specs.Frame.{pdu, IsDatagram, HasHeader}
 
--- The bytes are a datagram and, behind it, the rest.
+-- The bytes are a datagram and, after it, the rest.
 abbrev pub TakesDatagram : List ℕ → Datagram → Bool → List ℕ → Type 0
 TakesDatagram bytes d more rest = (first : List ℕ) × (bytes ≡ first ++ rest) × IsDatagram first (pdu d) more
 

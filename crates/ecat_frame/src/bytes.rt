@@ -65,7 +65,7 @@ pub(crate) fn promise_more(bytes: &mut ArrayVec<u8, MAX_LEN>, at: usize)
     }
 }
 
-/// Writes the header, with the length of the bytes behind it.
+/// Writes the header, with the length of the bytes after it.
 pub(crate) fn state_length(bytes: &mut ArrayVec<u8, MAX_LEN>)
     requires { 2 ≤ array_vec_len bytes.old }
     ensures { let stated = array_vec_len bytes.old - 2

@@ -26,7 +26,7 @@ pub struct Frame {
 impl Model for Frame {
     ghost use Rattle.std.specs.Prelude.{List, drop};
     ghost use Rattle.ecat_frame.specs.Frame.{Pdu};
-    ghost use Rattle.ecat_frame.specs.Kept.{Keeps, pdus};
+    ghost use Rattle.ecat_frame.specs.Retained.{Keeps, pdus};
 
     ghost Value = { List Pdu };
 
@@ -47,7 +47,7 @@ pub struct Datagrams<'a> {
 impl<'a> Model for Datagrams<'a> {
     ghost use Rattle.std.specs.Prelude.{List};
     ghost use Rattle.ecat_frame.specs.Frame.{Pdu};
-    ghost use Rattle.ecat_frame.specs.Kept.{IsRest, pdus};
+    ghost use Rattle.ecat_frame.specs.Retained.{IsRest, pdus};
 
     ghost Value = { List Pdu };
 
@@ -220,7 +220,7 @@ impl Frame {
         overwrite(&mut self.bytes, at + content.len(), &counter.to_le_bytes());
     }
 
-    /// Reads a frame. Ignores reserved bits, circulating bits and IRQ words, accepts any command, and drops the padding behind the
+    /// Reads a frame. Ignores reserved bits, circulating bits and IRQ words, accepts any command, and drops the padding after the
     /// stated length.
     ///
     /// # Errors
@@ -253,11 +253,11 @@ impl Frame {
         let mut rest = inside;
         let mut more = true;
         while more {
-            let Some((datagram, follows, behind)) = first_datagram(rest) else {
+            let Some((datagram, follows, after)) = first_datagram(rest) else {
                 return Err(fault_at(inside, rest));
             };
             frame.append(datagram);
-            rest = behind;
+            rest = after;
             more = follows;
         }
         if !rest.is_empty() {

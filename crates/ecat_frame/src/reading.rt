@@ -20,12 +20,12 @@ const LENGTH: u16 = 0x07ff;
 /// Bit 15 of a datagram's length word: another datagram follows.
 const MORE: u16 = 0x8000;
 
-/// The bytes inside the stated length, behind the header.
+/// The bytes inside the stated length, after the header.
 pub(crate) fn inside_of(bytes: &[u8]) -> Result<&[u8], FrameFault>
     ensures ok { IfOk result (λ inside. HasInside bytes.now inside.now) }
     ensures err { IfErr result (IsFaultOf bytes.now) }
 {
-    let [low, high, behind @ ..] = bytes else {
+    let [low, high, after @ ..] = bytes else {
         return Err(FrameFault::BadFrame { at: 0 });
     };
     let header = u16::from_le_bytes([*low, *high]);
@@ -33,10 +33,10 @@ pub(crate) fn inside_of(bytes: &[u8]) -> Result<&[u8], FrameFault>
         return Err(FrameFault::BadFrame { at: 1 });
     }
     let stated = (header & LENGTH) as usize;
-    if stated > MAX_INSIDE || stated > behind.len() {
+    if stated > MAX_INSIDE || stated > after.len() {
         return Err(FrameFault::BadFrame { at: 0 });
     }
-    Ok(&behind[..stated])
+    Ok(&after[..stated])
 }
 
 /// The fault at the first byte of `rest`, the end of the bytes inside the stated length.
@@ -49,21 +49,21 @@ pub(crate) fn fault_at(inside: &[u8], rest: &[u8]) -> FrameFault
     }
 }
 
-/// The datagram at the front, whether another follows it, and the bytes behind it. None if it is cut off.
+/// The datagram at the front, whether another follows it, and the bytes after it. None if it is cut off.
 pub(crate) fn first_datagram(bytes: &[u8]) -> Option<(Datagram<'_>, bool, &[u8])>
-    ensures whole { IfSome result (λ taken. TakesDatagram bytes.now taken.0 taken.1 taken.2.now) }
+    ensures entire { IfSome result (λ taken. TakesDatagram bytes.now taken.0 taken.1 taken.2.now) }
     ensures none { IfNone result (NoDatagram bytes.now) }
 {
-    let [command, index, a, b, c, d, low, high, _, _, behind @ ..] = bytes else {
+    let [command, index, a, b, c, d, low, high, _, _, after @ ..] = bytes else {
         return None;
     };
     let word = u16::from_le_bytes([*low, *high]);
     let length = (word & LENGTH) as usize;
-    if behind.len() < length + 2 {
+    if after.len() < length + 2 {
         return None;
     }
-    let (content, behind) = behind.split_at(length);
-    let (counter, rest) = behind.split_at(2);
+    let (content, after) = after.split_at(length);
+    let (counter, rest) = after.split_at(2);
     let datagram = Datagram {
         command: Command::from(*command),
         index: *index,

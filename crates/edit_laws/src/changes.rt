@@ -27,7 +27,7 @@ pub fn alias_change_is_determined()
 /// The words after a category edit differ from the old ones as `ChangesCategory` says.
 ///
 /// The words before the categories stay. The one category of the type is replaced in its place or removed, or a new one is
-/// added last. The word behind the chain is the end mark, and the words behind that stay.
+/// added last. The word after the chain is the end mark, and the words after that stay.
 pub fn category_is_changed()
     ensures { (expect : Option Expect) (slave kind : ℕ) (content words new : List ℕ)
         → edited_words expect (Edit.Category slave kind content) words ≡ Ok new → ChangesCategory words kind content new }
@@ -62,7 +62,7 @@ pub fn commands_keep_a_process_image()
 {}
 
 /// The definition of a command never gives `Memory`. So it is only ever answered in place of what the definition gives.
-pub fn memory_is_not_judged()
+pub fn memory_is_not_validated()
     ensures { (plant : List (List ℕ)) (command : Command) (refusal : Refusal)
         → outcome plant command ≡ Err refusal → refusal.cause ≢ Cause.Memory }
 {}

@@ -30,12 +30,12 @@ module _ (half : SlaveHalf) (content : List ℕ) where
   counted = record { half = begun (with_command_errors (with_stored half 2 content)); content = content; added = 1 }
 
   written_free : is_busy half.activity ≡ false → nat_le 4 (2 + length content) ≡ true → written half 2 content ≡ counted
-  written_free free covers =
-      let e : (is_busy half.activity && nat_lt 2 (2 + length content)) ≡ false = rw free refl in
+  written_free vacant covers =
+      let e : (is_busy half.activity && nat_lt 2 (2 + length content)) ≡ false = rw vacant refl in
       ap (λ (b : Bool). if b then passed_on half content else record { half = after_write half 2 content; content = content; added = 1 }) e
       ∙ ap (λ (b : Bool). record { half = if b then begun (with_command_errors (with_stored half 2 content)) else with_stored half 2 content; content = content; added = 1 }) covers
 
--- a write of control and status, and perhaps of what is behind them
+-- a write of control and status, and perhaps of what is after them
 pub control_writes : (half : SlaveHalf) (slave : ℕ) (content : List ℕ) → slave < 64
     → lies_in 0x0500 0x0510 0x0502 (length content) ≡ true → nat_lt 2 (2 + length content) ≡ true → nat_le 4 (2 + length content) ≡ true
     → Writes half slave (is_busy half.activity ≡ false) (begun (with_command_errors (with_stored half 2 content))) (served_datagram half (sent Fpwr 0 (address_of slave 0x0502) content))

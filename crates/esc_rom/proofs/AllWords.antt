@@ -16,7 +16,7 @@ use Rattle.esc_rom.specs.Runs.{Quiet, Ran, StopsQuietly, IsSeen, Waited}
 use Rattle.esc_rom.specs.WordPairs.{ReadsPair, ReadsAll}
 use Rattle.esc_rom.specs.Access.{BecomesRead, BecomesUnread, ReadsWords}
 use Rattle.esc_rom.proofs.Runs.{Quiet-none, Ran-then, Ran-weaker}
-use Rattle.esc_rom.proofs.Past.{Ran-tied, never_idle, NeverIdle-behind}
+use Rattle.esc_rom.proofs.Past.{Ran-tied, never_idle, NeverIdle-after}
 use Rattle.esc_rom.proofs.SettledWords.{seen_idle, seen_here}
 use Rattle.esc_rom.proofs.States.{HalfGoes-weaker}
 
@@ -69,7 +69,7 @@ pub filled_not : {a b c : Seen} {slave : ℕ} (pair : ℕ) {m n : ℕ} {words : 
 filled_not {a} {b} {c} {slave} pair inside within ran more = Ran-then within (λ half mid later filled reads. (
   OnlyRests-then half mid later filled.only reads.1.0,
   elim reads.1.1 [
-    | inl never ↦ inl (NeverIdle-behind a b c slave (Follows-clock a b ran.quiet.follows) never)
+    | inl never ↦ inl (NeverIdle-after a b c slave (Follows-clock a b ran.quiet.follows) never)
     | inr tries ↦ inr (record {
       from = clock b;
       after = Follows-clock a b ran.quiet.follows;

@@ -29,7 +29,7 @@ use Rattle.esc_rom.specs.WordPairs.{Tried, pair_of}
 use Rattle.esc_rom.specs.WordPairs.Tried.{words_read, try_failed, not_seen_idle}
 use Rattle.esc_rom.specs.Status.{rest_shown, found_in}
 use Rattle.esc_rom.specs.Courses.{Asked, AskedInTurn, Course, Takes, IsHeard, Asks, Ends, Then, OnlyIf, Rounds, no_round, one_more, UpTo}
-use Rattle.esc_rom.specs.Sent.{is_counted, issued_by, WritesBy, PollsBy, FetchesBy, WaitsBy, InsistsBy, IssuesBy, SettlesBehind, SettlesBy, ClearsBy, FreesBy, OpensBy, tried_of, FetchesBehind, WaitsBehind, TriesBy, pair_in, ReadsPairBy}
+use Rattle.esc_rom.specs.Sent.{is_counted, issued_by, WritesBy, PollsBy, FetchesBy, WaitsBy, InsistsBy, IssuesBy, SettlesAfter, SettlesBy, ClearsBy, FreesBy, OpensBy, tried_of, FetchesAfter, WaitsAfter, TriesBy, pair_in, ReadsPairBy}
 use Rattle.esc_rom.specs.Driving.{here, is_open, words_at, Drives}
 
 -- an outcome there and here
@@ -44,9 +44,9 @@ Carries {T} {V} f course other =
 
 -- ONE DATAGRAM
 
-module _ {T V : Type 0} (f : T → V) (told : Pdu → T) (lost : T) (tells : Pdu → V) (gone : V) (same : (d : Pdu) → f (told d) ≡ tells d)
+module _ {T V : Type 0} (f : T → V) (reported : Pdu → T) (lost : T) (tells : Pdu → V) (gone : V) (same : (d : Pdu) → f (reported d) ≡ tells d)
     (loses : f lost ≡ gone) where
-  heard : (back : Result Pdu DeviceFault) (before : Result T steps.Stop) (result : Result V Stop) → steps.IsHeard told lost back before
+  heard : (back : Result Pdu DeviceFault) (before : Result T steps.Stop) (result : Result V Stop) → steps.IsHeard reported lost back before
       → IsHere f before result → IsHeard tells gone back result
   heard (Ok reply) before result is so = subst (λ (r : Result T steps.Stop). IsHere f r result) is so ∙ ap Ok (same reply)
   heard (Err device.Lost) before result is so = subst (λ (r : Result T steps.Stop). IsHere f r result) is so ∙ ap Ok loses
@@ -54,7 +54,7 @@ module _ {T V : Type 0} (f : T → V) (told : Pdu → T) (lost : T) (tells : Pdu
   heard (Err device.Stopped) (Err stop) result is so = so
   heard (Err device.Disk) before result is so = absurd is
 
-  pub carries-asks : (slave : ℕ) (order : Pdu) → Carries f (steps.Asks slave order told lost) (Asks slave order tells gone)
+  pub carries-asks : (slave : ℕ) (order : Pdu) → Carries f (steps.Asks slave order reported lost) (Asks slave order tells gone)
   carries-asks slave order log before result asks so =
       (asks.0, ap (λ (l : List steps.Asked). map here l) asks.1, heard asks.0 before result asks.2 so)
 
@@ -76,10 +76,10 @@ module _ {T V X Y : Type 0} (f : T → V) (h : X → Y) (first : steps.Course T)
   carries-then begins goes log before result (inl so) is = inl (record {
     value = f so.value;
     front = map here so.front;
-    behind = map here so.behind;
-    log_is = ap (λ (l : List steps.Asked). map here l) so.log_is ∙ map-append here so.front so.behind;
+    after = map here so.after;
+    log_is = ap (λ (l : List steps.Asked). map here l) so.log_is ∙ map-append here so.front so.after;
     came_to = begins so.front (Ok so.value) (Ok (f so.value)) so.came_to refl;
-    goes_on = goes so.value so.behind before result so.goes_on is;
+    goes_on = goes so.value so.after before result so.goes_on is;
   })
   carries-then begins goes log before result (inr cut) is = cut-then begins log cut.0 before result cut.1 cut.2 is
 
@@ -98,9 +98,9 @@ module _ {T V : Type 0} (f : T → V) (round : steps.Course T) (again : T) (othe
     (carries : Carries f round other) where
   all-rounds : (times : ℕ) (log : List steps.Asked) → steps.Rounds round again times log → Rounds (λ (n : ℕ). other) there times (map here log)
   all-rounds times log steps.no_round = no_round
-  all-rounds times log (steps.one_more {times = few} {front = front} {behind = behind} before last) =
-      subst (λ (l : List Asked). Rounds (λ (n : ℕ). other) there (few + 1) l) (sym (map-append here front behind))
-      (one_more (all-rounds few front before) (carries behind (Ok again) (Ok there) last (ap Ok (sym is_again))))
+  all-rounds times log (steps.one_more {times = few} {front = front} {after = after} before last) =
+      subst (λ (l : List Asked). Rounds (λ (n : ℕ). other) there (few + 1) l) (sym (map-append here front after))
+      (one_more (all-rounds few front before) (carries after (Ok again) (Ok there) last (ap Ok (sym is_again))))
 
   differs : (before : Result T steps.Stop) (result : Result V Stop) → before ≢ Ok again → IsHere f before result → result ≢ Ok there
   differs (Ok value) result not is = λ e. not (ap Ok (only value (let ends : Ok (f value) ≡ Ok there = sym is ∙ e in cc)))
@@ -114,10 +114,10 @@ module _ {T V : Type 0} (f : T → V) (round : steps.Course T) (again : T) (othe
     times = so.times;
     few = so.few;
     front = map here so.front;
-    behind = map here so.behind;
-    log_is = ap (λ (l : List steps.Asked). map here l) so.log_is ∙ map-append here so.front so.behind;
+    after = map here so.after;
+    log_is = ap (λ (l : List steps.Asked). map here l) so.log_is ∙ map-append here so.front so.after;
     rounds = all-rounds so.times so.front so.rounds;
-    last = carries so.behind before result so.last is;
+    last = carries so.after before result so.last is;
     ends = differs before result so.ends is;
   })
 
@@ -174,19 +174,19 @@ tidies-carried slave =
     (λ counted. Ends settled.Again)
     (writes-carried slave (clear_order slave)) (λ value. carries-ends kept settled.Again settled.Again refl)
 
-behind-carried : (slave : ℕ) (taken : Bool) (found : Option was.Rested)
-    → Carries kept (access.SettlesBehind slave taken found) (SettlesBehind slave taken (found_here found))
-behind-carried slave true None = carries-ends kept settled.Dead settled.Dead refl
-behind-carried slave false None = carries-ends kept settled.Dead settled.Dead refl
-behind-carried slave true (Some shown.Well) = carries-ends kept settled.Written settled.Written refl
-behind-carried slave false (Some shown.Well) = tidies-carried slave
-behind-carried slave true (Some shown.Failed) = tidies-carried slave
-behind-carried slave false (Some shown.Failed) = tidies-carried slave
+after-carried : (slave : ℕ) (taken : Bool) (found : Option was.Rested)
+    → Carries kept (access.SettlesAfter slave taken found) (SettlesAfter slave taken (found_here found))
+after-carried slave true None = carries-ends kept settled.Dead settled.Dead refl
+after-carried slave false None = carries-ends kept settled.Dead settled.Dead refl
+after-carried slave true (Some shown.Well) = carries-ends kept settled.Written settled.Written refl
+after-carried slave false (Some shown.Well) = tidies-carried slave
+after-carried slave true (Some shown.Failed) = tidies-carried slave
+after-carried slave false (Some shown.Failed) = tidies-carried slave
 
 pub settles-carried : (slave : ℕ) (taken : Bool) → Carries kept (access.SettlesBy slave taken) (SettlesBy slave taken)
 settles-carried slave taken =
-    carries-then found_here kept (access.WaitsBy slave) (access.SettlesBehind slave taken) (WaitsBy slave) (SettlesBehind slave taken)
-    (waits-carried slave) (behind-carried slave taken)
+    carries-then found_here kept (access.WaitsBy slave) (access.SettlesAfter slave taken) (WaitsBy slave) (SettlesAfter slave taken)
+    (waits-carried slave) (after-carried slave taken)
 
 -- ISSUE
 
@@ -203,17 +203,17 @@ insists-carried : (slave : ℕ) (order : Pdu) → Carries same (access.InsistsBy
 insists-carried slave order = carries-up-to same (access.WritesBy slave order) false (WritesBy slave order) false refl (λ value is. is)
     (writes-carried slave order) 3
 
-clears-behind : (slave : ℕ) (found : Option was.Rested)
+clears-after : (slave : ℕ) (found : Option was.Rested)
     → Carries same (steps.OnlyIf (is_some found) (access.InsistsBy slave (clear_order slave)))
     (OnlyIf (is_some (found_here found)) (InsistsBy slave (clear_order slave)))
-clears-behind slave None = carries-ends same false false refl
-clears-behind slave (Some rested) = insists-carried slave (clear_order slave)
+clears-after slave None = carries-ends same false false refl
+clears-after slave (Some rested) = insists-carried slave (clear_order slave)
 
 clears-carried : (slave : ℕ) → Carries same (access.ClearsBy slave) (ClearsBy slave)
 clears-carried slave =
     carries-then found_here same (access.WaitsBy slave) (λ found. steps.OnlyIf (is_some found) (access.InsistsBy slave (clear_order slave)))
     (WaitsBy slave)
-    (λ found. OnlyIf (is_some found) (InsistsBy slave (clear_order slave))) (waits-carried slave) (clears-behind slave)
+    (λ found. OnlyIf (is_some found) (InsistsBy slave (clear_order slave))) (waits-carried slave) (clears-after slave)
 
 frees-carried : (slave : ℕ) → Carries same (access.FreesBy slave) (FreesBy slave)
 frees-carried slave =
@@ -279,23 +279,23 @@ fetches-carried slave =
     (carries-asks pair_here access.pair_of None pair_of None pair-same refl slave (fetch_order slave))
     (λ pair. carries-ends tried_here (access.tried_of pair) (tried_of (pair_here pair)) (tried-same pair))
 
-fetches-behind : (slave : ℕ) (found : Option was.Rested)
-    → Carries tried_here (access.FetchesBehind slave found) (FetchesBehind slave (found_here found))
-fetches-behind slave None = carries-ends tried_here steps_idle not_seen_idle refl
-fetches-behind slave (Some shown.Failed) = carries-ends tried_here steps_failed try_failed refl
-fetches-behind slave (Some shown.Well) = fetches-carried slave
+fetches-after : (slave : ℕ) (found : Option was.Rested)
+    → Carries tried_here (access.FetchesAfter slave found) (FetchesAfter slave (found_here found))
+fetches-after slave None = carries-ends tried_here steps_idle not_seen_idle refl
+fetches-after slave (Some shown.Failed) = carries-ends tried_here steps_failed try_failed refl
+fetches-after slave (Some shown.Well) = fetches-carried slave
 
-waits-behind : (slave : ℕ) (counted : Bool) → Carries tried_here (access.WaitsBehind slave counted) (WaitsBehind slave counted)
-waits-behind slave false = carries-ends tried_here steps_failed try_failed refl
-waits-behind slave true =
-    carries-then found_here tried_here (access.WaitsBy slave) (access.FetchesBehind slave) (WaitsBy slave) (FetchesBehind slave) (waits-carried slave)
-    (fetches-behind slave)
+waits-after : (slave : ℕ) (counted : Bool) → Carries tried_here (access.WaitsAfter slave counted) (WaitsAfter slave counted)
+waits-after slave false = carries-ends tried_here steps_failed try_failed refl
+waits-after slave true =
+    carries-then found_here tried_here (access.WaitsBy slave) (access.FetchesAfter slave) (WaitsBy slave) (FetchesAfter slave) (waits-carried slave)
+    (fetches-after slave)
 
 tries-carried : (slave word : ℕ) → Carries tried_here (access.TriesBy slave word) (TriesBy slave word)
 tries-carried slave word =
-    carries-then same tried_here (access.WritesBy slave (read_order slave word)) (access.WaitsBehind slave) (WritesBy slave (read_order slave word))
-    (WaitsBehind slave)
-    (writes-carried slave (read_order slave word)) (waits-behind slave)
+    carries-then same tried_here (access.WritesBy slave (read_order slave word)) (access.WaitsAfter slave) (WritesBy slave (read_order slave word))
+    (WaitsAfter slave)
+    (writes-carried slave (read_order slave word)) (waits-after slave)
 
 pub reads-carried : (slave word : ℕ) → Carries pair_here (access.ReadsPairBy slave word) (ReadsPairBy slave word)
 reads-carried slave word =

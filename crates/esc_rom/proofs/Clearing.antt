@@ -12,32 +12,32 @@ use Rattle.esc_rom.specs.Past.{LosesDatagram}
 use Rattle.esc_rom.specs.Runs.{Wrote}
 
 -- the half once the command 000 is judged
-abbrev judged : SlaveHalf → SlaveHalf
-judged half = with_command_errors (with_stored half 2 (0 ∷ 0 ∷ []))
+abbrev validated : SlaveHalf → SlaveHalf
+validated half = with_command_errors (with_stored half 2 (0 ∷ 0 ∷ []))
 
 -- it begins nothing
-judged_begun : (half : SlaveHalf) → begun (judged half) ≡ judged half
-judged_begun half = elim (true_or_false ((judged half).registers.command_error || (judged half).registers.enable_error)) [
-  | inl error ↦ begun_refused (judged half) error
+validated_begun : (half : SlaveHalf) → begun (validated half) ≡ validated half
+validated_begun half = elim (true_or_false ((validated half).registers.command_error || (validated half).registers.enable_error)) [
+  | inl error ↦ begun_refused (validated half) error
   | inr well ↦ rw well refl
 ]
 
 -- an EEPROM that isn't offered to the PDI is an error no more
-judged_well : (half : SlaveHalf) → IsIdle half → IsWell (judged half) ⊎ IsTrue (judged half).registers.offered
-judged_well half idle = elim (true_or_false (judged half).registers.offered) [
+validated_well : (half : SlaveHalf) → IsIdle half → IsWell (validated half) ⊎ IsTrue (validated half).registers.offered
+validated_well half idle = elim (true_or_false (validated half).registers.offered) [
   | inl offered ↦ inr offered
-  | inr free ↦ inl (record { idle = idle; command_error = rw free refl; enable_error = refl })
+  | inr vacant ↦ inl (record { idle = idle; command_error = rw vacant refl; enable_error = refl })
 ]
 
 clear_leaves : (half : SlaveHalf) (slave : ℕ) → slave < 64 → IsIdle half → (served_datagram half (clear_order slave)).added ≡ 1
     → IsWell (served_datagram half (clear_order slave)).half ⊎ IsTrue (served_datagram half (clear_order slave)).half.registers.offered
 clear_leaves half slave near idle counted = by (control_writes half slave (0 ∷ 0 ∷ []) near refl refl refl)
   where
-    by : Writes half slave (is_busy half.activity ≡ false) (begun (judged half)) (served_datagram half (clear_order slave))
+    by : Writes half slave (is_busy half.activity ≡ false) (begun (validated half)) (served_datagram half (clear_order slave))
         → IsWell (served_datagram half (clear_order slave)).half ⊎ IsTrue (served_datagram half (clear_order slave)).half.registers.offered
     by (elsewhere not same none) = absurd (omega arith)
     by (busy b same none) = absurd (omega arith)
-    by (done here b is one) = subst (λ (h : SlaveHalf). IsWell h ⊎ IsTrue h.registers.offered) (sym (is ∙ judged_begun half)) (judged_well half idle)
+    by (done here b is one) = subst (λ (h : SlaveHalf). IsWell h ⊎ IsTrue h.registers.offered) (sym (is ∙ validated_begun half)) (validated_well half idle)
 
 -- what an idle half is once it counted the datagram
 pub clear_counted : (slave : ℕ) → slave < 64 → (half later : SlaveHalf) → IsIdle half → CountsDatagram (clear_order slave) half later → IsWell later ⊎ IsTrue later.registers.offered

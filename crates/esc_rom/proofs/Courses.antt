@@ -11,9 +11,9 @@ use Rattle.esc_rom.specs.Courses.{Asked, AskedInTurn, Course, Takes, Asks, Ends,
 use Rattle.esc_rom.proofs.Exchanges.{one_answer}
 
 -- one after another
-pub asked-then : (front behind : List Asked) (a b c : Seen) → AskedInTurn front a b → AskedInTurn behind b c → AskedInTurn (front ++ behind) a c
-asked-then [] behind a b c none second = subst (λ (s : Seen). AskedInTurn behind s c) none second
-asked-then (first ∷ rest) behind a b c some second = (some.0, some.1, asked-then rest behind some.0 b c some.2 second)
+pub asked-then : (front after : List Asked) (a b c : Seen) → AskedInTurn front a b → AskedInTurn after b c → AskedInTurn (front ++ after) a c
+asked-then [] after a b c none second = subst (λ (s : Seen). AskedInTurn after s c) none second
+asked-then (first ∷ rest) after a b c some second = (some.0, some.1, asked-then rest after some.0 b c some.2 second)
 
 -- the fault that is handed on
 pub same-stop : {T : Type 0} (result : Result T Stop) (stop : Stop) → IsErrAnd result (λ other. other ≡ stop) → result ≡ Err stop
@@ -22,9 +22,9 @@ same-stop (Err other) stop is = ap Err is
 
 -- ONE DATAGRAM
 
-module _ {T : Type 0} (told : Pdu → T) (lost : T) {old : Seen} {slave : ℕ} {order : Pdu} {new : Seen} where
+module _ {T : Type 0} (reported : Pdu → T) (lost : T) {old : Seen} {slave : ℕ} {order : Pdu} {new : Seen} where
   pub asks-back : (answer : List Pdu) {came : Bool} {datagram : Pdu} → came ≡ true → slice_get answer 0 ≡ Some datagram → Sends old slave order (Ok came) answer new
-      → (result : T) → result ≡ told datagram → Takes (Asks slave order told lost) old (Ok result) new
+      → (result : T) → result ≡ reported datagram → Takes (Asks slave order reported lost) old (Ok result) new
   asks-back answer {datagram = datagram} is first sent result gives =
       let sends = subst (λ (b : Bool). Sends old slave order (Ok b) answer new) is sent in
       let only : answer ≡ datagram ∷ [] = one_answer old slave order answer new datagram first sends in
@@ -34,12 +34,12 @@ module _ {T : Type 0} (told : Pdu → T) (lost : T) {old : Seen} {slave : ℕ} {
         took = (Ok datagram, refl, ap Ok gives);
       }
 
-  pub asks-lost : (answer : List Pdu) {came : Bool} → came ≡ false → Sends old slave order (Ok came) answer new → Takes (Asks slave order told lost) old (Ok lost) new
+  pub asks-lost : (answer : List Pdu) {came : Bool} → came ≡ false → Sends old slave order (Ok came) answer new → Takes (Asks slave order reported lost) old (Ok lost) new
   asks-lost answer is sent =
       let sends = subst (λ (b : Bool). Sends old slave order (Ok b) answer new) is sent in
       record { log = record { slave = slave; order = order; back = Err device.Lost } ∷ []; asked = (new, sends, refl); took = (Err device.Lost, refl, refl) }
 
-  pub asks-cut : (answer : List Pdu) {stop : Stop} → Sends old slave order (Err stop) answer new → (result : Result T Stop) → IsErr result → Takes (Asks slave order told lost) old result new
+  pub asks-cut : (answer : List Pdu) {stop : Stop} → Sends old slave order (Err stop) answer new → (result : Result T Stop) → IsErr result → Takes (Asks slave order reported lost) old result new
   asks-cut answer sends result cut =
       record { log = record { slave = slave; order = order; back = Err device.Stopped } ∷ []; asked = (new, sends, refl); took = (Err device.Stopped, refl, cut) }
 
@@ -57,7 +57,7 @@ module _ {T V : Type 0} (first : Course T) (next : T → Course V) {a b : Seen} 
   takes-then {c} value one two = record {
     log = one.log ++ two.log;
     asked = asked-then one.log two.log a b c one.asked two.asked;
-    took = inl (record { value = value; front = one.log; behind = two.log; log_is = refl; came_to = one.took; goes_on = two.took });
+    took = inl (record { value = value; front = one.log; after = two.log; log_is = refl; came_to = one.took; goes_on = two.took });
   }
 
   pub takes-cut : {stop : Stop} (result : Result V Stop) → IsErr result → Takes first a (Err stop) b → Takes (Then first next) a result b
@@ -111,7 +111,7 @@ module _ {T : Type 0} (round : ℕ → Course T) (again : T) where
     rounds-end {c} most times result few other so takes = record {
       log = so.log ++ takes.log;
       asked = asked-then so.log takes.log a b c so.asked takes.asked;
-      took = inr (record { times = times; few = few; front = so.log; behind = takes.log; log_is = refl; rounds = so.rounds; last = takes.took; ends = other });
+      took = inr (record { times = times; few = few; front = so.log; after = takes.log; log_is = refl; rounds = so.rounds; last = takes.took; ends = other });
     }
 
     -- the site stopped in a round

@@ -20,12 +20,12 @@ use Rattle.rom_steps.specs.declared.step.End.{End}
 use Rattle.rom_steps.specs.declared.step.Step.{Step}
 use Rattle.rom_steps.specs.declared.step.Step.TheVariants.{Forces, Frees, WaitsToClear, Clears, Commands, WaitsToFetch, Fetches, Issues, WaitsToSettle, Tidies, Ended, Stopped}
 use Rattle.rom_steps.specs.Remaining.{IsNext, Moves, left, pdu_to}
-use Rattle.rom_steps.specs.Whole.{Went, nothing_sent, one_more_sent}
+use Rattle.rom_steps.specs.Complete.{Went, nothing_sent, one_more_sent}
 use Rattle.rom_steps.proofs.Stopping.{sends-some, stopped-moves}
-use Rattle.rom_steps.proofs.WholeLaws.{went-ended, went-stopped, went-bounded}
+use Rattle.rom_steps.proofs.CompleteLaws.{went-ended, went-stopped, went-bounded}
 use Rattle.esc_rom.specs.declared.fault.Stop.{Stop}
 use Rattle.esc_rom.specs.Sending.{Sends}
-use Rattle.esc_rom.specs.Courses.{Asked, AskedInTurn, outcome_of, frame_behind}
+use Rattle.esc_rom.specs.Courses.{Asked, AskedInTurn, outcome_of, frame_after}
 use Rattle.esc_rom.specs.Driving.{here, AsksOnce, IsEndOf, Drives}
 use Rattle.esc_rom.proofs.Courses.{asked-then}
 use Rattle.esc_rom.proofs.Exchanges.{one_answer}
@@ -85,7 +85,7 @@ went-none slave first a = record { log = []; asked = refl; went = nothing_sent; 
 
 module _ (slave : ℕ) (first : Step) (turns : ℕ) (a : Seen) (step : Step) (b : Seen) (so : WentSo slave first turns a step b) where
   pub went-more : (order : Pdu) (came : Result Pdu DeviceFault) (later : Step) (c : Seen) → IsNext slave step order
-      → ExchangesFrame b slave (order ∷ []) (outcome_of came) (frame_behind order came) c → Moves slave step came later
+      → ExchangesFrame b slave (order ∷ []) (outcome_of came) (frame_after order came) c → Moves slave step came later
       → WentSo slave first (turns + 1) a later c
   went-more order came later c next sent moves = record {
     log = so.log ++ one ∷ [];
@@ -128,7 +128,7 @@ module _ {slave : ℕ} {first : Step} {turns : ℕ} {a : Seen} {step : Step} {b 
 
   -- the site stopped at this datagram
   pub drives-cut : (order : Pdu) (came : Result Pdu DeviceFault) (c : Seen) (result : Result End Stop) → IsErr result → IsNext slave step order
-      → ExchangesFrame b slave (order ∷ []) (outcome_of came) (frame_behind order came) c → came ≡ Err device.Stopped → Drives slave first a result c
+      → ExchangesFrame b slave (order ∷ []) (outcome_of came) (frame_after order came) c → came ≡ Err device.Stopped → Drives slave first a result c
   drives-cut order came c result cut next sent is =
       over-by slave first (turns + 1) a Stopped c
       (went-more slave first turns a step b so order came Stopped c next sent

@@ -66,7 +66,7 @@ pub exchange_passes : (Q : Pair → Type 0) (old : Seen) (slave : ℕ) (order : 
     → LeavesOnly Q old.state
     → ((half rested : SlaveHalf) → slice_get old.state.halves slave ≡ Some half → MayRest half rested → LeavesOnly Q (with_half old.state slave (served_datagram rested order).half))
     → ExchangesFrame old slave (order ∷ []) result answer new → Passes (LeavesOnly Q) old new
-exchange_passes Q old slave order result answer new before behind sends =
+exchange_passes Q old slave order result answer new before after sends =
     Passes-call P old middle result new sends.call before all
     (elim (is_stopped_or result) [
       | inl stop ↦ LeavesOnly-stopped Q (last_of old.state middle) new.state (sends.call.at_stop stop) last
@@ -83,7 +83,7 @@ exchange_passes Q old slave order result answer new before behind sends =
     all = elim (took_none_or_one order sends.half sends.passed sends.left sends.laters sends.replies sends.split sends.through) [
       | inl none ↦ subst (λ (ls : List SlaveHalf). AllByRecursion P (map (with_half old.state slave) ls)) (sym none.1) tt
       | inr t ↦ subst (λ (ls : List SlaveHalf). AllByRecursion P (map (with_half old.state slave) ls)) (sym t.laters_are)
-          (behind sends.half t.rested sends.here t.rests, tt)
+          (after sends.half t.rested sends.here t.rests, tt)
     ]
 
     last : P (last_of old.state middle)
@@ -93,15 +93,15 @@ exchange_passes Q old slave order result answer new before behind sends =
 exchange_quiet : (old : Seen) (slave : ℕ) (order : Pdu) (result : Result (Unit {0}) DeviceFault) (answer : List Pdu) (new : Seen)
     → IsGentle order → ExchangesFrame old slave (order ∷ []) result answer new → Quiet old 1 new
 exchange_quiet old slave order result answer new gentle sends = record {
-  adds = Passes-stays (Leaves old.state) old new (exchange_passes (Leaves old.state) old slave order result answer new (λ pair leaves. leaves) behind sends);
+  adds = Passes-stays (Leaves old.state) old new (exchange_passes (Leaves old.state) old slave order result answer new (λ pair leaves. leaves) after sends);
   follows = Calls-follows old (map (with_half old.state slave) sends.laters) result new sends.call;
   within = let one = Calls-clock old (map (with_half old.state slave) sends.laters) result new sends.call in omega arith;
   never_fewer = let counted = sends.call.counted in omega arith;
   turns = sends.turns;
 }
   where
-    behind : (half rested : SlaveHalf) → slice_get old.state.halves slave ≡ Some half → MayRest half rested → LeavesOnly (Leaves old.state) (with_half old.state slave (served_datagram rested order).half)
-    behind half rested here rests pair leaves =
+    after : (half rested : SlaveHalf) → slice_get old.state.halves slave ≡ Some half → MayRest half rested → LeavesOnly (Leaves old.state) (with_half old.state slave (served_datagram rested order).half)
+    after half rested here rests pair leaves =
         Leaves-less old.state slave half (served_datagram rested order).half pair here
         (λ left. OnlyRests-leaves half (served_datagram rested order).half left (Receives-only order half (served_datagram rested order).half gentle (record { rested = rested; rests = rests; is = refl }))) leaves
 

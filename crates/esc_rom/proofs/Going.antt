@@ -25,32 +25,32 @@ use Rattle.esc_rom.specs.WordPairs.{Tried, pair_of, Fetched, TriesRead, ReadsPai
 use Rattle.esc_rom.specs.WordPairs.Tried.{words_read, try_failed, not_seen_idle}
 use Rattle.esc_rom.specs.Runs.{Ran, StopsQuietly, Performs, Polled, Waited, Wrote, Insists}
 use Rattle.esc_rom.specs.Access.{IssuesWord, BecomesSettled, BecomesOpen}
-use Rattle.esc_rom.specs.Courses.{Asked, AskedInTurn, Takes, outcome_of, frame_behind, IsHeard, Ends, Then, OnlyIf, Rounds, no_round, one_more, UpTo}
-use Rattle.esc_rom.specs.Sent.{is_counted, issued_by, WritesBy, PollsBy, FetchesBy, WaitsBy, InsistsBy, IssuesBy, SettlesBehind, SettlesBy, ClearsBy, FreesBy, OpensBy, tried_of, FetchesBehind, WaitsBehind, TriesBy, pair_in, ReadsPairBy}
+use Rattle.esc_rom.specs.Courses.{Asked, AskedInTurn, Takes, outcome_of, frame_after, IsHeard, Ends, Then, OnlyIf, Rounds, no_round, one_more, UpTo}
+use Rattle.esc_rom.specs.Sent.{is_counted, issued_by, WritesBy, PollsBy, FetchesBy, WaitsBy, InsistsBy, IssuesBy, SettlesAfter, SettlesBy, ClearsBy, FreesBy, OpensBy, tried_of, FetchesAfter, WaitsAfter, TriesBy, pair_in, ReadsPairBy}
 use Rattle.esc_rom.proofs.Runs.{SoFar, none, some, so_then, so_cut, cut_as, Ran-weaker, Ran-cut, IsCut-more}
 use Rattle.esc_rom.proofs.Exchanges.{back, lost, cut}
 use Rattle.esc_rom.proofs.Polls.{poll_gentle, poll_back, poll_lost, InVain, vain_none, vain_more, vain_seen, vain_all}
 use Rattle.esc_rom.proofs.Writes.{write_back, uncounted, TriedSo, tried_none, tried_more, insist_took, insist_failed}
 use Rattle.esc_rom.proofs.IssuedWords.{issue_cut, issue_lost, issue_taken, issue_not_taken}
 use Rattle.esc_rom.proofs.SentLaws.{taken-is, not-taken-is}
-use Rattle.esc_rom.proofs.OpenSlaves.{HasAccess, first_fails, forced, second_fails, freed, wait_fails, free, opens}
-use Rattle.esc_rom.proofs.ReadPairs.{fetch_gentle, fetch_back, fetch_lost, HasAsked, HasFetched, command_fails, asked, try_dead, error_fails, fetched, words_fail, pair_read, FailedSo, failed_none, failed_more, pair_behind, dead_behind, all_failed}
+use Rattle.esc_rom.proofs.OpenSlaves.{HasAccess, first_fails, forced, second_fails, freed, wait_fails, vacant, opens}
+use Rattle.esc_rom.proofs.ReadPairs.{fetch_gentle, fetch_back, fetch_lost, HasAsked, HasFetched, command_fails, asked, try_dead, error_fails, fetched, words_fail, pair_read, FailedSo, failed_none, failed_more, pair_after, dead_after, all_failed}
 use Rattle.esc_rom.proofs.SettledWords.{settled_well, settled_dead, settled_again}
 
 -- datagrams in two parts
-pub record Parted (front behind : List Asked) (a c : Seen) : Type 0 where
+pub record Parted (front after : List Asked) (a c : Seen) : Type 0 where
   pub mid : Seen
   pub first : AskedInTurn front a mid
-  pub second : AskedInTurn behind mid c
+  pub second : AskedInTurn after mid c
 
-pub part : (front behind : List Asked) (a c : Seen) → AskedInTurn (front ++ behind) a c → Parted front behind a c
-part [] behind a c asked = record { mid = a; first = refl; second = asked }
-part (one ∷ rest) behind a c asked =
-    let then = part rest behind asked.0 c asked.2 in
+pub part : (front after : List Asked) (a c : Seen) → AskedInTurn (front ++ after) a c → Parted front after a c
+part [] after a c asked = record { mid = a; first = refl; second = asked }
+part (one ∷ rest) after a c asked =
+    let then = part rest after asked.0 c asked.2 in
     record { mid = then.mid; first = (asked.0, asked.1, then.first); second = then.second }
 
-pub parted : (log front behind : List Asked) (a c : Seen) → log ≡ front ++ behind → AskedInTurn log a c → Parted front behind a c
-parted log front behind a c is asked = part front behind a c (subst (λ (l : List Asked). AskedInTurn l a c) is asked)
+pub parted : (log front after : List Asked) (a c : Seen) → log ≡ front ++ after → AskedInTurn log a c → Parted front after a c
+parted log front after a c is asked = part front after a c (subst (λ (l : List Asked). AskedInTurn l a c) is asked)
 
 -- none
 pub nothing : (log : List Asked) (a b : Seen) → log ≡ [] → AskedInTurn log a b → b ≡ a
@@ -61,17 +61,17 @@ nothing log a b is asked = subst (λ (l : List Asked). AskedInTurn l a b) is ask
 -- that one
 sent_one : (slave : ℕ) (order : Pdu) (came : Result Pdu DeviceFault) (log : List Asked) (a b : Seen)
     → log ≡ record { slave = slave; order = order; back = came } ∷ [] → AskedInTurn log a b
-    → ExchangesFrame a slave (order ∷ []) (outcome_of came) (frame_behind order came) b
+    → ExchangesFrame a slave (order ∷ []) (outcome_of came) (frame_after order came) b
 sent_one slave order came log a b is asked =
     let one = subst (λ (l : List Asked). AskedInTurn l a b) is asked in
-    subst (λ (s : Seen). ExchangesFrame a slave (order ∷ []) (outcome_of came) (frame_behind order came) s) (sym one.2) one.1
+    subst (λ (s : Seen). ExchangesFrame a slave (order ∷ []) (outcome_of came) (frame_after order came) s) (sym one.2) one.1
 
 module _ (slave address : ℕ) (content : List ℕ) (gentle : IsGentle (sent Fpwr 0 address content)) (a b : Seen) where
   abbrev order : Pdu
   order = sent Fpwr 0 address content
 
   wrote-by : (came : Result Pdu DeviceFault) (result : Result Bool Stop)
-      → ExchangesFrame a slave (order ∷ []) (outcome_of came) (frame_behind order came) b → IsHeard is_counted false came result
+      → ExchangesFrame a slave (order ∷ []) (outcome_of came) (frame_after order came) b → IsHeard is_counted false came result
       → Performs (Wrote order a b) a slave 1 result b
   wrote-by (Ok reply) result sends is =
       subst (λ (r : Result Bool Stop). Performs (Wrote order a b) a slave 1 r b) (sym is)
@@ -92,7 +92,7 @@ module _ (slave address : ℕ) (content : List ℕ) (gentle : IsGentle (sent Fpw
 
 module _ (slave : ℕ) (near : slave < 64) where
   polled-by : (a b : Seen) (came : Result Pdu DeviceFault) (result : Result (Option Rested) Stop)
-      → ExchangesFrame a slave (poll_order slave ∷ []) (outcome_of came) (frame_behind (poll_order slave) came) b → IsHeard found_in None came result
+      → ExchangesFrame a slave (poll_order slave ∷ []) (outcome_of came) (frame_after (poll_order slave) came) b → IsHeard found_in None came result
       → Performs (Polled a slave b) a slave 1 result b
   polled-by a b (Ok reply) result sends is =
       subst (λ (r : Result (Option Rested) Stop). Performs (Polled a slave b) a slave 1 r b) (sym is)
@@ -115,9 +115,9 @@ module _ (slave : ℕ) (near : slave < 64) where
   polls-missed times log a b asked no_round =
       subst (λ (s : Seen). SoFar (InVain a slave 0 s) a slave 0 s) (sym asked)
       (none (record { no_calls = refl; same = refl; stays = vain_none a slave }))
-  polls-missed times log a b asked (one_more {times = few} {front = front} {behind = behind} before last) =
-      let parts = part front behind a b asked in
-      let missed = polled parts.mid b behind (Ok None) parts.second last in
+  polls-missed times log a b asked (one_more {times = few} {front = front} {after = after} before last) =
+      let parts = part front after a b asked in
+      let missed = polled parts.mid b after (Ok None) parts.second last in
       some (so_then (omega arith) (vain_more a parts.mid b slave few missed.quiet.follows)
       (polls-missed few front a parts.mid parts.first before) missed)
 
@@ -134,9 +134,9 @@ module _ (slave : ℕ) (near : slave < 64) where
       subst (λ (r : Result (Option Rested) Stop). Performs (Waited a slave b) a slave 10000 r b) (sym all.1)
       (vain_all a slave 10000 b refl (polls-missed 10000 log a b asked all.0))
   waited a b log result asked (inr so) =
-      let parts = parted log so.front so.behind a b so.log_is asked in
+      let parts = parted log so.front so.after a b so.log_is asked in
       waited-end a parts.mid b so.times so.few result so.ends (polls-missed so.times so.front a parts.mid parts.first so.rounds)
-      (polled parts.mid b so.behind result parts.second so.last)
+      (polled parts.mid b so.after result parts.second so.last)
 
   -- SETTLE
 
@@ -146,8 +146,8 @@ module _ (slave : ℕ) (near : slave < 64) where
       → Then (WritesBy slave (clear_order slave)) (λ counted. Ends settled.Again) log result
       → Performs (BecomesSettled a slave taken b) a slave 10001 result b
   settled-clearing taken rested why a mid b log result ran asked (inl so) =
-      let parts = parted log so.front so.behind mid b so.log_is asked in
-      let end : b ≡ parts.mid = nothing so.behind parts.mid b so.goes_on.0 parts.second in
+      let parts = parted log so.front so.after mid b so.log_is asked in
+      let end : b ≡ parts.mid = nothing so.after parts.mid b so.goes_on.0 parts.second in
       let last = wrote slave (address_of slave 0x0502) (0 ∷ 0 ∷ []) (clear_gentle slave near) mid parts.mid so.front
       (Ok so.value) parts.first so.came_to in
       subst (λ (r : Result Settled Stop). Performs (BecomesSettled a slave taken b) a slave 10001 r b) (sym so.goes_on.1)
@@ -164,25 +164,25 @@ module _ (slave : ℕ) (near : slave < 64) where
       subst (λ (r : Result Settled Stop). Performs (BecomesSettled a slave taken b) a slave 10001 r b) (sym ends.1)
       (subst (λ (s : Seen). Ran (BecomesSettled a slave taken s end) a slave 10001 s) (sym (nothing log mid b ends.0 asked)) ran)
 
-  settled-behind : (taken : Bool) (found : Option Rested) (a mid b : Seen) (log : List Asked) (result : Result Settled Stop)
+  settled-after : (taken : Bool) (found : Option Rested) (a mid b : Seen) (log : List Asked) (result : Result Settled Stop)
       → Ran (Waited a slave mid found) a slave 10000 mid
-      → AskedInTurn log mid b → SettlesBehind slave taken found log result → Performs (BecomesSettled a slave taken b) a slave 10001 result b
-  settled-behind true None a mid b log result ran asked ends = settled-ended true settled.Dead a mid b log result
+      → AskedInTurn log mid b → SettlesAfter slave taken found log result → Performs (BecomesSettled a slave taken b) a slave 10001 result b
+  settled-after true None a mid b log result ran asked ends = settled-ended true settled.Dead a mid b log result
       (settled_dead a slave true mid ran) asked ends
-  settled-behind false None a mid b log result ran asked ends = settled-ended false settled.Dead a mid b log result
+  settled-after false None a mid b log result ran asked ends = settled-ended false settled.Dead a mid b log result
       (settled_dead a slave false mid ran) asked ends
-  settled-behind true (Some Well) a mid b log result ran asked ends = settled-ended true settled.Written a mid b log result
+  settled-after true (Some Well) a mid b log result ran asked ends = settled-ended true settled.Written a mid b log result
       (settled_well a slave true mid refl ran) asked ends
-  settled-behind false (Some Well) a mid b log result ran asked so = settled-clearing false Well
+  settled-after false (Some Well) a mid b log result ran asked so = settled-clearing false Well
       (λ e. absurd (false≢true e)) a mid b log result ran asked so
-  settled-behind true (Some Failed) a mid b log result ran asked so = settled-clearing true Failed (λ e. refl) a mid b log result ran asked so
-  settled-behind false (Some Failed) a mid b log result ran asked so = settled-clearing false Failed (λ e. refl) a mid b log result ran asked so
+  settled-after true (Some Failed) a mid b log result ran asked so = settled-clearing true Failed (λ e. refl) a mid b log result ran asked so
+  settled-after false (Some Failed) a mid b log result ran asked so = settled-clearing false Failed (λ e. refl) a mid b log result ran asked so
 
   settles-so : (taken : Bool) (a b : Seen) (log : List Asked) (result : Result Settled Stop) → AskedInTurn log a b → SettlesBy slave taken log result
       → Performs (BecomesSettled a slave taken b) a slave 10001 result b
   settles-so taken a b log result asked (inl so) =
-      let parts = parted log so.front so.behind a b so.log_is asked in
-      settled-behind taken so.value a parts.mid b so.behind result
+      let parts = parted log so.front so.after a b so.log_is asked in
+      settled-after taken so.value a parts.mid b so.after result
       (waited a parts.mid so.front (Ok so.value) parts.first so.came_to) parts.second so.goes_on
   settles-so taken a b log result asked (inr stops) =
       cut_as (BecomesSettled a slave taken b) slave result stops.2 (IsCut-more (omega arith) (waited a b log (Err stops.0) asked stops.1))
@@ -205,7 +205,7 @@ module _ (slave word value : ℕ) (near : slave < 64) (word_fits : word < 2 ^ 16
       (issue_not_taken a slave word value b near word_fits value_fits {answer = reply ∷ []} reply refl is sends)
 
   issued-so : (came : Result Pdu DeviceFault) (answer : Issued)
-      → ExchangesFrame a slave (write_order slave word value ∷ []) (outcome_of came) (frame_behind (write_order slave word value) came) b
+      → ExchangesFrame a slave (write_order slave word value ∷ []) (outcome_of came) (frame_after (write_order slave word value) came) b
       → IsHeard issued_by issued.Lost came (Ok answer) → IssuesWord a slave word value (Ok answer) b
   issued-so (Ok reply) answer sends is =
       subst (λ (i : Issued). IssuesWord a slave word value (Ok i) b) (let same : issued_by reply ≡ answer = cc in same)
@@ -217,7 +217,7 @@ module _ (slave word value : ℕ) (near : slave < 64) (word_fits : word < 2 ^ 16
   issued-so (Err device.Disk) answer sends is = absurd is
 
   issued-cut : (came : Result Pdu DeviceFault) (stop : Stop) (result : Result Issued DeviceFault) → result ≡ Err device.Stopped
-      → ExchangesFrame a slave (write_order slave word value ∷ []) (outcome_of came) (frame_behind (write_order slave word value) came) b
+      → ExchangesFrame a slave (write_order slave word value ∷ []) (outcome_of came) (frame_after (write_order slave word value) came) b
       → IsHeard issued_by issued.Lost came (Err stop)
       → IssuesWord a slave word value result b
   issued-cut (Ok reply) stop result stops sends is = absurd cc
@@ -245,9 +245,9 @@ module _ (slave address : ℕ) (content : List ℕ) (gentle : IsGentle (sent Fpw
   tried-in-vain times log a b asked no_round =
       subst (λ (s : Seen). SoFar (TriedSo (sent Fpwr 0 address content) a slave 0 s) a slave 0 s) (sym asked)
       (none (record { no_calls = refl; same = refl; stays = tried_none (sent Fpwr 0 address content) a slave }))
-  tried-in-vain times log a b asked (one_more {times = few} {front = front} {behind = behind} before last) =
-      let parts = part front behind a b asked in
-      let missed = wrote slave address content gentle parts.mid b behind (Ok false) parts.second last in
+  tried-in-vain times log a b asked (one_more {times = few} {front = front} {after = after} before last) =
+      let parts = part front after a b asked in
+      let missed = wrote slave address content gentle parts.mid b after (Ok false) parts.second last in
       some (so_then (omega arith) (tried_more (sent Fpwr 0 address content) a parts.mid b slave few missed.quiet.follows)
       (tried-in-vain few front a parts.mid parts.first before)
       (uncounted (sent Fpwr 0 address content) missed))
@@ -268,9 +268,9 @@ module _ (slave address : ℕ) (content : List ℕ) (gentle : IsGentle (sent Fpw
       subst (λ (r : Result Bool Stop). Performs (Insists (sent Fpwr 0 address content) a slave b) a slave 3 r b) (sym all.1)
       (insist_failed (sent Fpwr 0 address content) a slave b 3 refl (tried-in-vain 3 log a b asked all.0))
   insisted a b log result asked (inr so) =
-      let parts = parted log so.front so.behind a b so.log_is asked in
+      let parts = parted log so.front so.after a b so.log_is asked in
       insisted-end a parts.mid b so.times so.few result so.ends (tried-in-vain so.times so.front a parts.mid parts.first so.rounds)
-      (wrote slave address content gentle parts.mid b so.behind result parts.second so.last)
+      (wrote slave address content gentle parts.mid b so.after result parts.second so.last)
 
 -- OPEN
 
@@ -291,26 +291,26 @@ module _ (slave : ℕ) (near : slave < 64) where
       subst (λ (r : Result Bool Stop). Performs (BecomesOpen a slave b) a slave 10009 r b) (sym ends.1)
       (subst (λ (s : Seen). Ran (BecomesOpen a slave s false) a slave 10009 s) (sym (nothing log mid b ends.0 asked)) ran)
 
-  -- behind the polls
+  -- after the polls
   clears-found : (found : Option Rested) (a c d b : Seen) (log : List Asked) (result : Result Bool Stop) → Ran (HasAccess 0) a slave 6 c
       → Ran (Waited c slave d found) c slave 10000 d
       → AskedInTurn log d b → OnlyIf (is_some found) (InsistsBy slave (clear_order slave)) log result
       → Performs (BecomesOpen a slave b) a slave 10009 result b
   clears-found None a c d b log result ran waits asked ends = open-ended a d b log result (wait_fails near ran waits) asked ends
-  clears-found (Some rested) a c d b log result ran waits asked so = opens near result b (free near rested ran waits)
+  clears-found (Some rested) a c d b log result ran waits asked so = opens near result b (vacant near rested ran waits)
       (cleared d b log result asked so)
 
   clears-so : (a c b : Seen) (log : List Asked) (result : Result Bool Stop) → Ran (HasAccess 0) a slave 6 c → AskedInTurn log c b
       → ClearsBy slave log result
       → Performs (BecomesOpen a slave b) a slave 10009 result b
   clears-so a c b log result ran asked (inl so) =
-      let parts = parted log so.front so.behind c b so.log_is asked in
-      clears-found so.value a c parts.mid b so.behind result ran
+      let parts = parted log so.front so.after c b so.log_is asked in
+      clears-found so.value a c parts.mid b so.after result ran
       (waited slave near c parts.mid so.front (Ok so.value) parts.first so.came_to) parts.second so.goes_on
   clears-so a c b log result ran asked (inr stops) =
       cut_as (BecomesOpen a slave b) slave result stops.2 (Ran-cut (omega arith) ran (waited slave near c b log (Err stops.0) asked stops.1))
 
-  -- behind the datagram that ends forcing
+  -- after the datagram that ends forcing
   frees-counted : (value : Bool) (a mid c b : Seen) (log : List Asked) (result : Result Bool Stop) → Ran (HasAccess 2) a slave 3 mid
       → Ran (Insists (access_order slave 0) mid slave c value) mid slave 3 c → AskedInTurn log c b → OnlyIf value (ClearsBy slave) log result
       → Performs (BecomesOpen a slave b) a slave 10009 result b
@@ -321,13 +321,13 @@ module _ (slave : ℕ) (near : slave < 64) where
       → FreesBy slave log result
       → Performs (BecomesOpen a slave b) a slave 10009 result b
   frees-so a mid b log result ran asked (inl so) =
-      let parts = parted log so.front so.behind mid b so.log_is asked in
-      frees-counted so.value a mid parts.mid b so.behind result ran
+      let parts = parted log so.front so.after mid b so.log_is asked in
+      frees-counted so.value a mid parts.mid b so.after result ran
       (accessed 0 mid parts.mid so.front (Ok so.value) parts.first so.came_to) parts.second so.goes_on
   frees-so a mid b log result ran asked (inr stops) =
       cut_as (BecomesOpen a slave b) slave result stops.2 (Ran-cut (omega arith) ran (accessed 0 mid b log (Err stops.0) asked stops.1))
 
-  -- behind the datagram that forces
+  -- after the datagram that forces
   forces-counted : (value : Bool) (a mid b : Seen) (log : List Asked) (result : Result Bool Stop)
       → Ran (Insists (access_order slave 2) a slave mid value) a slave 3 mid
       → AskedInTurn log mid b → OnlyIf value (FreesBy slave) log result → Performs (BecomesOpen a slave b) a slave 10009 result b
@@ -337,8 +337,8 @@ module _ (slave : ℕ) (near : slave < 64) where
   opens-so : (a b : Seen) (log : List Asked) (result : Result Bool Stop) → AskedInTurn log a b → OpensBy slave log result
       → Performs (BecomesOpen a slave b) a slave 10009 result b
   opens-so a b log result asked (inl so) =
-      let parts = parted log so.front so.behind a b so.log_is asked in
-      forces-counted so.value a parts.mid b so.behind result
+      let parts = parted log so.front so.after a b so.log_is asked in
+      forces-counted so.value a parts.mid b so.after result
       (accessed 2 a parts.mid so.front (Ok so.value) parts.first so.came_to) parts.second so.goes_on
   opens-so a b log result asked (inr stops) =
       cut_as (BecomesOpen a slave b) slave result stops.2 (IsCut-more (omega arith) (accessed 2 a b log (Err stops.0) asked stops.1))
@@ -351,7 +351,7 @@ module _ (slave : ℕ) (near : slave < 64) where
 
 module _ (slave : ℕ) (near : slave < 64) where
   fetched-by : (a b : Seen) (came : Result Pdu DeviceFault) (result : Result (Option WordPair) Stop)
-      → ExchangesFrame a slave (fetch_order slave ∷ []) (outcome_of came) (frame_behind (fetch_order slave) came) b → IsHeard pair_of None came result
+      → ExchangesFrame a slave (fetch_order slave ∷ []) (outcome_of came) (frame_after (fetch_order slave) came) b → IsHeard pair_of None came result
       → Performs (Fetched a slave b) a slave 1 result b
   fetched-by a b (Ok reply) result sends is =
       subst (λ (r : Result (Option WordPair) Stop). Performs (Fetched a slave b) a slave 1 r b) (sym is)
@@ -387,26 +387,26 @@ module _ (slave word : ℕ) (near : slave < 64) (fits : word < 2 ^ 16) where
   fetch-so : (a d b : Seen) (log : List Asked) (result : Result Tried Stop) → Ran (HasFetched slave word) a slave 10001 d → AskedInTurn log d b
       → Then (FetchesBy slave) (λ pair. Ends (tried_of pair)) log result → Performs (TriesRead a slave word b) a slave 10002 result b
   fetch-so a d b log result ran asked (inl so) =
-      let parts = parted log so.front so.behind d b so.log_is asked in
-      fetch-found so.value a d parts.mid b so.behind result ran
+      let parts = parted log so.front so.after d b so.log_is asked in
+      fetch-found so.value a d parts.mid b so.after result ran
       (fetched-one slave near d parts.mid so.front (Ok so.value) parts.first so.came_to) parts.second so.goes_on
   fetch-so a d b log result ran asked (inr stops) =
       cut_as (TriesRead a slave word b) slave result stops.2 (Ran-cut (omega arith) ran (fetched-one slave near d b log (Err stops.0) asked stops.1))
 
   wait-found : (found : Option Rested) (a c d b : Seen) (log : List Asked) (result : Result Tried Stop) → Ran (HasAsked slave word) a slave 1 c
       → Ran (Waited c slave d found) c slave 10000 d
-      → AskedInTurn log d b → FetchesBehind slave found log result → Performs (TriesRead a slave word b) a slave 10002 result b
+      → AskedInTurn log d b → FetchesAfter slave found log result → Performs (TriesRead a slave word b) a slave 10002 result b
   wait-found None a c d b log result ran waits asked ends = try-ended not_seen_idle a d b log result (try_dead near fits ran waits) asked ends
   wait-found (Some Failed) a c d b log result ran waits asked ends = try-ended try_failed a d b log result
       (error_fails near fits ran waits) asked ends
   wait-found (Some Well) a c d b log result ran waits asked so = fetch-so a d b log result (fetched near fits ran waits) asked so
 
   wait-so : (a c b : Seen) (log : List Asked) (result : Result Tried Stop) → Ran (HasAsked slave word) a slave 1 c → AskedInTurn log c b
-      → Then (WaitsBy slave) (FetchesBehind slave) log result
+      → Then (WaitsBy slave) (FetchesAfter slave) log result
       → Performs (TriesRead a slave word b) a slave 10002 result b
   wait-so a c b log result ran asked (inl so) =
-      let parts = parted log so.front so.behind c b so.log_is asked in
-      wait-found so.value a c parts.mid b so.behind result ran
+      let parts = parted log so.front so.after c b so.log_is asked in
+      wait-found so.value a c parts.mid b so.after result ran
       (waited slave near c parts.mid so.front (Ok so.value) parts.first so.came_to) parts.second so.goes_on
   wait-so a c b log result ran asked (inr stops) =
       cut_as (TriesRead a slave word b) slave result stops.2 (Ran-cut (omega arith) ran (waited slave near c b log (Err stops.0) asked stops.1))
@@ -417,15 +417,15 @@ module _ (slave word : ℕ) (near : slave < 64) (fits : word < 2 ^ 16) where
 
   command-counted : (value : Bool) (a mid b : Seen) (log : List Asked) (result : Result Tried Stop)
       → Ran (Wrote (read_order slave word) a mid value) a slave 1 mid → AskedInTurn log mid b
-      → WaitsBehind slave value log result → Performs (TriesRead a slave word b) a slave 10002 result b
+      → WaitsAfter slave value log result → Performs (TriesRead a slave word b) a slave 10002 result b
   command-counted false a mid b log result ran asked ends = try-ended try_failed a mid b log result (command_fails near fits ran) asked ends
   command-counted true a mid b log result ran asks so = wait-so a mid b log result (asked near fits ran) asks so
 
   tried-so : (a b : Seen) (log : List Asked) (result : Result Tried Stop) → AskedInTurn log a b → TriesBy slave word log result
       → Performs (TriesRead a slave word b) a slave 10002 result b
   tried-so a b log result asks (inl so) =
-      let parts = parted log so.front so.behind a b so.log_is asks in
-      command-counted so.value a parts.mid b so.behind result
+      let parts = parted log so.front so.after a b so.log_is asks in
+      command-counted so.value a parts.mid b so.after result
       (commanded a parts.mid so.front (Ok so.value) parts.first so.came_to) parts.second so.goes_on
   tried-so a b log result asks (inr stops) =
       cut_as (TriesRead a slave word b) slave result stops.2 (IsCut-more (omega arith) (commanded a b log (Err stops.0) asks stops.1))
@@ -435,9 +435,9 @@ module _ (slave word : ℕ) (near : slave < 64) (fits : word < 2 ^ 16) where
   tries-failed times log a b asks no_round =
       subst (λ (s : Seen). SoFar (FailedSo a slave word 0 s) a slave (10002 * 0) s) (sym asks)
       (none (record { no_calls = refl; same = refl; stays = failed_none a slave word }))
-  tries-failed times log a b asks (one_more {times = few} {front = front} {behind = behind} before last) =
-      let parts = part front behind a b asks in
-      some (failed_more (tried-so parts.mid b behind (Ok try_failed) parts.second last) (tries-failed few front a parts.mid parts.first before))
+  tries-failed times log a b asks (one_more {times = few} {front = front} {after = after} before last) =
+      let parts = part front after a b asks in
+      some (failed_more (tried-so parts.mid b after (Ok try_failed) parts.second last) (tries-failed few front a parts.mid parts.first before))
 
   read-ended : (end : Option WordPair) (a mid b : Seen) (log : List Asked) (result : Result (Option WordPair) Stop)
       → Ran (ReadsPair a slave word mid end) a slave 30006 mid → AskedInTurn log mid b
@@ -449,9 +449,9 @@ module _ (slave word : ℕ) (near : slave < 64) (fits : word < 2 ^ 16) where
   last-try : (a mid b : Seen) (times : ℕ) → times < 3 → (last : Tried) → last ≢ try_failed
       → SoFar (FailedSo a slave word times mid) a slave (10002 * times) mid
       → Ran (TriesRead mid slave word b last) mid slave 10002 b → Ran (ReadsPair a slave word b (pair_in last)) a slave 30006 b
-  last-try a mid b times few (words_read pair) ends so ran = pair_behind few so ran
+  last-try a mid b times few (words_read pair) ends so ran = pair_after few so ran
   last-try a mid b times few try_failed ends so ran = absurd (ends refl)
-  last-try a mid b times few not_seen_idle ends so ran = dead_behind few so ran
+  last-try a mid b times few not_seen_idle ends so ran = dead_after few so ran
 
   tries-ended : (a b : Seen) (log : List Asked) (last : Tried) → AskedInTurn log a b
       → UpTo 3 (λ (try : ℕ). TriesBy slave word) try_failed log (Ok last)
@@ -460,24 +460,24 @@ module _ (slave word : ℕ) (near : slave < 64) (fits : word < 2 ^ 16) where
       subst (λ (t : Tried). Ran (ReadsPair a slave word b (pair_in t)) a slave 30006 b) (let same : try_failed ≡ last = cc in same)
       (all_failed refl (tries-failed 3 log a b asks all.0))
   tries-ended a b log last asks (inr so) =
-      let parts = parted log so.front so.behind a b so.log_is asks in
+      let parts = parted log so.front so.after a b so.log_is asks in
       last-try a parts.mid b so.times so.few last (λ e. so.ends (ap Ok e)) (tries-failed so.times so.front a parts.mid parts.first so.rounds)
-      (tried-so parts.mid b so.behind (Ok last) parts.second so.last)
+      (tried-so parts.mid b so.after (Ok last) parts.second so.last)
 
   tries-cut : (a b : Seen) (log : List Asked) (stop : Stop) → AskedInTurn log a b → UpTo 3 (λ (try : ℕ). TriesBy slave word) try_failed log (Err stop)
       → StopsQuietly a 30006 b
   tries-cut a b log stop asks (inl all) = absurd (let not = all.1 in cc)
   tries-cut a b log stop asks (inr so) =
-      let parts = parted log so.front so.behind a b so.log_is asks in
+      let parts = parted log so.front so.after a b so.log_is asks in
       let few = so.few in
       so_cut (omega arith) (tries-failed so.times so.front a parts.mid parts.first so.rounds)
-      (tried-so parts.mid b so.behind (Err stop) parts.second so.last)
+      (tried-so parts.mid b so.after (Err stop) parts.second so.last)
 
   reads-so : (a b : Seen) (log : List Asked) (result : Result (Option WordPair) Stop) → AskedInTurn log a b → ReadsPairBy slave word log result
       → Performs (ReadsPair a slave word b) a slave 30006 result b
   reads-so a b log result asks (inl so) =
-      let parts = parted log so.front so.behind a b so.log_is asks in
-      read-ended (pair_in so.value) a parts.mid b so.behind result
+      let parts = parted log so.front so.after a b so.log_is asks in
+      read-ended (pair_in so.value) a parts.mid b so.after result
       (tries-ended a parts.mid so.front so.value parts.first so.came_to) parts.second so.goes_on
   reads-so a b log result asks (inr stops) = cut_as (ReadsPair a slave word b) slave result stops.2 (tries-cut a b log stops.0 asks stops.1)
 

@@ -80,9 +80,9 @@ taken_differs old slave word value half later pair here t leaves =
     ]
 
 -- the same, whatever the half made of the datagram
-left_behind : (old : Seen) (slave word value : ℕ) (half rested : SlaveHalf) → slave < 64 → word < 2 ^ 16 → value < 2 ^ 16 → slice_get old.state.halves slave ≡ Some half → MayRest half rested
+left_after : (old : Seen) (slave word value : ℕ) (half rested : SlaveHalf) → slave < 64 → word < 2 ^ 16 → value < 2 ^ 16 → slice_get old.state.halves slave ≡ Some half → MayRest half rested
     → LeavesOnly (WordMayDiffer old slave word) (with_half old.state slave (served_datagram rested (write_order slave word value)).half)
-left_behind old slave word value half rested near word_fits value_fits here rests pair leaves =
+left_after old slave word value half rested near word_fits value_fits here rests pair leaves =
     by (word_issues slave word value half rested near word_fits value_fits rests)
   where
     by : Issues slave word value half rested → WordMayDiffer old slave word pair
@@ -101,7 +101,7 @@ module _ (old : Seen) (slave word value : ℕ) (new : Seen) (near : slave < 64) 
       Passes-stays (WordMayDiffer old slave word) old new
       (exchange_passes (WordMayDiffer old slave word) old slave (write_order slave word value) result answer new
       (λ pair leaves. (pair, leaves, (refl, inl refl)))
-      (λ half rested here rests. left_behind old slave word value half rested near word_fits value_fits here rests) sends)
+      (λ half rested here rests. left_after old slave word value half rested near word_fits value_fits here rests) sends)
 
   issue_answers : {raw : Result (Unit {0}) DeviceFault} {answer : List Pdu} (is_issued : Issued) → raw ≢ Err device.Stopped
       → ExchangesFrame old slave (write_order slave word value ∷ []) raw answer new → HalfGoes (BecomesIssued old slave word value new is_issued) old.state slave new.state

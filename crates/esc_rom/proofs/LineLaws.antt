@@ -54,11 +54,11 @@ read_later slave size a b c was follows = record {
   words = was.words;
   read = was.read;
   reads = was.reads;
-  behind = Follows-then was.read b c was.behind follows;
+  after = Follows-then was.read b c was.after follows;
 }
 
-read_behind : (slave size : ℕ) (a b c : Seen) → Follows a b → WasRead slave size b c → WasRead slave size a c
-read_behind slave size a b c follows was = record {
+read_after : (slave size : ℕ) (a b c : Seen) → Follows a b → WasRead slave size b c → WasRead slave size a c
+read_after slave size a b c follows was = record {
   before = was.before;
   follows = Follows-then a b was.before follows was.follows;
   opened = was.opened;
@@ -66,13 +66,13 @@ read_behind slave size a b c follows was = record {
   words = was.words;
   read = was.read;
   reads = was.reads;
-  behind = was.behind;
+  after = was.after;
 }
 
 read_more : (sizes : List ℕ) (a b c : Seen) (count : ℕ) → WereRead sizes count a b → Follows a b → Follows b c → WasRead count (slice_index sizes count) b c → WereRead sizes (count + 1) a c
-read_more sizes a b c count first to_it behind last slave below = elim (eqb_tells slave count) [
-  | inl same ↦ subst (λ (s : ℕ). WasRead s (slice_index sizes s) a c) (sym same.1) (read_behind count (slice_index sizes count) a b c to_it last)
-  | inr other ↦ read_later slave (slice_index sizes slave) a b c (first slave (let not = other.1 in omega arith)) behind
+read_more sizes a b c count first to_it after last slave below = elim (eqb_tells slave count) [
+  | inl same ↦ subst (λ (s : ℕ). WasRead s (slice_index sizes s) a c) (sym same.1) (read_after count (slice_index sizes count) a b c to_it last)
+  | inr other ↦ read_later slave (slice_index sizes slave) a b c (first slave (let not = other.1 in omega arith)) after
 ]
 
 -- one more
@@ -146,7 +146,7 @@ line_fails plant_of sizes count plant fault a b c inside first reads = record {
     ends (rom.SlaveDead dead) so =
         subst (λ (d : ℕ). Dies sizes d a c) (sym so.faults.0) (record { inside = inside; reached = b; before = first.quiet; first = first.were_read; gives_up = so.faults.1 })
 
--- memory is refused behind one
+-- memory is refused after one
 pub line_refused : {T : Type 0} (plant_of : T → List (List ℕ)) (sizes : List ℕ) (count : ℕ) (plant : List (List ℕ)) (words : List ℕ) (a b c : Seen) → count < length sizes → FirstRead count plant sizes a b
     → ReadsSlave count (slice_index sizes count) b (Ok words) c → ReadsLine plant_of sizes a (Err rom.Memory) c
 line_refused plant_of sizes count plant words a b c inside first reads = record {

@@ -91,12 +91,12 @@ pub record HasAccess (value : ℕ) (half later : SlaveHalf) : Type 0 where
   pub only : OnlyRests half later
   pub access : access_byte later.registers ≡ value
 
-pub record IsFree (half later : SlaveHalf) : Type 0 where
+pub record IsVacant (half later : SlaveHalf) : Type 0 where
   pub only : OnlyRests half later
   pub access : access_byte later.registers ≡ 0
   pub idle : IsIdle later
 
-cleared : (a : Seen) (slave : ℕ) → slave < 64 → (d e : Seen) (said : Bool) (half mid later : SlaveHalf) → clock a ≤ clock d → IsFree half mid → HalfAt e slave (clock d) mid × Insists (clear_order slave) d slave e said mid later
+cleared : (a : Seen) (slave : ℕ) → slave < 64 → (d e : Seen) (said : Bool) (half mid later : SlaveHalf) → clock a ≤ clock d → IsVacant half mid → HalfAt e slave (clock d) mid × Insists (clear_order slave) d slave e said mid later
     → BecomesOpen a slave e said half later
 cleared a slave near d e true half mid later after so insists =
     let tried = clear_tries slave near mid insists.1.0 insists.1.1 in
@@ -126,15 +126,15 @@ module _ {a : Seen} {slave : ℕ} (near : slave < 64) where
   wait_fails {c} {d} ran more =
       Ran-then (omega arith) (λ half mid later so waited. (OnlyRests-then half mid later so.only (MayRest-only mid later waited.0), inl (never_idle a c d slave (Follows-clock a c ran.quiet.follows) waited.1))) ran more
 
-  pub free : {c d : Seen} (rested : Rested) → Ran (HasAccess 0) a slave 6 c → Ran (Waited c slave d (Some rested)) c slave 10000 d → Ran IsFree a slave 10006 d
-  free rested ran more =
+  pub vacant : {c d : Seen} (rested : Rested) → Ran (HasAccess 0) a slave 6 c → Ran (Waited c slave d (Some rested)) c slave 10000 d → Ran IsVacant a slave 10006 d
+  vacant rested ran more =
       Ran-then (omega arith) (λ half mid later so waited. record {
         only = OnlyRests-then half mid later so.only (MayRest-only mid later waited.0);
         access = MayRest-access mid later waited.0 ∙ so.access;
         idle = seen_idle slave rested later waited.1;
       }) ran more
 
-  pub opens : {d : Seen} (result : Result Bool Stop) (e : Seen) → Ran IsFree a slave 10006 d → Performs (Insists (clear_order slave) d slave e) d slave 3 result e → Performs (BecomesOpen a slave e) a slave 10009 result e
+  pub opens : {d : Seen} (result : Result Bool Stop) (e : Seen) → Ran IsVacant a slave 10006 d → Performs (Insists (clear_order slave) d slave e) d slave 3 result e → Performs (BecomesOpen a slave e) a slave 10009 result e
   opens {d} (Ok said) e ran more = Ran-then (omega arith) (λ half mid later so insists. cleared a slave near d e said half mid later (Follows-clock a d ran.quiet.follows) so insists) ran (Ran-tied more)
   opens (Err stop) e ran cut = Ran-cut (omega arith) ran cut
 

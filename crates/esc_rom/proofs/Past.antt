@@ -80,8 +80,8 @@ PollsInVain-more a b slave from times follows is polls last =
 pub never_idle : (a b c : Seen) (slave : ℕ) → clock a ≤ clock b → WaitsInVain b slave c → NeverIdle a slave c
 never_idle a b c slave after waits = record { from = clock b; after = after; clock = waits.clock; polls = waits.polls }
 
-pub NeverIdle-behind : (a b c : Seen) (slave : ℕ) → clock a ≤ clock b → NeverIdle b slave c → NeverIdle a slave c
-NeverIdle-behind a b c slave after never = record { from = never.from; after = let w : clock b ≤ never.from = never.after in omega arith; clock = never.clock; polls = never.polls }
+pub NeverIdle-after : (a b c : Seen) (slave : ℕ) → clock a ≤ clock b → NeverIdle b slave c → NeverIdle a slave c
+NeverIdle-after a b c slave after never = record { from = never.from; after = let w : clock b ≤ never.from = never.after in omega arith; clock = never.clock; polls = never.polls }
 
 -- TRIES
 

@@ -21,7 +21,7 @@ use Rattle.esc_rom.specs.Runs.{Ran, Waited, WasLost, Wrote}
 use Rattle.esc_rom.specs.WordPairs.Tried.{words_read, try_failed, not_seen_idle}
 use Rattle.esc_rom.specs.WordPairs.{pair_of, Fetched, IsRead, TriesRead, ReadsPair}
 use Rattle.esc_rom.proofs.Runs.{Ran-then, Ran-weaker, SoFar, so_then, so_over, so_clock}
-use Rattle.esc_rom.proofs.Past.{HalfAt-now, HalfAt-then, never_idle, NeverIdle-behind, FailTries-stays}
+use Rattle.esc_rom.proofs.Past.{HalfAt-now, HalfAt-then, never_idle, NeverIdle-after, FailTries-stays}
 use Rattle.esc_rom.proofs.Exchanges.{Answers}
 use Rattle.esc_rom.proofs.Writes.{wrote_receives}
 
@@ -234,15 +234,15 @@ failed_more {a} {b} {c} {slave} {word} {times} ran so =
       });
     }
 
-pub pair_behind : {a b c : Seen} {slave word times : ℕ} {pair : WordPair} → times < 3 → SoFar (FailedSo a slave word times b) a slave (10002 * times) b → Ran (TriesRead b slave word c (words_read pair)) b slave 10002 c
+pub pair_after : {a b c : Seen} {slave word times : ℕ} {pair : WordPair} → times < 3 → SoFar (FailedSo a slave word times b) a slave (10002 * times) b → Ran (TriesRead b slave word c (words_read pair)) b slave 10002 c
     → Ran (ReadsPair a slave word c (Some pair)) a slave 30006 c
-pair_behind few so ran =
+pair_after few so ran =
     so_then (omega arith) (λ half mid later failed read. record { only = OnlyRests-then half mid later failed.only read.only; idle = read.idle; first = read.first; second = read.second }) so ran
 
-pub dead_behind : {a b c : Seen} {slave word times : ℕ} → times < 3 → SoFar (FailedSo a slave word times b) a slave (10002 * times) b → Ran (TriesRead b slave word c not_seen_idle) b slave 10002 c
+pub dead_after : {a b c : Seen} {slave word times : ℕ} → times < 3 → SoFar (FailedSo a slave word times b) a slave (10002 * times) b → Ran (TriesRead b slave word c not_seen_idle) b slave 10002 c
     → Ran (ReadsPair a slave word c None) a slave 30006 c
-dead_behind {a} {b} {c} {slave} few so ran =
-    so_then (omega arith) (λ half mid later failed dead. (OnlyRests-then half mid later failed.only dead.0, inl (NeverIdle-behind a b c slave (so_clock so) dead.1))) so ran
+dead_after {a} {b} {c} {slave} few so ran =
+    so_then (omega arith) (λ half mid later failed dead. (OnlyRests-then half mid later failed.only dead.0, inl (NeverIdle-after a b c slave (so_clock so) dead.1))) so ran
 
 pub all_failed : {a b : Seen} {slave word times : ℕ} → times ≡ 3 → SoFar (FailedSo a slave word times b) a slave (10002 * times) b → Ran (ReadsPair a slave word b None) a slave 30006 b
 all_failed {a} {b} {slave} {word} all so =

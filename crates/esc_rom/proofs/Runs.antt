@@ -91,8 +91,8 @@ so_clock {a = a} {b = b} (none yet) = let e = ap clock yet.same in omega arith
 so_clock {a = a} {b = b} (some ran) = let later = ran.some in omega arith
 
 -- the value of a run that speaks of its two ends is that one
-pub Ran-told : {T : Type 0} (R : Seen → Seen → T → SlaveHalf → SlaveHalf → Type 0) {x y : T} {a b : Seen} {slave most : ℕ} → x ≡ y → Ran (R a b x) a slave most b → Ran (R a b y) a slave most b
-Ran-told {T} R {a = a} {b = b} {slave = slave} {most = most} is ran = subst (λ (v : T). Ran (R a b v) a slave most b) is ran
+pub Ran-reported : {T : Type 0} (R : Seen → Seen → T → SlaveHalf → SlaveHalf → Type 0) {x y : T} {a b : Seen} {slave most : ℕ} → x ≡ y → Ran (R a b x) a slave most b → Ran (R a b y) a slave most b
+Ran-reported {T} R {a = a} {b = b} {slave = slave} {most = most} is ran = subst (λ (v : T). Ran (R a b v) a slave most b) is ran
 
 -- the value is that one
 pub Ran-value : {T : Type 0} (R : T → SlaveHalf → SlaveHalf → Type 0) {x y : T} {a b : Seen} {slave most : ℕ} → x ≡ y → Ran (R x) a slave most b → Ran (R y) a slave most b

@@ -16,7 +16,7 @@ use Rattle.esc_rom.specs.declared.poll.Rested.TheVariants.{Well, Failed}
 use Rattle.esc_rom.specs.Access.{OpensSlave, ReadsWords}
 use Rattle.esc_rom.specs.Reading.{ReadsInParts, KeepsFirst}
 use Rattle.esc_rom.specs.Courses.{Asked, AskedInTurn, Takes, Ends, Then}
-use Rattle.esc_rom.specs.Sent.{WritesBy, WaitsBy, issued_by, SettlesBehind, ReadsNext, FillsBy, OpensBy, OpensSlaveBy, ReadsAllBy, ReadsSlaveBy, FirstReadBy, no_slave, one_more_slave, ReadsLineBy}
+use Rattle.esc_rom.specs.Sent.{WritesBy, WaitsBy, issued_by, SettlesAfter, ReadsNext, FillsBy, OpensBy, OpensSlaveBy, ReadsAllBy, ReadsSlaveBy, FirstReadBy, no_slave, one_more_slave, ReadsLineBy}
 use Rattle.esc_rom.proofs.Courses.{asked-then, takes-none, RoundsSo}
 
 -- ISSUE
@@ -30,13 +30,13 @@ not-taken-is reply is = rw is refl
 -- SETTLE
 
 -- the word is written
-pub settles-written : (slave : ℕ) (taken : Bool) (seen : Seen) → taken ≡ true → Takes (SettlesBehind slave taken (Some Well)) seen (Ok settled.Written) seen
+pub settles-written : (slave : ℕ) (taken : Bool) (seen : Seen) → taken ≡ true → Takes (SettlesAfter slave taken (Some Well)) seen (Ok settled.Written) seen
 settles-written slave true seen is = takes-none settled.Written seen
 settles-written slave false seen is = absurd cc
 
 -- the errors are cleared
 pub settles-clearing : (slave : ℕ) (taken : Bool) (rested : Rested) (a b : Seen) (result : Result Settled Stop) → (IsTrue taken → rested ≡ Failed)
-    → Takes (Then (WritesBy slave (clear_order slave)) (λ counted. Ends settled.Again)) a result b → Takes (SettlesBehind slave taken (Some rested)) a result b
+    → Takes (Then (WritesBy slave (clear_order slave)) (λ counted. Ends settled.Again)) a result b → Takes (SettlesAfter slave taken (Some rested)) a result b
 settles-clearing slave true Well a b result why takes = absurd (let e = why refl in absurd cc)
 settles-clearing slave false Well a b result why takes = takes
 settles-clearing slave true Failed a b result why takes = takes
@@ -94,12 +94,12 @@ module _ (slave size : ℕ) {a b : Seen} where
   reads-opened {c = c} (Ok words) one two = record {
     log = one.log ++ two.log;
     asked = asked-then one.log two.log a b c one.asked two.asked;
-    took = record { front = one.log; behind = two.log; log_is = refl; opens = one.took; reads = two.took };
+    took = record { front = one.log; after = two.log; log_is = refl; opens = one.took; reads = two.took };
   }
   reads-opened {T} {c} (Err fault) one two = record {
     log = one.log ++ two.log;
     asked = asked-then one.log two.log a b c one.asked two.asked;
-    took = inr (record { front = one.log; behind = two.log; log_is = refl; opens = one.took; reads = reads-any T (Unit {0}) slave size fault two.log two.took });
+    took = inr (record { front = one.log; after = two.log; log_is = refl; opens = one.took; reads = reads-any T (Unit {0}) slave size fault two.log two.took });
   }
 
   pub reads-unopened : {T : Type 0} (result : Result T RomFault) (fault : RomFault) → result ≡ Err fault → Takes (OpensSlaveBy slave) a (Err fault) b → Takes (ReadsSlaveBy slave size) a result b
@@ -131,7 +131,7 @@ module _ (sizes : List ℕ) (count : ℕ) {a b c : Seen} (so : FirstSo sizes cou
       record {
         log = so.log ++ takes.log;
         asked = asked-then so.log takes.log a b c so.asked takes.asked;
-        first = one_more_slave so.first (record { front = took.front; behind = took.behind; log_is = took.log_is; opens = took.opens; reads = took.reads });
+        first = one_more_slave so.first (record { front = took.front; after = took.after; log_is = took.log_is; opens = took.opens; reads = took.reads });
       }
 
   pub line-breaks : {T : Type 0} (fault : RomFault) → count < length sizes → Takes (ReadsSlaveBy {T = List ℕ} count (slice_index sizes count)) b (Err fault) c
@@ -139,7 +139,7 @@ module _ (sizes : List ℕ) (count : ℕ) {a b c : Seen} (so : FirstSo sizes cou
   line-breaks fault inside takes = record {
     log = so.log ++ takes.log;
     asked = asked-then so.log takes.log a b c so.asked takes.asked;
-    took = inl (record { count = count; inside = inside; front = so.log; behind = takes.log; log_is = refl; first = so.first; last = takes.took });
+    took = inl (record { count = count; inside = inside; front = so.log; after = takes.log; log_is = refl; first = so.first; last = takes.took });
   }
 
 pub line-no-memory : {T : Type 0} (sizes : List ℕ) (count : ℕ) {a b : Seen} → count < length sizes → FirstSo sizes (count + 1) a b → Takes (ReadsLineBy {T = T} sizes) a (Err rom.Memory) b

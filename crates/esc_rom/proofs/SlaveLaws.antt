@@ -31,24 +31,24 @@ module _ (slave size : ℕ) (a b c : Seen) where
       }
 
   -- it is opened, and then read or not
-  pub read_behind : (result : Result (List ℕ) RomFault) → OpensSlave a slave (Ok tt) b → ReadsWords b slave size result c → ReadsSlave slave size a result c
-  read_behind (Ok words) opens reads = record {
+  pub read_after : (result : Result (List ℕ) RomFault) → OpensSlave a slave (Ok tt) b → ReadsWords b slave size result c → ReadsSlave slave size a result c
+  read_after (Ok words) opens reads = record {
     quiet = Quiet-then (omega arith) opens.quiet reads.quiet;
-    was_read = record { before = a; follows = Follows-same a; opened = b; opens = opens; words = words; read = c; reads = reads; behind = Follows-same c };
+    was_read = record { before = a; follows = Follows-same a; opened = b; opens = opens; words = words; read = c; reads = reads; after = Follows-same c };
     read = HalfGoes-then (λ half mid later opened read. (OnlyRests-then half mid later opened.0 read.0, read.1, read.2)) (opens.opened refl) (reads.read words refl);
     faults = tt;
     stopped = (λ stops. elim (reads.going stops) [ inl was ↦ absurd cc | inr was ↦ absurd cc ], λ was. absurd cc);
   }
-  read_behind (Err rom.Stopped) opens reads =
+  read_after (Err rom.Stopped) opens reads =
       record { quiet = Quiet-then (omega arith) opens.quiet reads.quiet; was_read = tt; read = tt; faults = tt; stopped = (λ stops. refl, λ was. reads.stopped refl) }
-  read_behind (Err rom.Memory) opens reads = record {
+  read_after (Err rom.Memory) opens reads = record {
     quiet = Quiet-then (omega arith) opens.quiet reads.quiet;
     was_read = tt;
     read = tt;
     faults = tt;
     stopped = (λ stops. let was = opens.stopped.0 (subst (λ (s : Seen). IsTrue s.is_stopped) (reads.memory refl) stops) in absurd cc, λ was. absurd cc);
   }
-  read_behind (Err (rom.SlaveDead dead)) opens reads =
+  read_after (Err (rom.SlaveDead dead)) opens reads =
       let same : dead ≡ slave = elim reads.faults [ inl was ↦ absurd cc | inr other ↦ elim other [ inl was ↦ absurd cc | inr was ↦ let e = was in cc ] ] in
       record {
         quiet = Quiet-then (omega arith) opens.quiet reads.quiet;

@@ -22,7 +22,7 @@ pub with_half-same : (state : State) (slave : ℕ) (half : SlaveHalf) → slice_
 with_half-same state slave half here = ap (λ (hs : List SlaveHalf). record state { halves = hs }) (slice_set-same state.halves slave half here)
 
 module _ {R : SlaveHalf → SlaveHalf → Type 0} {old new : State} {slave : ℕ} (goes : HalfGoes R old slave new) where
-  -- behind it the half is there
+  -- after it the half is there
   pub HalfGoes-there : slice_get new.halves slave ≡ Some goes.later
   HalfGoes-there = ap (λ (s : State). slice_get s.halves slave) goes.new_is ∙ slice_get-set old.halves slave goes.half goes.later goes.here
 

@@ -21,7 +21,7 @@ write_adds half address content = elim (true_or_false (concerns half address (le
   | inr elsewhere ↦ inl (rw elsewhere refl)
   | inl here ↦ elim (true_or_false (is_busy half.activity && nat_lt 2 (register_of address - 0x0500 + length content))) [
     | inl busy ↦ inl (rw (here, busy) refl)
-    | inr free ↦ inr (rw (here, free) refl)
+    | inr vacant ↦ inr (rw (here, vacant) refl)
   ]
 ]
 

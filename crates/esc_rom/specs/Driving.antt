@@ -15,7 +15,7 @@ use Rattle.rom_steps.specs.declared.step.Step.TheVariants.{Ended}
 use Rattle.rom_steps.specs.Remaining.{Remains}
 use Rattle.esc_rom.specs.declared.fault.Stop.{Stop}
 use Rattle.esc_rom.specs.declared.reading.WordPair.{WordPair}
-use Rattle.esc_rom.specs.Courses.{Asked, AskedInTurn, outcome_of, frame_behind}
+use Rattle.esc_rom.specs.Courses.{Asked, AskedInTurn, outcome_of, frame_after}
 
 -- a datagram of a course of steps, as one of this crate's
 abbrev pub here : steps.Asked → Asked
@@ -29,7 +29,7 @@ IsCame (Err stop) came = came ≡ Err device.Stopped
 -- This datagram was sent alone in a frame, and that came back.
 pub record AsksOnce (old : Seen) (slave : ℕ) (order : Pdu) (result : Result Back Stop) (new : Seen) : Type 0 where
   pub came : Result Pdu DeviceFault
-  pub sent : ExchangesFrame old slave (order ∷ []) (outcome_of came) (frame_behind order came) new
+  pub sent : ExchangesFrame old slave (order ∷ []) (outcome_of came) (frame_after order came) new
   pub is : IsCame result came
 
 -- the end of an access, or a stop

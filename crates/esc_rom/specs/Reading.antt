@@ -44,7 +44,7 @@ pub record WasRead (slave size : ℕ) (old new : Seen) : Type 0 where
   pub words : List ℕ
   pub read : Seen
   pub reads : ReadsWords opened slave size (Ok words) read
-  pub behind : Follows read new
+  pub after : Follows read new
 
 -- If it succeeds, the slave was opened and read, it is idle, and these are its words.
 pub record ReadsSlave (slave size : ℕ) (old : Seen) (result : Result (List ℕ) RomFault) (new : Seen) : Type 0 where

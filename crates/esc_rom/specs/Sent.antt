@@ -58,14 +58,14 @@ IssuesBy slave word value = Asks slave (write_order slave word value) issued_by 
 -- SETTLE
 
 -- The waiting ended so. Unless the word was taken and the slave is idle without an error, its errors are cleared once.
-abbrev pub SettlesBehind : (slave : ℕ) → (taken : Bool) → Option Rested → Course Settled
-SettlesBehind slave taken None = Ends settled.Dead
-SettlesBehind slave true (Some Well) = Ends settled.Written
-SettlesBehind slave false (Some Well) = Then (WritesBy slave (clear_order slave)) (λ counted. Ends settled.Again)
-SettlesBehind slave taken (Some Failed) = Then (WritesBy slave (clear_order slave)) (λ counted. Ends settled.Again)
+abbrev pub SettlesAfter : (slave : ℕ) → (taken : Bool) → Option Rested → Course Settled
+SettlesAfter slave taken None = Ends settled.Dead
+SettlesAfter slave true (Some Well) = Ends settled.Written
+SettlesAfter slave false (Some Well) = Then (WritesBy slave (clear_order slave)) (λ counted. Ends settled.Again)
+SettlesAfter slave taken (Some Failed) = Then (WritesBy slave (clear_order slave)) (λ counted. Ends settled.Again)
 
 abbrev pub SettlesBy : (slave : ℕ) → (taken : Bool) → Course Settled
-SettlesBy slave taken = Then (WaitsBy slave) (SettlesBehind slave taken)
+SettlesBy slave taken = Then (WaitsBy slave) (SettlesAfter slave taken)
 
 -- OPEN
 
@@ -76,7 +76,7 @@ ClearsBy slave = Then (WaitsBy slave) (λ found. OnlyIf (is_some found) (Insists
 abbrev pub FreesBy : (slave : ℕ) → Course Bool
 FreesBy slave = Then (InsistsBy slave (access_order slave 0)) (λ freed. OnlyIf freed (ClearsBy slave))
 
--- the same behind the datagram that forces ECAT access
+-- the same after the datagram that forces ECAT access
 abbrev pub OpensBy : (slave : ℕ) → Course Bool
 OpensBy slave = Then (InsistsBy slave (access_order slave 2)) (λ forced. OnlyIf forced (FreesBy slave))
 
@@ -87,18 +87,18 @@ tried_of None = try_failed
 tried_of (Some pair) = words_read pair
 
 -- The slave took the command to read, and the waiting ended so. The words are fetched if it is idle without an error.
-abbrev pub FetchesBehind : (slave : ℕ) → Option Rested → Course Tried
-FetchesBehind slave None = Ends not_seen_idle
-FetchesBehind slave (Some Failed) = Ends try_failed
-FetchesBehind slave (Some Well) = Then (FetchesBy slave) (λ pair. Ends (tried_of pair))
+abbrev pub FetchesAfter : (slave : ℕ) → Option Rested → Course Tried
+FetchesAfter slave None = Ends not_seen_idle
+FetchesAfter slave (Some Failed) = Ends try_failed
+FetchesAfter slave (Some Well) = Then (FetchesBy slave) (λ pair. Ends (tried_of pair))
 
-abbrev pub WaitsBehind : (slave : ℕ) → (counted : Bool) → Course Tried
-WaitsBehind slave false = Ends try_failed
-WaitsBehind slave true = Then (WaitsBy slave) (FetchesBehind slave)
+abbrev pub WaitsAfter : (slave : ℕ) → (counted : Bool) → Course Tried
+WaitsAfter slave false = Ends try_failed
+WaitsAfter slave true = Then (WaitsBy slave) (FetchesAfter slave)
 
 -- One try to read a word and the next one: the command to read, and if it is counted the polls and the fetch.
 abbrev pub TriesBy : (slave word : ℕ) → Course Tried
-TriesBy slave word = Then (WritesBy slave (read_order slave word)) (WaitsBehind slave)
+TriesBy slave word = Then (WritesBy slave (read_order slave word)) (WaitsAfter slave)
 
 -- a try that gave the two words
 abbrev pub pair_in : Tried → Option WordPair
@@ -137,10 +137,10 @@ ReadsAllBy slave size log (Err rom.Memory) = log ≡ []
 -- The slave was opened, and then read.
 pub record OpensAndReads {T : Type 0} (slave size : ℕ) (log : List Asked) (result : Result T RomFault) : Type 0 where
   pub front : List Asked
-  pub behind : List Asked
-  pub log_is : log ≡ front ++ behind
+  pub after : List Asked
+  pub log_is : log ≡ front ++ after
   pub opens : OpensSlaveBy slave front (Ok tt)
-  pub reads : ReadsAllBy slave size behind result
+  pub reads : ReadsAllBy slave size after result
 
 -- It was, or its opening ended with this fault.
 abbrev pub ReadsSlaveBy : {T : Type 0} → (slave size : ℕ) → List Asked → Result T RomFault → Type 0
@@ -152,18 +152,18 @@ ReadsSlaveBy slave size log (Err fault) = OpensSlaveBy slave log (Err fault) ⊎
 -- The first slaves were each opened and read.
 pub data FirstReadBy (sizes : List ℕ) : (count : ℕ) → List Asked → Type 0 where
   no_slave : FirstReadBy sizes 0 []
-  one_more_slave : {count : ℕ} {front behind : List Asked} → FirstReadBy sizes count front
-      → OpensAndReads {T = Unit {0}} count (slice_index sizes count) behind (Ok tt) → FirstReadBy sizes (count + 1) (front ++ behind)
+  one_more_slave : {count : ℕ} {front after : List Asked} → FirstReadBy sizes count front
+      → OpensAndReads {T = Unit {0}} count (slice_index sizes count) after (Ok tt) → FirstReadBy sizes (count + 1) (front ++ after)
 
 -- The first slaves were opened and read, and then this slave's call ended with this fault.
 pub record EndsAtSlave (sizes : List ℕ) (log : List Asked) (fault : RomFault) : Type 0 where
   pub count : ℕ
   pub inside : count < length sizes
   pub front : List Asked
-  pub behind : List Asked
-  pub log_is : log ≡ front ++ behind
+  pub after : List Asked
+  pub log_is : log ≡ front ++ after
   pub first : FirstReadBy sizes count front
-  pub last : ReadsSlaveBy {T = Unit {0}} count (slice_index sizes count) behind (Err fault)
+  pub last : ReadsSlaveBy {T = Unit {0}} count (slice_index sizes count) after (Err fault)
 
 -- Some of the slaves were opened and read, and then memory was refused.
 pub record EndsForMemory (sizes : List ℕ) (log : List Asked) (fault : RomFault) : Type 0 where

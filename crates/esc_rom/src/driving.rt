@@ -16,7 +16,7 @@ use site_core::Site;
 /// The number of datagrams of the longest access: opening takes up to 10,009, reading two words up to 30,006.
 const LONGEST: u32 = 30_006;
 
-/// A byte of a content, or 0 behind it.
+/// A byte of a content, or 0 after it.
 fn byte(content: &[u8], at: usize) -> u8
     ensures { result ≡ slice_index content.now at }
 {

@@ -5,7 +5,7 @@ use station_cases::{Pattern, Shelf, Trouble};
 use station_files::{Fault, Store};
 use station_listing::Code;
 use station_serve::wire::back_up_to;
-use station_troubles::{Noting, OUTPUT, Told};
+use station_troubles::{Noting, OUTPUT, Reported};
 use std::alloc::{AllocError, Global};
 use std::rt::Clock;
 use wire_bringup::Sizes;
@@ -170,13 +170,13 @@ fn ends_so<R: Clock + AllocGlobal>(
     }
     let mut noting = Noting::new(alloc, &mut shelf, true);
     let ended = back_up(rt, 1, &mut noting)?;
-    let is_told = match (refused, noting.told(Code::Exists, OUTPUT)) {
-        (Some(name), Some(Told::Wrong(text))) => text.starts_with(name),
+    let is_reported = match (refused, noting.reported(Code::Exists, OUTPUT)) {
+        (Some(name), Some(Reported::Wrong(text))) => text.starts_with(name),
         _ => false,
     };
     drop(noting);
     match refused {
-        Some(_) => Ok(is_told && is_refused(ended) && shelf.writes == 0),
+        Some(_) => Ok(is_reported && is_refused(ended) && shelf.writes == 0),
         None => Ok(ended.is_none() && is_backup(alloc, &shelf, 1, area)?),
     }
 }

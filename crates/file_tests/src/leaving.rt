@@ -1,5 +1,5 @@
-//! A file of a shelf, call by call: what a power cut leaves of it is among what `site_file` (`specs/Files`) allows behind these calls. POSIX: bytes
-//! that a sync has made durable stay; what was written since, or in a call that failed, may be anything; behind a failure no sync proves anything.
+//! A file of a shelf, call by call: what a power cut leaves of it is among what `site_file` (`specs/Files`) allows after these calls. POSIX: bytes
+//! that a sync has made durable stay; what was written since, or in a call that failed, may be anything; after a failure no sync proves anything.
 
 use site_file::RandomAccessFile;
 use station_cases::{Pattern, Shelf, Trouble};
@@ -60,14 +60,14 @@ struct Byte {
 
 /// A file by what it was asked.
 #[derive(Clone, Copy)]
-struct Asked {
+struct AskedFile {
     bytes: [Byte; 8],
     /// Whether each call has succeeded so far.
     is_sound: bool,
 }
 
-impl Asked {
-    fn new() -> Asked {
+impl AskedFile {
+    fn new() -> AskedFile {
         let mut bytes = [Byte {
             now: 0,
             is_synced: true,
@@ -75,7 +75,7 @@ impl Asked {
         for (byte, before) in bytes.iter_mut().zip(BEFORE.iter()) {
             byte.now = *before;
         }
-        Asked {
+        AskedFile {
             bytes,
             is_sound: true,
         }
@@ -118,13 +118,13 @@ impl Asked {
     }
 
     /// How many bytes may be anything.
-    fn free(&self) -> usize {
+    fn vacant(&self) -> usize {
         self.bytes.iter().filter(|byte| !byte.is_synced).count()
     }
 }
 
 /// How many of these bytes a power cut has left as others than a read gives.
-fn others(asked: &Asked, left: &[u8]) -> usize {
+fn others(asked: &AskedFile, left: &[u8]) -> usize {
     asked
         .bytes
         .iter()
@@ -147,7 +147,7 @@ fn is_allowed(alloc: Global, calls: &[Call], trouble: Trouble, pattern: Pattern)
     shelf.put("file", &BEFORE).ok()?;
     shelf.trouble(trouble, pattern).ok()?;
     let file = shelf.open("file", &BEFORE).ok()?;
-    let mut asked = Asked::new();
+    let mut asked = AskedFile::new();
     for call in calls {
         asked.begin(*call);
         let has_succeeded = done(&file, *call).is_ok();
@@ -158,7 +158,7 @@ fn is_allowed(alloc: Global, calls: &[Call], trouble: Trouble, pattern: Pattern)
         }
         if asked.is_sound
             && pattern == Pattern::Fill(0xEE)
-            && others(&asked, &left) != asked.free()
+            && others(&asked, &left) != asked.vacant()
         {
             return Some(false);
         }

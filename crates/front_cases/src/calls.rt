@@ -1,7 +1,7 @@
 //! Tries a run whose power is cut, or whose disk fails, in each of its calls that write or sync.
 
 use crate::bench::Bench;
-use crate::tries::{print_words, try_behind};
+use crate::tries::{print_words, try_after};
 use station_cases::{Printed, Run, Shelf, Trouble, wrong_of};
 use std::alloc::Global;
 use std::io;
@@ -15,7 +15,7 @@ pub enum Mishap {
     Cut,
     /// The call fails.
     Error,
-    /// It fails, and all calls behind it.
+    /// It fails, and all calls after it.
     Full,
     /// It fails, and then the disk works again, without a power cut before the next run.
     Mended,
@@ -55,7 +55,7 @@ struct Tried {
     /// The lines that one recovery mends.
     once: Vec<Mended>,
     /// The lines that a recovery mends after an earlier one was cut, in each of its calls.
-    behind_cuts: Vec<Mended>,
+    after_cuts: Vec<Mended>,
 }
 
 /// How many calls a run makes at most.
@@ -74,7 +74,7 @@ pub fn try_calls<'a>(
 ) -> io::Result<&'a str> {
     let mut tried = Tried {
         once: Vec::new(bench.alloc),
-        behind_cuts: Vec::new(bench.alloc),
+        after_cuts: Vec::new(bench.alloc),
     };
     for call in 0..CALLS {
         match try_call(rt, bench, run, (mishap, call), &mut tried)? {
@@ -104,11 +104,11 @@ fn try_call<'a>(
     if !wrong.is_empty() {
         return Ok(Ended::Wrong(wrong));
     }
-    let told = durable_of(&bench.printed);
-    if told.is_some() != run.count("totals").is_some_and(|first| call >= first) {
+    let reported = durable_of(&bench.printed);
+    if reported.is_some() != run.count("totals").is_some_and(|first| call >= first) {
         return Ok(Ended::Wrong("whether the totals are told"));
     }
-    let durable = told.unwrap_or(0);
+    let durable = reported.unwrap_or(0);
     let has_come = shelf.troubles.has_come();
     if matches!(mishap, Mishap::Mended) {
         shelf.trouble(Trouble::Nothing, run.pattern()?)?;
@@ -133,7 +133,7 @@ fn wrong_mishap<'a>(
 ) -> io::Result<&'a str> {
     if !shelf.troubles.has_come() {
         wrong_of(bench.alloc, run, &bench.printed, shelf)
-    } else if matches!(trouble, Trouble::Cut(_)) || is_told(&bench.printed) {
+    } else if matches!(trouble, Trouble::Cut(_)) || is_reported(&bench.printed) {
         Ok("")
     } else {
         Ok("the fault of a failure")
@@ -141,12 +141,12 @@ fn wrong_mishap<'a>(
 }
 
 /// Whether a run printed a fault of a file or a device.
-fn is_told(printed: &Printed) -> bool {
+fn is_reported(printed: &Printed) -> bool {
     (printed.status == 3 || printed.status == 4) && printed.faults.starts_with(b"fault ")
 }
 
 /// What a run prints if this many commands are durable.
-const TOLD: &[(&str, usize)] = &[
+const REPORTED: &[(&str, usize)] = &[
     (" durable 0 ", 0),
     (" durable 1 ", 1),
     (" durable 2 ", 2),
@@ -156,7 +156,7 @@ const TOLD: &[(&str, usize)] = &[
 /// How many commands are durable by the totals that a run printed. None: it printed no totals.
 fn durable_of(printed: &Printed) -> Option<usize> {
     let text = str::from_utf8(&printed.output).unwrap_or("");
-    for (words, count) in TOLD {
+    for (words, count) in REPORTED {
         if text.contains(*words) {
             return Some(*count);
         }
@@ -164,7 +164,7 @@ fn durable_of(printed: &Printed) -> Option<usize> {
     None
 }
 
-/// Tries what is run behind a run, over what a power cut leaves; where the run says so, also behind a cut in each call of a first such try.
+/// Tries what is run after a run, over what a power cut leaves; where the run says so, also after a cut in each call of a first such try.
 fn try_left<'a>(
     rt: &(impl Wait + Threads + Sync),
     bench: &mut Bench,
@@ -175,9 +175,9 @@ fn try_left<'a>(
 ) -> io::Result<&'a str> {
     let mut left = shelf.left()?;
     if run.said("again").is_none() {
-        return try_behind(rt, bench, run, &mut left, durable);
+        return try_after(rt, bench, run, &mut left, durable);
     }
-    if !is_new(bench.alloc, run, &left, durable, &mut tried.behind_cuts)? {
+    if !is_new(bench.alloc, run, &left, durable, &mut tried.after_cuts)? {
         return Ok("");
     }
     try_cuts(rt, bench, run, &left, durable, &mut tried.once)
@@ -231,7 +231,7 @@ fn try_cuts<'a>(
     Err(io::Error::other("calls without an end"))
 }
 
-/// Tries what is run behind a run, unless that was tried on this line.
+/// Tries what is run after a run, unless that was tried on this line.
 fn try_mended<'a>(
     rt: &(impl Wait + Threads + Sync),
     bench: &mut Bench,
@@ -243,5 +243,5 @@ fn try_mended<'a>(
     if !is_new(bench.alloc, run, left, durable, tried)? {
         return Ok("");
     }
-    try_behind(rt, bench, run, left, durable)
+    try_after(rt, bench, run, left, durable)
 }

@@ -57,7 +57,7 @@ fn read_table(rt: &HostRuntime, alloc: Global, name: &str) -> io::Result<Table> 
     }
 }
 
-/// Tries the cases of the files behind the first, whose contents they name.
+/// Tries the cases of the files after the first, whose contents they name.
 fn try_files(
     rt: &(impl Print + Wait + Threads + Sync),
     bench: &mut Bench,

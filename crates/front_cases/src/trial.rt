@@ -2,7 +2,7 @@
 
 use crate::bench::Bench;
 use crate::calls::{Mishap, try_calls};
-use crate::tries::{try_behind, try_inputs, try_once, try_outputs, try_page, try_plan};
+use crate::tries::{try_after, try_inputs, try_once, try_outputs, try_page, try_plan};
 use station_cases::{Full, Run, Shelf};
 use std::io::Print;
 use std::sync::Wait;
@@ -113,7 +113,7 @@ fn try_so<'a>(
     }
 }
 
-/// Tries a run once, and what is run behind it.
+/// Tries a run once, and what is run after it.
 fn try_plainly<'a>(
     rt: &(impl Wait + Threads + Sync),
     bench: &mut Bench,
@@ -121,7 +121,7 @@ fn try_plainly<'a>(
     shelf: &mut Shelf,
 ) -> io::Result<&'a str> {
     match try_once(rt, bench, run, shelf)? {
-        "" => try_behind(rt, bench, run, shelf, 0),
+        "" => try_after(rt, bench, run, shelf, 0),
         wrong => Ok(wrong),
     }
 }

@@ -70,12 +70,12 @@ pub fn try_outputs<'a>(
     run: &Run<'a>,
     then: Full,
 ) -> io::Result<&'a str> {
-    let whole = match run.said("output") {
+    let entire = match run.said("output") {
         Some(contents) => bytes_of(bench.alloc, run.named, contents)?,
         None => Vec::new(bench.alloc),
     };
-    for bytes in 0..whole.len() {
-        let taken = whole.get(..bytes).unwrap_or(&whole);
+    for bytes in 0..entire.len() {
+        let taken = entire.get(..bytes).unwrap_or(&entire);
         let wrong = try_output(rt, bench, run, Room { bytes, then }, taken)?;
         if !wrong.is_empty() {
             return Ok(wrong);
@@ -94,11 +94,12 @@ fn try_output<'a>(
     let mut shelf = run.shelf(bench.alloc)?;
     print_into(rt, bench, run, room, &mut shelf)?;
     let printed = &bench.printed;
-    let is_told = printed.status == 3 && printed.faults.as_slice() == "fault 90 File\n".as_bytes();
-    if !is_told || printed.output.as_slice() != taken {
+    let is_reported = printed.status == 3
+        && printed.faults.as_slice() == "fault 90 File\n".as_bytes();
+    if !is_reported || printed.output.as_slice() != taken {
         return Ok("a cut output");
     }
-    try_behind(rt, bench, run, &mut shelf, 0)
+    try_after(rt, bench, run, &mut shelf, 0)
 }
 
 fn print_into(
@@ -117,12 +118,12 @@ fn print_into(
     Ok(())
 }
 
-/// Tries what is run behind each try of a run, over the files that it left. So many commands were durable.
+/// Tries what is run after each try of a run, over the files that it left. So many commands were durable.
 ///
 /// # Errors
 ///
 /// The run is malformed, or memory was refused.
-pub fn try_behind<'a>(
+pub fn try_after<'a>(
     rt: &(impl Wait + Threads + Sync),
     bench: &mut Bench,
     run: &Run<'a>,
@@ -203,9 +204,9 @@ pub fn try_plan<'a>(
     let plan = mem::replace(&mut bench.printed, Bench::new(bench.alloc).printed);
     print_words(rt, bench, run, run.args(), shelf)?;
     let changes = changes_of(bench.alloc, run, &before, shelf)?;
-    let is_told = is_foreseen(&plan, bench, changes.as_str())?;
+    let is_reported = is_foreseen(&plan, bench, changes.as_str())?;
     bench.printed = plan;
-    Ok(if is_told { "" } else { "the plan" })
+    Ok(if is_reported { "" } else { "the plan" })
 }
 
 /// Whether a plan says what the last run printed, and then these words that it changed.

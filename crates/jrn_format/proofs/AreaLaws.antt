@@ -6,7 +6,7 @@ use Rattle.std.proofs.lemmas.List.{length-append, append-nil}
 use Rattle.std.proofs.lemmas.List.Concat.{flat_map-append}
 use Rattle.jrn_format.specs.declared.journal.Batch.{Batch}
 use Rattle.jrn_format.specs.declared.journal.Spelling.{Spelling}
-use Rattle.jrn_format.specs.Batch.{spelt_behind, spelt_batch, CanStand}
+use Rattle.jrn_format.specs.Batch.{spelt_after, spelt_batch, CanStand}
 use Rattle.jrn_format.specs.Area.{spelt_batches, IsClosed, IsLive}
 use Rattle.jrn_format.specs.steps.Reading.{batch_at}
 use Rattle.jrn_format.proofs.Numbers.{some_is}
@@ -16,11 +16,11 @@ use Rattle.jrn_format.proofs.HalvesGrammar.{All-join}
 
 -- ---- one list at most
 
--- a closed gate is behind the batches
-record Ends (spelling : Spelling) (half : ℕ) (area : List ℕ) (batches : List Batch) (gate : ℕ) (behind : List ℕ) : Type 0 where
+-- a closed gate is after the batches
+record Ends (spelling : Spelling) (half : ℕ) (area : List ℕ) (batches : List Batch) (gate : ℕ) (after : List ℕ) : Type 0 where
   closed : gate ≢ 0xA5
   can_stand : AllByRecursion (CanStand spelling half) batches
-  spelt : area ≡ spelt_batches spelling batches ++ gate ∷ behind
+  spelt : area ≡ spelt_batches spelling batches ++ gate ∷ after
 
 ends_of : (spelling : Spelling) (half : ℕ) (area : List ℕ) (batches : List Batch) (live : IsLive spelling half area batches) → Ends spelling half area batches live.ends.0 live.ends.1
 ends_of spelling half area batches live = record {
@@ -31,11 +31,11 @@ ends_of spelling half area batches live = record {
 
 -- the batch in front, and what follows it
 split_batch : (spelling : Spelling) (batch : Batch) (batches : List Batch) (tail : List ℕ)
-    → spelt_batches spelling (batch ∷ batches) ++ tail ≡ 0xA5 ∷ spelt_behind spelling batch.generation batch.entries ++ (spelt_batches spelling batches ++ tail)
+    → spelt_batches spelling (batch ∷ batches) ++ tail ≡ 0xA5 ∷ spelt_after spelling batch.generation batch.entries ++ (spelt_batches spelling batches ++ tail)
 split_batch spelling batch batches tail = append_assoc (spelt_batch spelling batch) (spelt_batches spelling batches) tail
 
 same_first : (spelling : Spelling) (half : ℕ) (x y : Batch) (a b : List ℕ) → CanStand spelling half x → CanStand spelling half y → 0 < length a → 0 < length b
-    → spelt_behind spelling x.generation x.entries ++ a ≡ spelt_behind spelling y.generation y.entries ++ b → (x ≡ y) × (a ≡ b)
+    → spelt_after spelling x.generation x.entries ++ a ≡ spelt_after spelling y.generation y.entries ++ b → (x ≡ y) × (a ≡ b)
 same_first spelling half x y a b can can' some some' e =
     let one : Batch × List ℕ = (x, a) in
     let two : Batch × List ℕ = (y, b) in
@@ -47,15 +47,15 @@ one_list : (spelling : Spelling) (half : ℕ) (xs ys : List Batch) (g h : ℕ) (
     → spelt_batches spelling xs ++ g ∷ a ≡ spelt_batches spelling ys ++ h ∷ b → xs ≡ ys
 one_list spelling half [] [] g h a b gc hc cx cy e = refl
 one_list spelling half [] (y ∷ ys) g h a b gc hc cx cy e =
-    let whole = e ∙ split_batch spelling y ys (h ∷ b) in let gate : g ≡ 0xA5 = cc in absurd (gc gate)
+    let entire = e ∙ split_batch spelling y ys (h ∷ b) in let gate : g ≡ 0xA5 = cc in absurd (gc gate)
 one_list spelling half (x ∷ xs) [] g h a b gc hc cx cy e =
-    let whole = sym e ∙ split_batch spelling x xs (g ∷ a) in let gate : h ≡ 0xA5 = cc in absurd (hc gate)
+    let entire = sym e ∙ split_batch spelling x xs (g ∷ a) in let gate : h ≡ 0xA5 = cc in absurd (hc gate)
 one_list spelling half (x ∷ xs) (y ∷ ys) g h a b gc hc cx cy e =
     let left = spelt_batches spelling xs ++ g ∷ a in
     let right = spelt_batches spelling ys ++ h ∷ b in
-    let whole : 0xA5 ∷ spelt_behind spelling x.generation x.entries ++ left ≡ 0xA5 ∷ spelt_behind spelling y.generation y.entries ++ right =
+    let entire : 0xA5 ∷ spelt_after spelling x.generation x.entries ++ left ≡ 0xA5 ∷ spelt_after spelling y.generation y.entries ++ right =
     sym (split_batch spelling x xs (g ∷ a)) ∙ e ∙ split_batch spelling y ys (h ∷ b) in
-    let first = same_first spelling half x y left right cx.0 cy.0 (omega (arith, length-append (spelt_batches spelling xs) (g ∷ a))) (omega (arith, length-append (spelt_batches spelling ys) (h ∷ b))) (ap (drop 1) whole) in
+    let first = same_first spelling half x y left right cx.0 cy.0 (omega (arith, length-append (spelt_batches spelling xs) (g ∷ a))) (omega (arith, length-append (spelt_batches spelling ys) (h ∷ b))) (ap (drop 1) entire) in
     let others = one_list spelling half xs ys g h a b gc hc cx.1 cy.1 first.1 in
     ap (λ (z : Batch). z ∷ xs) first.0 ∙ ap (λ (zs : List Batch). y ∷ zs) others
 
@@ -85,24 +85,24 @@ first_live spelling half batch batches rest can live =
 
 -- ---- one batch more
 
-pub same_before : (spelling : Spelling) (half : ℕ) (batches : List Batch) (gate : ℕ) (rest : List ℕ) (other : ℕ) (behind : List ℕ)
-    → IsLive spelling half (spelt_batches spelling batches ++ gate ∷ rest) batches → other ≢ 0xA5 → IsLive spelling half (spelt_batches spelling batches ++ other ∷ behind) batches
-same_before spelling half batches gate rest other behind live closed =
-    record { rest = other ∷ behind; starts = record { can_stand = live.starts.can_stand; spelt = refl }; ends = (other, behind, closed, refl) }
+pub same_before : (spelling : Spelling) (half : ℕ) (batches : List Batch) (gate : ℕ) (rest : List ℕ) (other : ℕ) (after : List ℕ)
+    → IsLive spelling half (spelt_batches spelling batches ++ gate ∷ rest) batches → other ≢ 0xA5 → IsLive spelling half (spelt_batches spelling batches ++ other ∷ after) batches
+same_before spelling half batches gate rest other after live closed =
+    record { rest = other ∷ after; starts = record { can_stand = live.starts.can_stand; spelt = refl }; ends = (other, after, closed, refl) }
 
-pub appended : (spelling : Spelling) (half : ℕ) (batches : List Batch) (gate : ℕ) (rest : List ℕ) (batch : Batch) (closing : ℕ) (behind : List ℕ)
+pub appended : (spelling : Spelling) (half : ℕ) (batches : List Batch) (gate : ℕ) (rest : List ℕ) (batch : Batch) (closing : ℕ) (after : List ℕ)
     → IsLive spelling half (spelt_batches spelling batches ++ gate ∷ rest) batches → CanStand spelling half batch → closing ≢ 0xA5
-    → rest ≡ spelt_behind spelling batch.generation batch.entries ++ closing ∷ behind
+    → rest ≡ spelt_after spelling batch.generation batch.entries ++ closing ∷ after
     → IsLive spelling half (spelt_batches spelling batches ++ 0xA5 ∷ rest) (batches ++ batch ∷ [])
-appended spelling half batches gate rest batch closing behind live can closed e =
+appended spelling half batches gate rest batch closing after live can closed e =
     let spelt = spelt_batches spelling batches in
     let all : spelt_batches spelling (batches ++ batch ∷ []) ≡ spelt ++ spelt_batch spelling batch =
     flat_map-append (spelt_batch spelling) batches (batch ∷ []) ∙ ap (λ (t : List ℕ). spelt ++ t) (append-nil (spelt_batch spelling batch)) in
     record {
-      rest = closing ∷ behind;
+      rest = closing ∷ after;
       starts = record {
         can_stand = All-join (CanStand spelling half) batches (batch ∷ []) live.starts.can_stand (can, tt);
-        spelt = ap (λ (t : List ℕ). spelt ++ 0xA5 ∷ t) e ∙ sym (append_assoc spelt (spelt_batch spelling batch) (closing ∷ behind)) ∙ ap (λ (t : List ℕ). t ++ closing ∷ behind) (sym all);
+        spelt = ap (λ (t : List ℕ). spelt ++ 0xA5 ∷ t) e ∙ sym (append_assoc spelt (spelt_batch spelling batch) (closing ∷ after)) ∙ ap (λ (t : List ℕ). t ++ closing ∷ after) (sym all);
       };
-      ends = (closing, behind, closed, refl);
+      ends = (closing, after, closed, refl);
     }

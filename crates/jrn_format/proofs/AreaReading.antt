@@ -8,7 +8,7 @@ use Rattle.jrn_format.specs.declared.journal.Spelling.TheVariants.{Plain, WithGe
 use Rattle.jrn_format.specs.declared.fault.JournalFault.{JournalFault}
 use Rattle.jrn_format.specs.declared.fault.JournalFault.TheVariants.{Memory, NotAJournal, BadVersion, WrongLine, BadJournal}
 use Rattle.jrn_format.specs.Memory.{UnlessMemory}
-use Rattle.jrn_format.specs.steps.Reading.{◌>>=◌, ◌>>>◌, Front, number_at, entries_of, generation_at, batch_at, batch_is_within, judged, front_of, batches_behind, batches_below, batches_of}
+use Rattle.jrn_format.specs.steps.Reading.{◌>>=◌, ◌>>>◌, Front, number_at, entries_of, generation_at, batch_at, batch_is_within, validated, front_of, batches_after, batches_below, batches_of}
 use Rattle.jrn_format.specs.steps.Reading.Front.{Closed, Live, Bad}
 use Rattle.jrn_format.proofs.Numbers.{bind_some, some_is, guard_some}
 
@@ -28,9 +28,9 @@ generation_shorter Plain bytes x e =
     let rest : bytes ≡ x.1 = ap (λ (y : ℕ × List ℕ). y.1) (some_is made x e) in
     omega (arith, ap length rest)
 generation_shorter WithGeneration [] x e = absurd cc
-generation_shorter WithGeneration (generation ∷ behind) x e =
-    let made : ℕ × List ℕ = (generation, behind) in
-    let rest : behind ≡ x.1 = ap (λ (y : ℕ × List ℕ). y.1) (some_is made x e) in
+generation_shorter WithGeneration (generation ∷ after) x e =
+    let made : ℕ × List ℕ = (generation, after) in
+    let rest : after ≡ x.1 = ap (λ (y : ℕ × List ℕ). y.1) (some_is made x e) in
     omega (arith, ap length rest)
 
 batch_shorter : (spelling : Spelling) (half : ℕ) (bytes : List ℕ) (x : Batch × List ℕ) → batch_at spelling half bytes ≡ Some x → length x.1 ≤ length bytes
@@ -47,10 +47,10 @@ chosen_live : (b : Bool) (made batch : Batch) (after rest : List ℕ) → cond b
 chosen_live true made batch after rest e = (refl, cc, cc)
 chosen_live false made batch after rest e = absurd cc
 
-pub judged_live : (sizes : List ℕ) (at : ℕ) (read : Option (Batch × List ℕ)) (batch : Batch) (rest : List ℕ) → judged sizes at read ≡ Live batch rest
+pub validated_live : (sizes : List ℕ) (at : ℕ) (read : Option (Batch × List ℕ)) (batch : Batch) (rest : List ℕ) → validated sizes at read ≡ Live batch rest
     → (x : Batch × List ℕ) × (read ≡ Some x) × (batch_is_within sizes x.0 ≡ true) × (x.0 ≡ batch) × (x.1 ≡ rest)
-judged_live sizes at None batch rest e = absurd cc
-judged_live sizes at (Some x) batch rest e =
+validated_live sizes at None batch rest e = absurd cc
+validated_live sizes at (Some x) batch rest e =
     let p = chosen_live (batch_is_within sizes x.0) x.0 batch x.1 rest e in
     (x, refl, p.0, p.1, p.2)
 
@@ -62,19 +62,19 @@ pub front_shorter : (spelling : Spelling) (half : ℕ) (sizes : List ℕ) (end :
     → front_of spelling half sizes end bytes ≡ Live batch rest → length rest < length bytes
 unfolding front_of
 front_shorter spelling half sizes end [] batch rest e = absurd cc
-front_shorter spelling half sizes end (gate ∷ behind) batch rest e =
-    let at = end - (length behind + 1) in
-    let p = opened_live (eqb gate 0xA5) (judged sizes at (batch_at spelling half behind)) batch rest e in
-    let q = judged_live sizes at (batch_at spelling half behind) batch rest p.1 in
-    omega (arith, batch_shorter spelling half behind q.0 q.1, ap length q.4)
+front_shorter spelling half sizes end (gate ∷ after) batch rest e =
+    let at = end - (length after + 1) in
+    let p = opened_live (eqb gate 0xA5) (validated sizes at (batch_at spelling half after)) batch rest e in
+    let q = validated_live sizes at (batch_at spelling half after) batch rest p.1 in
+    omega (arith, batch_shorter spelling half after q.0 q.1, ap length q.4)
 
 -- ---- one step
 
-same_behind : (front : Front) (f g : List ℕ → Result (List Batch) JournalFault) → ((batch : Batch) (rest : List ℕ) → front ≡ Live batch rest → f rest ≡ g rest)
-    → batches_behind front f ≡ batches_behind front g
-same_behind Closed f g h = refl
-same_behind (Live batch rest) f g h = ap (λ read. read >>> λ batches. Ok (batch ∷ batches)) (h batch rest refl)
-same_behind (Bad fault) f g h = refl
+same_after : (front : Front) (f g : List ℕ → Result (List Batch) JournalFault) → ((batch : Batch) (rest : List ℕ) → front ≡ Live batch rest → f rest ≡ g rest)
+    → batches_after front f ≡ batches_after front g
+same_after Closed f g h = refl
+same_after (Live batch rest) f g h = ap (λ read. read >>> λ batches. Ok (batch ∷ batches)) (h batch rest refl)
+same_after (Bad fault) f g h = refl
 
 -- any bound above the number of bytes gives the same
 enough : (spelling : Spelling) (half : ℕ) (sizes : List ℕ) (end m n : ℕ) (area : List ℕ) → length area < m → length area < n
@@ -83,7 +83,7 @@ unfolding batches_below
 enough spelling half sizes end zero n area h k = absurd (omega arith)
 enough spelling half sizes end (suc m) zero area h k = absurd (omega arith)
 enough spelling half sizes end (suc m) (suc n) area h k =
-    same_behind (front_of spelling half sizes end area) (batches_below spelling half sizes end m) (batches_below spelling half sizes end n)
+    same_after (front_of spelling half sizes end area) (batches_below spelling half sizes end m) (batches_below spelling half sizes end n)
     (λ batch rest e. let lt : length rest < length area = front_shorter spelling half sizes end area batch rest e in enough spelling half sizes end m n rest (omega arith) (omega arith))
 
 pub batches_of-live : (spelling : Spelling) (half : ℕ) (sizes : List ℕ) (end : ℕ) (area : List ℕ) (batch : Batch) (rest : List ℕ) → front_of spelling half sizes end area ≡ Live batch rest
@@ -91,17 +91,17 @@ pub batches_of-live : (spelling : Spelling) (half : ℕ) (sizes : List ℕ) (end
 unfolding batches_of batches_below
 batches_of-live spelling half sizes end area batch rest e =
     let lt : length rest < length area = front_shorter spelling half sizes end area batch rest e in
-    ap (λ front. batches_behind front (batches_below spelling half sizes end (length area))) e
+    ap (λ front. batches_after front (batches_below spelling half sizes end (length area))) e
     ∙ ap (λ read. read >>> λ batches. Ok (batch ∷ batches)) (enough spelling half sizes end (length area) (suc (length rest)) rest (omega arith) (omega arith))
 
 pub batches_of-closed : (spelling : Spelling) (half : ℕ) (sizes : List ℕ) (end : ℕ) (area : List ℕ) → front_of spelling half sizes end area ≡ Closed → batches_of spelling half sizes end area ≡ Ok []
 unfolding batches_of batches_below
-batches_of-closed spelling half sizes end area e = ap (λ front. batches_behind front (batches_below spelling half sizes end (length area))) e
+batches_of-closed spelling half sizes end area e = ap (λ front. batches_after front (batches_below spelling half sizes end (length area))) e
 
 pub batches_of-bad : (spelling : Spelling) (half : ℕ) (sizes : List ℕ) (end : ℕ) (area : List ℕ) (fault : JournalFault) → front_of spelling half sizes end area ≡ Bad fault
     → batches_of spelling half sizes end area ≡ Err fault
 unfolding batches_of batches_below
-batches_of-bad spelling half sizes end area fault e = ap (λ front. batches_behind front (batches_below spelling half sizes end (length area))) e
+batches_of-bad spelling half sizes end area fault e = ap (λ front. batches_after front (batches_below spelling half sizes end (length area))) e
 
 -- ---- a loop: the batches read before, and those of the rest
 

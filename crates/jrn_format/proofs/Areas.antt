@@ -49,7 +49,7 @@ ends_there spelling half sizes end area (Live batch rest) e h =
     let never = ok_is (batch ∷ step.0) [] step.2 in absurd cc
 ends_there spelling half sizes end area (Bad fault) e h = let never = sym (batches_of-bad spelling half sizes end area fault e) ∙ h in absurd cc
 
--- the first batch, and what is read behind it
+-- the first batch, and what is read after it
 record GoesOn (spelling : Spelling) (half : ℕ) (sizes : List ℕ) (end : ℕ) (area : List ℕ) (batch : Batch) (batches : List Batch) : Type 0 where
   rest : List ℕ
   front : front_of spelling half sizes end area ≡ Live batch rest
@@ -133,10 +133,10 @@ reads_through : (spelling : Spelling) (half : ℕ) (sizes : List ℕ) (end : ℕ
     → 0 < length rest → batches_of spelling half sizes end (spelt_batches spelling batches ++ rest) ≡ (batches_of spelling half sizes end rest >>> λ more. Ok (batches ++ more))
 reads_through spelling half sizes end [] rest can within some = nothing_before (batches_of spelling half sizes end rest)
 reads_through spelling half sizes end (batch ∷ batches) rest can within some =
-    let behind = spelt_batches spelling batches ++ rest in
-    let more : 0 < length behind = omega (arith, length-append (spelt_batches spelling batches) rest) in
+    let after = spelt_batches spelling batches ++ rest in
+    let more : 0 < length after = omega (arith, length-append (spelt_batches spelling batches) rest) in
     ap (batches_of spelling half sizes end) (append_assoc (spelt_batch spelling batch) (spelt_batches spelling batches) rest)
-    ∙ batches_of-live spelling half sizes end (spelt_batch spelling batch ++ behind) batch behind (live_front spelling half sizes end batch behind can.0 within.0 more)
+    ∙ batches_of-live spelling half sizes end (spelt_batch spelling batch ++ after) batch after (live_front spelling half sizes end batch after can.0 within.0 more)
     ∙ ap (λ r. r >>> λ all. Ok (batch ∷ all)) (reads_through spelling half sizes end batches rest can.1 within.1 some)
     ∙ one_before batch batches (batches_of spelling half sizes end rest)
 
@@ -151,8 +151,8 @@ live_area spelling half sizes end area batches live within =
     ∙ ap (λ r. r >>> λ more. Ok (batches ++ more)) (batches_of-closed spelling half sizes end live.rest (closed_front spelling half sizes end live.rest live.ends))
     ∙ ap (λ (bs : List Batch). Ok bs) (append-nil batches)
 
-pub IsBytes-behind : (front rest : List ℕ) → IsBytes (front ++ rest) → IsBytes rest
-IsBytes-behind front rest h i = rw (← get_or-append-add front rest i 0) (h (length front + i))
+pub IsBytes-after : (front rest : List ℕ) → IsBytes (front ++ rest) → IsBytes rest
+IsBytes-after front rest h i = rw (← get_or-append-add front rest i 0) (h (length front + i))
 
 stops : (spelling : Spelling) (half : ℕ) (sizes : List ℕ) (end : ℕ) (area : List ℕ) (batches : List Batch) (rest : List ℕ) (fault : JournalFault) → StartsWith spelling half area batches rest
     → AllByRecursion (IsWithin sizes) batches → 0 < length rest → front_of spelling half sizes end rest ≡ Bad fault → batches_of spelling half sizes end area ≡ Err fault
@@ -164,7 +164,7 @@ stops spelling half sizes end area batches rest fault starts within some bad =
 pub cut_area : (spelling : Spelling) (half : ℕ) (sizes : List ℕ) (end : ℕ) (area : List ℕ) (fault : JournalFault) → IsBytes area → IsUnreadableArea spelling half sizes end area fault
     → batches_of spelling half sizes end area ≡ Err fault
 cut_area spelling half sizes end area fault good (malformed batches rest at starts within is_open none place is) =
-    let good_rest = IsBytes-behind (spelt_batches spelling batches) rest (subst IsBytes starts.spelt good) in
+    let good_rest = IsBytes-after (spelt_batches spelling batches) rest (subst IsBytes starts.spelt good) in
     stops spelling half sizes end area batches rest (BadJournal at) starts within (omega (arith, ap length is_open.1)) (malformed_front spelling half sizes end rest at good_rest is_open none place)
     ∙ ap (λ (f : JournalFault). Err f) (sym is)
 cut_area spelling half sizes end area fault good (outside batches rest batch starts within has out is) =

@@ -1,4 +1,4 @@
--- Batches: what is read behind an open gate is spelt so, and what is spelt is read again.
+-- Batches: what is read after an open gate is spelt so, and what is spelt is read again.
 use Rattle.std.proofs.Common.{◌≡◌, ℕ, suc, ◌<◌, Bool, true, false, cond, ltb, List, [], ◌∷◌, ◌++◌, length, take, drop, Option, Some, None, refl, sym, ap, subst, ◌∙◌, append_assoc, arith}
 use Rattle.std.specs.Int.{w32, to_le_bytes}
 use Rattle.std.proofs.lemmas.Bool.{ltb-true, lt-ltb}
@@ -7,7 +7,7 @@ use Rattle.jrn_format.specs.declared.journal.Entry.{Entry}
 use Rattle.jrn_format.specs.declared.journal.Batch.{Batch}
 use Rattle.jrn_format.specs.declared.journal.Spelling.{Spelling}
 use Rattle.jrn_format.specs.declared.journal.Spelling.TheVariants.{Plain, WithGeneration}
-use Rattle.jrn_format.specs.Batch.{spelt_payload, spelt_generation, spelt_behind, GenerationFits, CanStand}
+use Rattle.jrn_format.specs.Batch.{spelt_payload, spelt_generation, spelt_after, GenerationFits, CanStand}
 use Rattle.jrn_format.specs.steps.Reading.{◌>>=◌, number_at, entries_of, generation_at, batch_at}
 use Rattle.jrn_format.proofs.Numbers.{IsBytes, IsBytes-take, IsBytes-drop, bind_some, some_is, Takes, Takes-then, reader32}
 use Rattle.jrn_format.proofs.Payload.{payload_takes, payload_again}
@@ -34,7 +34,7 @@ found_some false o y e = absurd cc
 -- what reading a batch gives
 pub record TakesBatch (spelling : Spelling) (half : ℕ) (bytes : List ℕ) (batch : Batch) (rest : List ℕ) : Type 0 where
   pub can_stand : CanStand spelling half batch
-  pub takes : Takes bytes (spelt_behind spelling batch.generation batch.entries) rest
+  pub takes : Takes bytes (spelt_after spelling batch.generation batch.entries) rest
   pub more : 0 < length rest
 
 pub batch_takes : (spelling : Spelling) (half : ℕ) (bytes : List ℕ) (x : Batch × List ℕ) → IsBytes bytes → batch_at spelling half bytes ≡ Some x → TakesBatch spelling half bytes x.0 x.1
@@ -66,11 +66,11 @@ same_batch : (batch : Batch) (half : ℕ) → batch.half ≡ half → record { h
 same_batch batch half e = rw (← e) refl
 
 pub batch_again : (spelling : Spelling) (half : ℕ) (batch : Batch) (rest : List ℕ) → CanStand spelling half batch → 0 < length rest
-    → batch_at spelling half (spelt_behind spelling batch.generation batch.entries ++ rest) ≡ Some (batch, rest)
+    → batch_at spelling half (spelt_after spelling batch.generation batch.entries ++ rest) ≡ Some (batch, rest)
 unfolding batch_at
 batch_again spelling half batch rest can more =
     let payload = spelt_payload batch.entries in
-    let regrouped : spelt_behind spelling batch.generation batch.entries ++ rest ≡ spelt_generation spelling batch.generation ++ (to_le_bytes w32 (length payload) ++ (payload ++ rest)) =
+    let regrouped : spelt_after spelling batch.generation batch.entries ++ rest ≡ spelt_generation spelling batch.generation ++ (to_le_bytes w32 (length payload) ++ (payload ++ rest)) =
     append_assoc (spelt_generation spelling batch.generation ++ to_le_bytes w32 (length payload)) payload rest ∙ append_assoc (spelt_generation spelling batch.generation) (to_le_bytes w32 (length payload)) (payload ++ rest) in
     let short : ltb (length payload) (length (payload ++ rest)) ≡ true = lt-ltb _ _ (omega (arith, length-append payload rest)) in
     ap (batch_at spelling half) regrouped

@@ -5,7 +5,7 @@ use Rattle.std.proofs.lemmas.List.{take_at, drop_at, append-nil}
 use Rattle.jrn_format.specs.declared.journal.Entry.{Entry}
 use Rattle.jrn_format.specs.declared.journal.Batch.{Batch}
 use Rattle.jrn_format.specs.declared.journal.Spelling.TheVariants.{WithGeneration}
-use Rattle.jrn_format.specs.Batch.{spelt_behind, CanStand}
+use Rattle.jrn_format.specs.Batch.{spelt_after, CanStand}
 use Rattle.jrn_format.specs.Area.{spelt_batches, IsLive}
 use Rattle.jrn_format.specs.Halves.{Halves, other, live, next_generation, Place, InOlder, InNewer, half_of, batches_in, batch_in, with_batch, left_of, retired, IsSplit, HalvesStand, HasNext, older_area, newer_area, StandsBeside}
 use Rattle.jrn_format.specs.File.{joined, before, IsFile, IsLiveFile, StandInFile}
@@ -14,11 +14,11 @@ use Rattle.jrn_format.proofs.HalvesLaws.{stand-live, stand-with, stand-more, nex
 -- ---- a part of a half
 
 -- what follows a part of a half
-abbrev pub behind : ℕ → (r two last : List ℕ) → List ℕ
-behind zero r two last = r ++ (two ++ last)
-behind (suc n) r two last = r ++ last
+abbrev pub after : ℕ → (r two last : List ℕ) → List ℕ
+after zero r two last = r ++ (two ++ last)
+after (suc n) r two last = r ++ last
 
-pub split_file : (at : ℕ) (head p q r two last : List ℕ) → head ++ (joined at (p ++ (q ++ r)) two ++ last) ≡ (before at head two ++ p) ++ (q ++ behind at r two last)
+pub split_file : (at : ℕ) (head p q r two last : List ℕ) → head ++ (joined at (p ++ (q ++ r)) two ++ last) ≡ (before at head two ++ p) ++ (q ++ after at r two last)
 split_file zero head p q r two last = simp append_assoc refl
 split_file (suc n) head p q r two last = simp append_assoc refl
 
@@ -36,24 +36,24 @@ pub changed_file : (head : List ℕ) (at : ℕ) (p q over r two last bytes : Lis
 changed_file head at p q over r two last bytes file long = record {
   equal = let e : length (p ++ (q ++ r)) ≡ length two = file.equal in
       omega (arith, e, long, length-append p (q ++ r), length-append q r, length-append p (over ++ r), length-append over r);
-  is = changed_bytes bytes (before at head two ++ p) q over (behind at r two last) (file.is ∙ split_file at head p q r two last) long ∙ sym (split_file at head p over r two last);
+  is = changed_bytes bytes (before at head two ++ p) q over (after at r two last) (file.is ∙ split_file at head p q r two last) long ∙ sym (split_file at head p over r two last);
 }
 
 -- and the file is no longer than before
 pub changed_size : (head : List ℕ) (at : ℕ) (p q over r two last bytes : List ℕ) → IsFile head at (p ++ (q ++ r)) two last bytes → length over ≡ length q
     → let start = length (before at head two ++ p) in length (take start bytes ++ over ++ drop (start + length over) bytes) ≡ length bytes
 changed_size head at p q over r two last bytes file long =
-    let was : bytes ≡ (before at head two ++ p) ++ (q ++ behind at r two last) = file.is ∙ split_file at head p q r two last in
-    let is = changed_bytes bytes (before at head two ++ p) q over (behind at r two last) was long in
+    let was : bytes ≡ (before at head two ++ p) ++ (q ++ after at r two last) = file.is ∙ split_file at head p q r two last in
+    let is = changed_bytes bytes (before at head two ++ p) q over (after at r two last) was long in
     let f = before at head two ++ p in
-    let b = behind at r two last in
+    let b = after at r two last in
     omega (arith, ap length is, ap length was, long, length-append f (over ++ b), length-append over b, length-append f (q ++ b), length-append q b)
 
 -- ---- the halves in either order
 
-pub split_whole : (at : ℕ) (older newer : List ℕ) → length older ≡ length newer → IsSplit at (joined at older newer) older newer
-split_whole zero older newer equal = record { equal = equal; last = []; odd = omega arith; whole = ap (λ (l : List ℕ). older ++ l) (sym (append-nil newer)) }
-split_whole (suc n) older newer equal = record { equal = sym equal; last = []; odd = omega arith; whole = ap (λ (l : List ℕ). newer ++ l) (sym (append-nil older)) }
+pub split_complete : (at : ℕ) (older newer : List ℕ) → length older ≡ length newer → IsSplit at (joined at older newer) older newer
+split_complete zero older newer equal = record { equal = equal; last = []; odd = omega arith; entire = ap (λ (l : List ℕ). older ++ l) (sym (append-nil newer)) }
+split_complete (suc n) older newer equal = record { equal = sym equal; last = []; odd = omega arith; entire = ap (λ (l : List ℕ). newer ++ l) (sym (append-nil older)) }
 
 pub swap_joined : (at : ℕ) (one two : List ℕ) → at ≤ 1 → joined (other at) one two ≡ joined at two one
 swap_joined zero one two le = refl
@@ -72,7 +72,7 @@ file-live halves head older newer last bytes file stand = record {
   area = joined halves.at older newer;
   last = last;
   is = file.is;
-  live = stand-live halves (joined halves.at older newer) older newer (split_whole halves.at older newer file.equal) stand;
+  live = stand-live halves (joined halves.at older newer) older newer (split_complete halves.at older newer file.equal) stand;
 }
 
 pub stand_in_file-live : (halves : Halves) (head bytes : List ℕ) → StandInFile halves head bytes → IsLiveFile head bytes (live halves)
@@ -116,10 +116,10 @@ next-stands halves place entries head area beside last bytes gate file stands ne
       λ opened. place-more halves place entries head area beside last bytes file stands (lives.1 opened),
     )
 
--- ---- a batch behind a gate
+-- ---- a batch after a gate
 
-pub same_behind : (xs ys zs : List ℕ) → xs ++ ys ≡ xs ++ zs → ys ≡ zs
-same_behind xs ys zs is = sym (drop_at xs ys (length xs) refl) ∙ ap (drop (length xs)) is ∙ drop_at xs zs (length xs) refl
+pub same_after : (xs ys zs : List ℕ) → xs ++ ys ≡ xs ++ zs → ys ≡ zs
+same_after xs ys zs is = sym (drop_at xs ys (length xs) refl) ∙ ap (drop (length xs)) is ∙ drop_at xs zs (length xs) refl
 
 pub regate : (half : ℕ) (batches : List Batch) (batch : Batch) (gate new : ℕ) (rest : List ℕ) → HasNext half (spelt_batches WithGeneration batches ++ (gate ∷ rest)) batches batch gate → HasNext half (spelt_batches WithGeneration batches ++ (new ∷ rest)) batches batch new
 regate half batches batch gate new rest next = record {
@@ -127,23 +127,23 @@ regate half batches batch gate new rest next = record {
   can = next.can;
   closing = next.closing;
   closed = next.closed;
-  behind = next.behind;
+  after = next.after;
   is = ap (λ (l : List ℕ). spelt_batches WithGeneration batches ++ (new ∷ drop 1 l))
-      (same_behind (spelt_batches WithGeneration batches) (gate ∷ rest) (gate ∷ (spelt_behind WithGeneration batch.generation batch.entries ++ (next.closing ∷ next.behind))) next.is);
+      (same_after (spelt_batches WithGeneration batches) (gate ∷ rest) (gate ∷ (spelt_after WithGeneration batch.generation batch.entries ++ (next.closing ∷ next.after))) next.is);
 }
 
 -- the bytes of encode_batch follow the closed gate
 pub payload_written : (half : ℕ) (batches : List Batch) (batch : Batch) (gate : ℕ) (r : List ℕ) → AllByRecursion (CanStand WithGeneration half) batches → CanStand WithGeneration half batch
-    → HasNext half ((spelt_batches WithGeneration batches ++ gate ∷ []) ++ ((spelt_behind WithGeneration batch.generation batch.entries ++ 0 ∷ []) ++ r)) batches batch gate
+    → HasNext half ((spelt_batches WithGeneration batches ++ gate ∷ []) ++ ((spelt_after WithGeneration batch.generation batch.entries ++ 0 ∷ []) ++ r)) batches batch gate
 payload_written half batches batch gate r can next =
     let spelt = spelt_batches WithGeneration batches in
-    let body = spelt_behind WithGeneration batch.generation batch.entries in
+    let body = spelt_after WithGeneration batch.generation batch.entries in
     record {
       can_stand = can;
       can = next;
       closing = 0;
       closed = λ e. absurd cc;
-      behind = r;
+      after = r;
       is = append_assoc spelt (gate ∷ []) ((body ++ 0 ∷ []) ++ r) ∙ ap (λ (l : List ℕ). spelt ++ (gate ∷ l)) (append_assoc body (0 ∷ []) r);
     }
 

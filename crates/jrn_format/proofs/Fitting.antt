@@ -33,6 +33,6 @@ spelt_more {X = X} spell front now new xs i x d lt is so_far more =
     more ∙ ap (λ (bytes : List ℕ). bytes ++ spell x) so_far ∙ flat_map_more spell front (take i xs) x
     ∙ ap (λ (ys : List X). front ++ flat_map spell ys) (ap (λ (y : X). take i xs ++ y ∷ []) is ∙ sym (take_more xs i d lt))
 
--- one part behind another
-pub spelt_behind : (old : List ℕ) {mid new : List ℕ} (first second : List ℕ) → mid ≡ old ++ first → new ≡ mid ++ second → new ≡ old ++ (first ++ second)
-spelt_behind old first second so_far more = more ∙ ap (λ (bytes : List ℕ). bytes ++ second) so_far ∙ append_assoc old first second
+-- one part after another
+pub spelt_after : (old : List ℕ) {mid new : List ℕ} (first second : List ℕ) → mid ≡ old ++ first → new ≡ mid ++ second → new ≡ old ++ (first ++ second)
+spelt_after old first second so_far more = more ∙ ap (λ (bytes : List ℕ). bytes ++ second) so_far ∙ append_assoc old first second

@@ -21,16 +21,16 @@ half_is : (area first second : List ℕ) → AreHalves area first second → len
 half_is area first second h =
     let odd = h.odd in
     let equal = h.equal in
-    omega (arith, ap length h.whole, length-append first (second ++ h.last), length-append second h.last)
+    omega (arith, ap length h.entire, length-append first (second ++ h.last), length-append second h.last)
 
 first_is : (area first second : List ℕ) → AreHalves area first second → take (length area / 2) area ≡ first
 first_is area first second h =
-    ap (λ (n : ℕ). take n area) (half_is area first second h) ∙ ap (take (length first)) h.whole ∙ take_at first (second ++ h.last) (length first) refl
+    ap (λ (n : ℕ). take n area) (half_is area first second h) ∙ ap (take (length first)) h.entire ∙ take_at first (second ++ h.last) (length first) refl
 
 second_is : (area first second : List ℕ) → AreHalves area first second → take (length area / 2) (drop (length area / 2) area) ≡ second
 second_is area first second h =
     ap (λ (n : ℕ). take n (drop n area)) (half_is area first second h)
-    ∙ ap (λ (t : List ℕ). take (length first) (drop (length first) t)) h.whole
+    ∙ ap (λ (t : List ℕ). take (length first) (drop (length first) t)) h.entire
     ∙ ap (take (length first)) (drop_at first (second ++ h.last) (length first) refl)
     ∙ take_at second h.last (length first) (sym h.equal)
 
@@ -42,7 +42,7 @@ halves_here area =
       equal = omega (arith, length-take half area, length-take half (drop half area), length-drop half area);
       last = drop half (drop half area);
       odd = omega (arith, length-drop half (drop half area), length-drop half area);
-      whole = sym (ap (λ (t : List ℕ). take half area ++ t) (take-append-drop half (drop half area)) ∙ take-append-drop half area);
+      entire = sym (ap (λ (t : List ℕ). take half area ++ t) (take-append-drop half (drop half area)) ∙ take-append-drop half area);
     }
 
 -- both are read, and then put in order
@@ -74,9 +74,9 @@ All-front : (P : Batch → Type 0) (xs ys : List Batch) → AllByRecursion P (xs
 All-front P [] ys h = tt
 All-front P (x ∷ xs) ys h = (h.0, All-front P xs ys h.1)
 
-All-behind : (P : Batch → Type 0) (xs ys : List Batch) → AllByRecursion P (xs ++ ys) → AllByRecursion P ys
-All-behind P [] ys h = h
-All-behind P (x ∷ xs) ys h = All-behind P xs ys h.1
+All-after : (P : Batch → Type 0) (xs ys : List Batch) → AllByRecursion P (xs ++ ys) → AllByRecursion P ys
+All-after P [] ys h = h
+All-after P (x ∷ xs) ys h = All-after P xs ys h.1
 
 in_order_all : (P : Batch → Type 0) (firsts seconds batches : List Batch) → IsInOrder firsts seconds batches → AllByRecursion P firsts → AllByRecursion P seconds → AllByRecursion P batches
 in_order_all P firsts seconds batches (inl h) f g = rw h.1 (All-join P firsts seconds f g)
@@ -84,10 +84,10 @@ in_order_all P firsts seconds batches (inr h) f g = rw h.1 (All-join P seconds f
 
 firsts_all : (P : Batch → Type 0) (firsts seconds batches : List Batch) → IsInOrder firsts seconds batches → AllByRecursion P batches → AllByRecursion P firsts
 firsts_all P firsts seconds batches (inl h) all = All-front P firsts seconds (rw h.1 at all)
-firsts_all P firsts seconds batches (inr h) all = All-behind P seconds firsts (rw h.1 at all)
+firsts_all P firsts seconds batches (inr h) all = All-after P seconds firsts (rw h.1 at all)
 
 seconds_all : (P : Batch → Type 0) (firsts seconds batches : List Batch) → IsInOrder firsts seconds batches → AllByRecursion P batches → AllByRecursion P seconds
-seconds_all P firsts seconds batches (inl h) all = All-behind P firsts seconds (rw h.1 at all)
+seconds_all P firsts seconds batches (inl h) all = All-after P firsts seconds (rw h.1 at all)
 seconds_all P firsts seconds batches (inr h) all = All-front P seconds firsts (rw h.1 at all)
 
 -- ---- what is read is live

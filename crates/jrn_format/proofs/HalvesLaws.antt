@@ -7,7 +7,7 @@ use Rattle.std.proofs.lemmas.List.Concat.{flat_map-append}
 use Rattle.jrn_format.specs.declared.journal.Entry.{Entry}
 use Rattle.jrn_format.specs.declared.journal.Batch.{Batch}
 use Rattle.jrn_format.specs.declared.journal.Spelling.TheVariants.{WithGeneration}
-use Rattle.jrn_format.specs.Batch.{spelt_behind, spelt_batch, CanStand}
+use Rattle.jrn_format.specs.Batch.{spelt_after, spelt_batch, CanStand}
 use Rattle.jrn_format.specs.Area.{spelt_batches, IsLive}
 use Rattle.jrn_format.specs.Journal.{AreLive}
 use Rattle.jrn_format.proofs.HalvesGrammar.{All-join}
@@ -48,21 +48,21 @@ pub next_live : (half : ℕ) (area : List ℕ) (batches : List Batch) (batch : B
     → (gate ≢ 0xA5 → IsLive WithGeneration half area batches) × (gate ≡ 0xA5 → IsLive WithGeneration half area (batches ++ batch ∷ []))
 next_live half area batches batch gate next =
     let spelt = spelt_batches WithGeneration in
-    let body = spelt_behind WithGeneration batch.generation batch.entries in
+    let body = spelt_after WithGeneration batch.generation batch.entries in
     let all : spelt (batches ++ batch ∷ []) ≡ spelt batches ++ spelt_batch WithGeneration batch =
     flat_map-append (spelt_batch WithGeneration) batches (batch ∷ []) ∙ ap (λ (t : List ℕ). spelt batches ++ t) (append-nil (spelt_batch WithGeneration batch)) in
-    let tail : List ℕ = next.closing ∷ next.behind in
-    let whole : area ≡ spelt batches ++ (gate ∷ (body ++ tail)) = next.is in (
-      λ closed. record { rest = gate ∷ (body ++ tail); starts = record { can_stand = next.can_stand; spelt = whole }; ends = (gate, body ++ tail, closed, refl) },
+    let tail : List ℕ = next.closing ∷ next.after in
+    let entire : area ≡ spelt batches ++ (gate ∷ (body ++ tail)) = next.is in (
+      λ closed. record { rest = gate ∷ (body ++ tail); starts = record { can_stand = next.can_stand; spelt = entire }; ends = (gate, body ++ tail, closed, refl) },
       λ opened. record {
         rest = tail;
         starts = record {
           can_stand = All-join (CanStand WithGeneration half) batches (batch ∷ []) next.can_stand (next.can, tt);
           spelt =
-              let one : area ≡ spelt batches ++ (spelt_batch WithGeneration batch ++ tail) = whole ∙ ap (λ (g : ℕ). spelt batches ++ (g ∷ (body ++ tail))) opened in
+              let one : area ≡ spelt batches ++ (spelt_batch WithGeneration batch ++ tail) = entire ∙ ap (λ (g : ℕ). spelt batches ++ (g ∷ (body ++ tail))) opened in
               one ∙ sym (append_assoc (spelt batches) (spelt_batch WithGeneration batch) tail) ∙ ap (λ (t : List ℕ). t ++ tail) (sym all);
         };
-        ends = (next.closing, next.behind, next.closed, refl);
+        ends = (next.closing, next.after, next.closed, refl);
       },
     )
 
@@ -111,7 +111,7 @@ stand-more halves InNewer entries area beside stands lives = record {
   newer_of = All-join (λ (b : Batch). b.generation ≡ next_generation halves) halves.newer (batch_in halves InNewer entries ∷ []) stands.newer_of (refl, tt);
 }
 
--- the batch behind its gate becomes live
+-- the batch after its gate becomes live
 pub goes-live : (halves : Halves) (place : Place) (entries : List Entry) (area beside : List ℕ) → StandsBeside halves place beside
     → HasNext (half_of halves place) area (batches_in halves place) (batch_in halves place entries) 0xA5
     → HalvesStand (with_batch halves place (batch_in halves place entries)) (older_area place area beside) (newer_area place area beside)

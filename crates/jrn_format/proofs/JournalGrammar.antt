@@ -18,7 +18,7 @@ use Rattle.jrn_format.specs.Fault.{IsNoJournal, IsFaultOf}
 use Rattle.jrn_format.specs.Fault.IsNoJournal.{no_area, plain_cut, halved_cut}
 use Rattle.jrn_format.specs.steps.Reading.{◌>>>◌, Answers, area_of, live_in, journal_of}
 use Rattle.jrn_format.proofs.Numbers.{IsBytes, IsBytes-take}
-use Rattle.jrn_format.proofs.Areas.{ok_is, bind_ok, IsBytes-behind, area_live, area_cut, live_area, cut_area}
+use Rattle.jrn_format.proofs.Areas.{ok_is, bind_ok, IsBytes-after, area_live, area_cut, live_area, cut_area}
 use Rattle.jrn_format.proofs.AreaReading.{UnlessMemory-weaker}
 use Rattle.jrn_format.proofs.HalvesGrammar.{halves_live, halves_cut, live_halves, cut_halves}
 use Rattle.jrn_format.proofs.HeaderGrammar.{area_is, area_fault, area_again, fault_again}
@@ -29,8 +29,8 @@ made form batches = record { form = form; batches = batches }
 -- the bytes of an area are bytes of the file
 area_bytes : (file : List ℕ) (slaves : ℕ) (form : Form) (area : List ℕ) → HasArea file slaves form area → IsBytes file → IsBytes area
 area_bytes file slaves form area h good =
-    let behind = IsBytes-behind (header_bytes h.version slaves (length area)) (area ++ h.rest) (subst IsBytes h.header.spelt good) in
-    subst IsBytes (take_at area h.rest (length area) refl) (IsBytes-take (length area) (area ++ h.rest) behind)
+    let after = IsBytes-after (header_bytes h.version slaves (length area)) (area ++ h.rest) (subst IsBytes h.header.spelt good) in
+    subst IsBytes (take_at area h.rest (length area) refl) (IsBytes-take (length area) (area ++ h.rest) after)
 
 area_some : (file : List ℕ) (slaves : ℕ) (form : Form) (area : List ℕ) → HasArea file slaves form area → (0 < length area) × (2 ≤ length area)
 area_some file slaves form area h = let limits = h.capacity in (omega arith, omega arith)

@@ -17,6 +17,6 @@ pub mod HalvesLaws
 pub mod FileLaws
 pub mod OpenLaws
 pub mod MigrationLaws
-pub mod WholeLaws
+pub mod CompleteLaws
 pub mod SizeLaws
 pub mod InsideLaws

@@ -49,7 +49,7 @@ before_version sizes area rest file f = empty_journal 1 sizes area rest file One
 half_closed : (area first second : List ℕ) → AreHalves area first second → IsClosed area → IsClosed second → IsClosed first
 half_closed area [] second halves closed far = let equal = halves.equal in absurd (omega (arith, ap length far.3))
 half_closed area (gate ∷ first) second halves closed far =
-    let e : gate ∷ (first ++ (second ++ halves.last)) ≡ closed.0 ∷ closed.1 = sym halves.whole ∙ closed.3 in
+    let e : gate ∷ (first ++ (second ++ halves.last)) ≡ closed.0 ∷ closed.1 = sym halves.entire ∙ closed.3 in
     let same : gate ≡ closed.0 = cc in
     (gate, first, subst (λ (g : ℕ). g ≢ 0xA5) (sym same) closed.2, refl)
 
@@ -111,7 +111,7 @@ plain_retired file sizes batches gate h closed = by_area h.area refl
         let limits = h.has_area.capacity in
         let head = header_bytes 1 (length sizes) (length h.area) in
         let one : h.has_area.version ≡ 1 = h.has_area.is_form in
-        let whole : file ≡ head ++ (first ∷ (tail ++ h.has_area.rest)) =
+        let entire : file ≡ head ++ (first ∷ (tail ++ h.has_area.rest)) =
         h.has_area.header.spelt ∙ ap (λ (v : ℕ). header_bytes v (length sizes) (length h.area) ++ (h.area ++ h.has_area.rest)) one
         ∙ ap (λ (a : List ℕ). head ++ (a ++ h.has_area.rest)) is in (
           gate ∷ tail,
@@ -119,16 +119,16 @@ plain_retired file sizes batches gate h closed = by_area h.area refl
           record {
             slaves_fit = h.has_area.header.slaves_fit;
             is_capacity = (omega (arith, ap length is, limits), omega (arith, ap length is, limits));
-            is = ap (λ (f : List ℕ). take 8 f ++ gate ∷ drop 9 f) whole ∙ ap (λ (n : ℕ). header_bytes 1 (length sizes) n ++ (gate ∷ tail ++ h.has_area.rest)) (ap length is);
+            is = ap (λ (f : List ℕ). take 8 f ++ gate ∷ drop 9 f) entire ∙ ap (λ (n : ℕ). header_bytes 1 (length sizes) n ++ (gate ∷ tail ++ h.has_area.rest)) (ap length is);
             first_gate = (gate, tail, closed, refl);
           },
         )
 
 -- bytes after the first gate are overwritten
-pub behind_the_gate : (version : ℕ) (sizes p q over r rest file image : List ℕ) → IsClosedFile version sizes (p ++ (q ++ r)) rest file → 1 ≤ length p → length over ≡ length q
+pub after_the_gate : (version : ℕ) (sizes p q over r rest file image : List ℕ) → IsClosedFile version sizes (p ++ (q ++ r)) rest file → 1 ≤ length p → length over ≡ length q
     → image ≡ (header_bytes version (length sizes) (length (p ++ (q ++ r))) ++ p) ++ (over ++ (r ++ rest)) → IsClosedFile version sizes (p ++ (over ++ r)) rest image
-behind_the_gate version sizes [] q over r rest file image f some long is = absurd (omega arith)
-behind_the_gate version sizes (gate ∷ p) q over r rest file image f some long is =
+after_the_gate version sizes [] q over r rest file image f some long is = absurd (omega arith)
+after_the_gate version sizes (gate ∷ p) q over r rest file image f some long is =
     let limits = f.is_capacity in
     let same : length (gate ∷ p ++ (q ++ r)) ≡ length (gate ∷ p ++ (over ++ r)) = omega (arith, long, length-append p (q ++ r), length-append q r, length-append p (over ++ r), length-append over r) in
     let first : f.first_gate.0 ∷ f.first_gate.1 ≡ gate ∷ (p ++ (q ++ r)) = sym f.first_gate.3 in
@@ -152,14 +152,14 @@ version_exchanged old new sizes area rest file f = record {
   first_gate = f.first_gate;
 }
 
--- the mark behind the first gate, and a closed gate in front of the second half
+-- the mark after the first gate, and a closed gate in front of the second half
 pub marked_ready : (gate far : ℕ) (first second odd rest : List ℕ) → gate ≢ 0xA5 → far ≢ 0xA5
     → length (gate ∷ 0x4d ∷ 0x49 ∷ 0x47 ∷ 0x32 ∷ first) ≡ length (far ∷ second) → length odd < 2
     → IsReady ((gate ∷ 0x4d ∷ 0x49 ∷ 0x47 ∷ 0x32 ∷ first) ++ ((far ∷ second) ++ odd)) rest
 marked_ready gate far first second odd rest closed far_closed equal few = record {
   first = gate ∷ 0x4d ∷ 0x49 ∷ 0x47 ∷ 0x32 ∷ first;
   second = far ∷ second;
-  halves = record { equal = equal; last = odd; odd = few; whole = refl };
+  halves = record { equal = equal; last = odd; odd = few; entire = refl };
   far_gate = (far, second, far_closed, refl);
   mark = (gate, (first ++ (far ∷ second ++ odd)) ++ rest, closed, refl);
 }

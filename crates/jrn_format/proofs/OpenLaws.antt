@@ -45,23 +45,23 @@ none_out : (half : ℕ) (batches : List Batch) → StandIn half batches → filt
 none_out half [] all = refl
 none_out half (batch ∷ batches) all = rw (eq-eqb batch.half half all.0) (none_out half batches all.1)
 
-apart : (half away : ℕ) (batch : Batch) → half ≢ away → batch.half ≡ away → batch.half ≢ half
-apart half away batch differ is = λ e. differ (sym e ∙ is)
+separate : (half away : ℕ) (batch : Batch) → half ≢ away → batch.half ≡ away → batch.half ≢ half
+separate half away batch differ is = λ e. differ (sym e ∙ is)
 
 none_in : (half away : ℕ) (batches : List Batch) → half ≢ away → StandIn away batches → filter (λ (b : Batch). eqb b.half half) batches ≡ []
 none_in half away [] differ all = refl
-none_in half away (batch ∷ batches) differ all = rw (ne_eqb batch.half half (apart half away batch differ all.0)) (none_in half away batches differ all.1)
+none_in half away (batch ∷ batches) differ all = rw (ne_eqb batch.half half (separate half away batch differ all.0)) (none_in half away batches differ all.1)
 
 those_out : (half away : ℕ) (batches : List Batch) → half ≢ away → StandIn away batches → filter (λ (b : Batch). not (eqb b.half half)) batches ≡ batches
 those_out half away [] differ all = refl
 those_out half away (batch ∷ batches) differ all =
-    rw (ne_eqb batch.half half (apart half away batch differ all.0)) (ap (λ (t : List Batch). batch ∷ t) (those_out half away batches differ all.1))
+    rw (ne_eqb batch.half half (separate half away batch differ all.0)) (ap (λ (t : List Batch). batch ∷ t) (those_out half away batches differ all.1))
 
-pub other_apart : (at : ℕ) → at ≢ other at
-other_apart zero = λ e. absurd (omega arith)
-other_apart (suc n) = λ e. absurd (omega arith)
+pub other_separate : (at : ℕ) → at ≢ other at
+other_separate zero = λ e. absurd (omega arith)
+other_separate (suc n) = λ e. absurd (omega arith)
 
--- the first batch and those of its half, and those of the other half behind them
+-- the first batch and those of its half, and those of the other half after them
 pub halves_in-split : (first : Batch) (batches newer : List Batch) → StandIn first.half batches → StandIn (other first.half) newer
     → halves_in ((first ∷ batches) ++ newer) ≡ record { at = first.half; generation = first.generation; older = first ∷ batches; newer = newer }
 halves_in-split first batches newer here away =
@@ -69,11 +69,11 @@ halves_in-split first batches newer here away =
     let kept : filter (λ (b : Batch). eqb b.half at) (batches ++ newer) ≡ batches =
     filter-append (λ (b : Batch). eqb b.half at) batches newer
     ∙ ap (λ (t : List Batch). t ++ filter (λ (b : Batch). eqb b.half at) newer) (those_in at batches here)
-    ∙ ap (λ (t : List Batch). batches ++ t) (none_in at (other at) newer (other_apart at) away) ∙ append-nil batches in
+    ∙ ap (λ (t : List Batch). batches ++ t) (none_in at (other at) newer (other_separate at) away) ∙ append-nil batches in
     let left : filter (λ (b : Batch). not (eqb b.half at)) (batches ++ newer) ≡ newer =
     filter-append (λ (b : Batch). not (eqb b.half at)) batches newer
     ∙ ap (λ (t : List Batch). t ++ filter (λ (b : Batch). not (eqb b.half at)) newer) (none_out at batches here)
-    ∙ those_out at (other at) newer (other_apart at) away in
+    ∙ those_out at (other at) newer (other_separate at) away in
     rw (kept, left) refl
 
 -- ---- both halves
@@ -129,7 +129,7 @@ area_half : (area first second : List ℕ) → AreHalves area first second → (
 area_half area first second h =
     let odd = h.odd in
     let equal = h.equal in
-    let whole : length area ≡ length first + (length second + length h.last) = omega (arith, ap length h.whole, length-append first (second ++ h.last), length-append second h.last) in
+    let entire : length area ≡ length first + (length second + length h.last) = omega (arith, ap length h.entire, length-append first (second ++ h.last), length-append second h.last) in
     (omega arith, omega arith)
 
 ordered-fit : (room : ℕ) (firsts seconds batches : List Batch) → FitArea WithGeneration 0 room firsts → FitArea WithGeneration 1 room seconds → IsInOrder firsts seconds batches → AllFit room batches

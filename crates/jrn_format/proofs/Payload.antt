@@ -125,10 +125,10 @@ payload_takes payload entries good short e =
     let count = reader16.takes payload a.0 good a.1 in
     let found = counted_takes entry_at spelt_entry EntryFits entry_reader a.0.0 a.0.1 b.0 count.0.rest_fits b.1 in
     let counts : Takes payload (to_le_bytes w16 (length b.0.0)) a.0.1 = rw found.1 count.0 in
-    let whole = Takes-then payload (to_le_bytes w16 (length b.0.0)) a.0.1 (flat_map spelt_entry b.0.0) b.0.1 counts found.0 in
+    let entire = Takes-then payload (to_le_bytes w16 (length b.0.0)) a.0.1 (flat_map spelt_entry b.0.0) b.0.1 counts found.0 in
     let nothing : b.0.1 ≡ [] = nil_from_length b.0.1 (eqb-true _ _ h.0) in
     let some : a.0.0 ≡ 0 → ⊥ = eqb-false a.0.0 0 g.0 in
-    let spelt : payload ≡ spelt_payload b.0.0 = whole.parts ∙ ap (λ (r : List ℕ). spelt_payload b.0.0 ++ r) nothing ∙ append-nil (spelt_payload b.0.0) in
+    let spelt : payload ≡ spelt_payload b.0.0 = entire.parts ∙ ap (λ (r : List ℕ). spelt_payload b.0.0 ++ r) nothing ∙ append-nil (spelt_payload b.0.0) in
     subst (λ (v : List Entry). (payload ≡ spelt_payload v) × PayloadFits v) h.1
     (spelt, record { some = omega (arith, some, found.1); count = omega (arith, found.1, count.1); each = found.2; bytes = subst (λ (t : List ℕ). length t < 2 ^ 32) spelt short })
 

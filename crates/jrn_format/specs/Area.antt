@@ -13,11 +13,11 @@ spelt_batches spelling batches = flat_map (spelt_batch spelling) batches
 
 -- The bytes begin with a closed gate: any byte but 0xA5.
 abbrev pub IsClosed : List ℕ → Type 0
-IsClosed bytes = (gate : ℕ) × (behind : List ℕ) × (gate ≢ 0xA5) × (bytes ≡ gate ∷ behind)
+IsClosed bytes = (gate : ℕ) × (after : List ℕ) × (gate ≢ 0xA5) × (bytes ≡ gate ∷ after)
 
 -- The bytes begin with an open gate: 0xA5.
 abbrev pub IsOpen : List ℕ → Type 0
-IsOpen bytes = (behind : List ℕ) × (bytes ≡ 0xA5 ∷ behind)
+IsOpen bytes = (after : List ℕ) × (bytes ≡ 0xA5 ∷ after)
 
 -- The area begins with the encoding of these batches, and `rest` follows.
 pub record StartsWith (spelling : Spelling) (half : ℕ) (area : List ℕ) (batches : List Batch) (rest : List ℕ) : Type 0 where
@@ -36,8 +36,8 @@ pub record IsLive (spelling : Spelling) (half : ℕ) (area : List ℕ) (batches 
 pub record HasBatch (spelling : Spelling) (half : ℕ) (bytes : List ℕ) (batch : Batch) : Type 0 where
   pub can_stand : CanStand spelling half batch
   pub gate : ℕ
-  pub behind : List ℕ
-  pub spelt : bytes ≡ spelt_batch spelling batch ++ gate ∷ behind
+  pub after : List ℕ
+  pub spelt : bytes ≡ spelt_batch spelling batch ++ gate ∷ after
 
 -- The first fault of a malformed area, from left to right. `end` is the file offset just past the area.
 pub data IsUnreadableArea (spelling : Spelling) (half : ℕ) (sizes : List ℕ) (end : ℕ) (area : List ℕ) (fault : JournalFault) : Type 0 where

@@ -28,13 +28,13 @@ spelt_generation Plain generation = []
 spelt_generation WithGeneration generation = generation ∷ []
 
 -- A batch after its gate: generation, length of the payload in bytes (4 bytes), the payload.
-abbrev pub spelt_behind : Spelling → ℕ → List Entry → List ℕ
-spelt_behind spelling generation entries =
+abbrev pub spelt_after : Spelling → ℕ → List Entry → List ℕ
+spelt_after spelling generation entries =
     spelt_generation spelling generation ++ to_le_bytes w32 (length (spelt_payload entries)) ++ spelt_payload entries
 
 -- A live batch: an open gate, and the rest of the batch.
 abbrev pub spelt_batch : Spelling → Batch → List ℕ
-spelt_batch spelling batch = 0xA5 ∷ spelt_behind spelling batch.generation batch.entries
+spelt_batch spelling batch = 0xA5 ∷ spelt_after spelling batch.generation batch.entries
 
 -- ---- values that fit into their fields
 

@@ -36,9 +36,9 @@ pub record StandInFile (halves : Halves) (head bytes : List ℕ) : Type 0 where
   pub stands : HalvesStand halves older newer
 
 -- The same, with the header of a line of `slaves` slaves and a complete area of `capacity` bytes.
-pub record StandWhole (slaves capacity : ℕ) (halves : Halves) (bytes : List ℕ) : Type 0 where
+pub record StandComplete (slaves capacity : ℕ) (halves : Halves) (bytes : List ℕ) : Type 0 where
   pub slaves_fit : slaves < 2 ^ 16
   pub is_capacity : IsCapacity capacity
   pub inside : StandInFile halves (header_bytes 2 slaves capacity) bytes
   pub half : length inside.older ≡ capacity / 2
-  pub whole : capacity ≤ length inside.older + length inside.newer + length inside.last
+  pub entire : capacity ≤ length inside.older + length inside.newer + length inside.last

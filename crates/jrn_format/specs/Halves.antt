@@ -4,7 +4,7 @@ use Rattle.std.specs.List.{AllByRecursion}
 use Rattle.jrn_format.specs.declared.journal.Entry.{Entry}
 use Rattle.jrn_format.specs.declared.journal.Batch.{Batch}
 use Rattle.jrn_format.specs.declared.journal.Spelling.TheVariants.{WithGeneration}
-use Rattle.jrn_format.specs.Batch.{spelt_payload, spelt_behind, CanStand}
+use Rattle.jrn_format.specs.Batch.{spelt_payload, spelt_after, CanStand}
 use Rattle.jrn_format.specs.Area.{spelt_batches, IsLive}
 use Rattle.jrn_format.specs.Journal.{AreHalves, AreOf}
 
@@ -112,9 +112,9 @@ pub record HasNext (half : ℕ) (area : List ℕ) (batches : List Batch) (batch 
   pub can : CanStand WithGeneration half batch
   pub closing : ℕ
   pub closed : closing ≢ 0xA5
-  pub behind : List ℕ
+  pub after : List ℕ
   pub is : area ≡ spelt_batches WithGeneration batches
-      ++ (gate ∷ (spelt_behind WithGeneration batch.generation batch.entries ++ (closing ∷ behind)))
+      ++ (gate ∷ (spelt_after WithGeneration batch.generation batch.entries ++ (closing ∷ after)))
 
 -- The place in the other half.
 abbrev pub other_place : Place → Place

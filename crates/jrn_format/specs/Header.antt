@@ -14,11 +14,11 @@ header_bytes version slaves capacity = 0xA5 ∷ version ∷ to_le_bytes w16 slav
 abbrev pub field_at : Width → ℕ → List ℕ → ℕ
 field_at w at bytes = from_le_bytes w (take (byte_len w) (drop at bytes))
 
--- The file is a header with these values, followed by the bytes `behind`.
-pub record HasHeader (file : List ℕ) (version slaves capacity : ℕ) (behind : List ℕ) : Type 0 where
+-- The file is a header with these values, followed by the bytes `after`.
+pub record HasHeader (file : List ℕ) (version slaves capacity : ℕ) (after : List ℕ) : Type 0 where
   pub slaves_fit : slaves < 2 ^ 16
   pub capacity_fits : capacity < 2 ^ 32
-  pub spelt : file ≡ header_bytes version slaves capacity ++ behind
+  pub spelt : file ≡ header_bytes version slaves capacity ++ after
 
 -- The length that an area may have, in bytes: 4,096 to 4,194,304.
 abbrev pub IsCapacity : ℕ → Type 0
@@ -26,14 +26,14 @@ IsCapacity capacity = (4096 ≤ capacity) × (capacity ≤ 4194304)
 
 -- The bytes after the header are a closed gate and the mark of a migration, the letters MIG2.
 abbrev pub IsMarked : List ℕ → Type 0
-IsMarked behind = (gate : ℕ) × (rest : List ℕ) × (gate ≢ 0xA5) × (behind ≡ gate ∷ 0x4d ∷ 0x49 ∷ 0x47 ∷ 0x32 ∷ rest)
+IsMarked after = (gate : ℕ) × (rest : List ℕ) × (gate ≢ 0xA5) × (after ≡ gate ∷ 0x4d ∷ 0x49 ∷ 0x47 ∷ 0x32 ∷ rest)
 
 -- The form of a journal, by its version byte and the bytes after the header. An interrupted migration may have any version byte but
 -- 1 and 2.
 abbrev pub IsForm : ℕ → List ℕ → Form → Type 0
-IsForm version behind One = version ≡ 1
-IsForm version behind Two = version ≡ 2
-IsForm version behind Moving = (version ≢ 1) × (version ≢ 2) × IsMarked behind
+IsForm version after One = version ≡ 1
+IsForm version after Two = version ≡ 2
+IsForm version after Moving = (version ≢ 1) × (version ≢ 2) × IsMarked after
 
 -- The file has a valid header for a line of `slaves` slaves, in this form, and a complete area. Bytes after the area are ignored.
 pub record HasArea (file : List ℕ) (slaves : ℕ) (form : Form) (area : List ℕ) : Type 0 where
@@ -46,12 +46,12 @@ pub record HasArea (file : List ℕ) (slaves : ℕ) (form : Form) (area : List �
 -- The first reason, in this order, why a file has no valid header and complete area for a line of `slaves` slaves.
 pub data HasNoArea (file : List ℕ) (slaves : ℕ) (fault : JournalFault) : Type 0 where
   no_header : (length file < 8) ⊎ (slice_index file 0 ≢ 0xA5) → fault ≡ NotAJournal → HasNoArea file slaves fault
-  other_version : (version stated capacity : ℕ) (behind : List ℕ) → HasHeader file version stated capacity behind
-      → ((form : Form) → IsForm version behind form → ⊥) → fault ≡ BadVersion version → HasNoArea file slaves fault
-  other_line : (version stated capacity : ℕ) (behind : List ℕ) (form : Form) → HasHeader file version stated capacity behind
-      → IsForm version behind form → stated ≢ slaves → fault ≡ WrongLine → HasNoArea file slaves fault
-  other_capacity : (version capacity : ℕ) (behind : List ℕ) (form : Form) → HasHeader file version slaves capacity behind
-      → IsForm version behind form → (IsCapacity capacity → ⊥) → fault ≡ BadJournal 4 → HasNoArea file slaves fault
-  cut_off : (version capacity : ℕ) (behind : List ℕ) (form : Form) → HasHeader file version slaves capacity behind
-      → IsForm version behind form → IsCapacity capacity → length behind < capacity → fault ≡ BadJournal (length file)
+  other_version : (version stated capacity : ℕ) (after : List ℕ) → HasHeader file version stated capacity after
+      → ((form : Form) → IsForm version after form → ⊥) → fault ≡ BadVersion version → HasNoArea file slaves fault
+  other_line : (version stated capacity : ℕ) (after : List ℕ) (form : Form) → HasHeader file version stated capacity after
+      → IsForm version after form → stated ≢ slaves → fault ≡ WrongLine → HasNoArea file slaves fault
+  other_capacity : (version capacity : ℕ) (after : List ℕ) (form : Form) → HasHeader file version slaves capacity after
+      → IsForm version after form → (IsCapacity capacity → ⊥) → fault ≡ BadJournal 4 → HasNoArea file slaves fault
+  cut_off : (version capacity : ℕ) (after : List ℕ) (form : Form) → HasHeader file version slaves capacity after
+      → IsForm version after form → IsCapacity capacity → length after < capacity → fault ≡ BadJournal (length file)
       → HasNoArea file slaves fault

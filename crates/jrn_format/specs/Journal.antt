@@ -15,7 +15,7 @@ pub record AreHalves (area first second : List ℕ) : Type 0 where
   pub equal : length first ≡ length second
   pub last : List ℕ
   pub odd : length last < 2
-  pub whole : area ≡ first ++ (second ++ last)
+  pub entire : area ≡ first ++ (second ++ last)
 
 -- All these batches have this generation.
 abbrev pub AreOf : ℕ → List Batch → Type 0

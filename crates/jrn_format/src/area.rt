@@ -58,10 +58,10 @@ fn front<'a>(
     requires { length bytes.now ≤ end }
     ensures { Finds (λ x. (x.0, x.1.now)) result (front_of spelling half sizes.now end bytes.now) }
 {
-    let [OPEN, behind @ ..] = bytes else {
+    let [OPEN, after @ ..] = bytes else {
         return Ok(None);
     };
-    let (batch, rest) = match batch_of(alloc, spelling, half, behind) {
+    let (batch, rest) = match batch_of(alloc, spelling, half, after) {
         Ok(found) => found,
         Err(fault) => return Err(fault.at(end - bytes.len())),
     };

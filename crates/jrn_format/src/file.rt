@@ -12,17 +12,17 @@ ghost use Rattle.jrn_format.specs.Journal.{IsJournal};
 ghost use Rattle.jrn_format.specs.Halves.{Halves, Place, live, half_of, batches_in, batch_in, with_batch, HalvesStand, HasNext, StandsBeside};
 ghost use Rattle.jrn_format.specs.Halves.{retired as after_retire};
 ghost use Rattle.jrn_format.specs.Live.{halves_in};
-ghost use Rattle.jrn_format.specs.File.{before, IsFile, IsLiveFile, StandInFile, StandWhole};
+ghost use Rattle.jrn_format.specs.File.{before, IsFile, IsLiveFile, StandInFile, StandComplete};
 
 /// A journal of version 2 has a complete header and complete halves, which hold its batches.
-pub fn journal_stands_whole()
+pub fn journal_stands_complete()
     ensures { (file sizes : List ℕ) (batches : List Batch) → IsJournal file sizes (record { form = Two; batches = batches })
-        → StandWhole (length sizes) (field_at w32 4 file) (halves_in batches) file }
+        → StandComplete (length sizes) (field_at w32 4 file) (halves_in batches) file }
 {}
 
 /// A file with a complete header and complete halves, whose batches are within the line, is a journal of version 2.
-pub fn whole_file_is_a_journal()
-    ensures { (file sizes : List ℕ) (capacity : ℕ) (halves : Halves) → StandWhole (length sizes) capacity halves file
+pub fn complete_file_is_a_journal()
+    ensures { (file sizes : List ℕ) (capacity : ℕ) (halves : Halves) → StandComplete (length sizes) capacity halves file
         → AllByRecursion (IsWithin sizes) (live halves)
         → IsJournal file sizes (record { form = Two; batches = live halves }) }
 {}

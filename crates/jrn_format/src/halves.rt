@@ -67,8 +67,8 @@ pub(crate) fn halves(alloc: Global, sizes: &[u16], area: &[u8]) -> Result<Vec<Ba
     ensures { Answers (λ v. v.items) result (halves_of sizes.now area.now) }
 {
     let half = area.len() / 2;
-    let (first, behind) = area.split_at(half);
-    let (second, _) = behind.split_at(half);
+    let (first, after) = area.split_at(half);
+    let (second, _) = after.split_at(half);
     let end = AREA_START + half;
     let firsts = batches(alloc, Spelling::WithGeneration, 0, sizes, end, first)?;
     let seconds = batches(

@@ -4,7 +4,7 @@ ghost use Rattle.std.specs.Prelude.{◌≡◌, ◌≢◌, ◌<◌, ◌↔◌, �
 ghost use Rattle.sii_words.specs.Redo.{LiesInside};
 ghost use Rattle.sii_words.specs.declared.run.Run.{Run};
 ghost use Rattle.jrn_format.specs.Area.{spelt_batches, IsClosed, IsLive};
-ghost use Rattle.jrn_format.specs.Batch.{spelt_batch, spelt_behind, CanStand, LiesWithin};
+ghost use Rattle.jrn_format.specs.Batch.{spelt_batch, spelt_after, CanStand, LiesWithin};
 ghost use Rattle.jrn_format.specs.Fault.{IsNoJournal};
 ghost use Rattle.jrn_format.specs.Journal.{IsJournal};
 ghost use Rattle.jrn_format.specs.declared.fault.JournalFault.{JournalFault};
@@ -55,19 +55,19 @@ pub fn retire()
 
 /// The bytes that follow the live batches may be any closed gate and anything after it: a new batch is written there before it
 /// is live.
-pub fn written_behind()
-    ensures { (spelling : Spelling) (half : ℕ) (batches : List Batch) (gate : ℕ) (rest : List ℕ) (other : ℕ) (behind : List ℕ)
+pub fn written_after()
+    ensures { (spelling : Spelling) (half : ℕ) (batches : List Batch) (gate : ℕ) (rest : List ℕ) (other : ℕ) (after : List ℕ)
         → IsLive spelling half (spelt_batches spelling batches ++ gate ∷ rest) batches → other ≢ 0xA5
-        → IsLive spelling half (spelt_batches spelling batches ++ other ∷ behind) batches }
+        → IsLive spelling half (spelt_batches spelling batches ++ other ∷ after) batches }
 {}
 
 /// A batch written after the gate that ends the live batches, and followed by a closed gate, becomes live when that gate is
 /// opened.
 pub fn append()
     ensures { (spelling : Spelling) (half : ℕ) (batches : List Batch) (gate : ℕ) (rest : List ℕ) (batch : Batch) (closing : ℕ)
-        (behind : List ℕ)
+        (after : List ℕ)
         → IsLive spelling half (spelt_batches spelling batches ++ gate ∷ rest) batches → CanStand spelling half batch → closing ≢ 0xA5
-        → rest ≡ spelt_behind spelling batch.generation batch.entries ++ closing ∷ behind
+        → rest ≡ spelt_after spelling batch.generation batch.entries ++ closing ∷ after
         → IsLive spelling half (spelt_batches spelling batches ++ 0xA5 ∷ rest) (batches ++ batch ∷ []) }
 {}
 

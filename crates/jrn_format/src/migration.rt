@@ -39,7 +39,7 @@ pub fn version_1_is_retired()
 {}
 
 /// Overwriting bytes after the first gate, as by a torn mark or a torn gate of half 1, leaves that gate closed.
-pub fn bytes_behind_the_gate_change()
+pub fn bytes_after_the_gate_change()
     ensures { (version : ℕ) (sizes p q over r rest file image : List ℕ) → IsClosedFile version sizes (p ++ (q ++ r)) rest file
         → 1 ≤ length p → length over ≡ length q
         → image ≡ (header_bytes version (length sizes) (length (p ++ (q ++ r))) ++ p) ++ (over ++ (r ++ rest))

@@ -5,7 +5,7 @@ ghost use Rattle.std.specs.Int.{w16, w32};
 ghost use Rattle.jrn_format.specs.Fault.{IsFaultOf};
 ghost use Rattle.jrn_format.specs.Header.{field_at};
 ghost use Rattle.jrn_format.specs.Journal.{IsJournal};
-ghost use Rattle.jrn_format.specs.steps.Reading.{Answers, area_behind, area_of, form_of, is_capacity, is_marked, journal_of, live_in};
+ghost use Rattle.jrn_format.specs.steps.Reading.{Answers, area_after, area_of, form_of, is_capacity, is_marked, journal_of, live_in};
 
 use crate::area::batches;
 use crate::fault::JournalFault;
@@ -21,23 +21,23 @@ const LEAST: usize = 4096;
 const MOST: usize = 4_194_304;
 
 /// Whether the bytes after the header are a closed gate and the mark of a migration.
-fn is_marked(behind: &[u8]) -> bool
-    ensures { result ≡ is_marked behind.now }
+fn is_marked(after: &[u8]) -> bool
+    ensures { result ≡ is_marked after.now }
 {
-    match behind {
+    match after {
         [gate, 0x4d, 0x49, 0x47, 0x32, ..] => *gate != OPEN,
         _ => false,
     }
 }
 
 #[tactic(auto, unfolding(crate::specs::steps::Reading::form_of))]
-fn form_of(version: u8, behind: &[u8]) -> Result<Form, JournalFault>
-    ensures { Answers (λ form. form) result (form_of version behind.now) }
+fn form_of(version: u8, after: &[u8]) -> Result<Form, JournalFault>
+    ensures { Answers (λ form. form) result (form_of version after.now) }
 {
     match version {
         1 => Ok(Form::One),
         2 => Ok(Form::Two),
-        _ if is_marked(behind) => Ok(Form::Moving),
+        _ if is_marked(after) => Ok(Form::Moving),
         found => Err(JournalFault::BadVersion { found }),
     }
 }
@@ -49,17 +49,17 @@ fn is_capacity(capacity: usize) -> bool
     LEAST <= capacity && capacity <= MOST
 }
 
-/// The area within `behind`, the bytes after the header of `file`.
-#[tactic(auto, unfolding(crate::specs::steps::Reading::area_behind))]
-fn area_behind<'a>(
+/// The area within `after`, the bytes after the header of `file`.
+#[tactic(auto, unfolding(crate::specs::steps::Reading::area_after))]
+fn area_after<'a>(
     file: &[u8],
     slaves: usize,
-    behind: &'a [u8],
+    after: &'a [u8],
     form: Form,
 ) -> Result<(Form, &'a [u8]), JournalFault>
     requires { 8 ≤ length file.now }
     ensures { Answers (λ x. (x.0, x.1.now)) result
-        (area_behind (length file.now) slaves (field_at w16 2 file.now) (field_at w32 4 file.now) behind.now form) }
+        (area_after (length file.now) slaves (field_at w16 2 file.now) (field_at w32 4 file.now) after.now form) }
 {
     if usize::from(slave_count(file)) != slaves {
         return Err(JournalFault::WrongLine);
@@ -68,10 +68,10 @@ fn area_behind<'a>(
     if !is_capacity(capacity) {
         return Err(JournalFault::BadJournal { at: 4 });
     }
-    if behind.len() < capacity {
+    if after.len() < capacity {
         return Err(JournalFault::BadJournal { at: file.len() });
     }
-    let (area, _) = behind.split_at(capacity);
+    let (area, _) = after.split_at(capacity);
     Ok((form, area))
 }
 
@@ -83,9 +83,9 @@ fn area_of(file: &[u8], slaves: usize) -> Result<(Form, &[u8]), JournalFault>
     if file.len() < AREA_START || gate(file) != OPEN {
         return Err(JournalFault::NotAJournal);
     }
-    let (_, behind) = file.split_at(AREA_START);
-    let form = form_of(version(file), behind)?;
-    area_behind(file, slaves, behind, form)
+    let (_, after) = file.split_at(AREA_START);
+    let form = form_of(version(file), after)?;
+    area_after(file, slaves, after, form)
 }
 
 #[tactic(auto, unfolding(crate::specs::steps::Reading::live_in))]

@@ -2,7 +2,7 @@
 
 ghost use Rattle.std.specs.Prelude.{◌≡◌, ◌+◌, ◌<◌, ◌^◌, ◌++◌, [], ◌∷◌, ℕ, length, OnOk, IfOk, All};
 ghost use Rattle.std.specs.Int.{w16, w32, to_le_bytes};
-ghost use Rattle.jrn_format.specs.Batch.{AreCounted, AreCountedRuns, IsCountedRun, EntryFits, PayloadFits, RunFits, entry_size, spelt_behind, spelt_entry, spelt_payload, spelt_run};
+ghost use Rattle.jrn_format.specs.Batch.{AreCounted, AreCountedRuns, IsCountedRun, EntryFits, PayloadFits, RunFits, entry_size, spelt_after, spelt_entry, spelt_payload, spelt_run};
 ghost use Rattle.jrn_format.specs.declared.journal.Entry.{Entry};
 
 use crate::journal::{Entry, Spelling};
@@ -83,7 +83,7 @@ fn put_batch(bytes: &mut Vec<u8>, generation: u8, payload: &[u8]) -> Result<(), 
 pub fn encode_batch(alloc: Global, generation: u8, entries: &[Entry]) -> Result<Vec<u8>, AllocError>
     requires { AreCounted entries.now }
     ensures spelt { IfOk result (λ bytes. bytes.items
-        ≡ spelt_behind Spelling.WithGeneration generation entries.now ++ CLOSED ∷ []) }
+        ≡ spelt_after Spelling.WithGeneration generation entries.now ++ CLOSED ∷ []) }
     ensures fits { OnOk result (PayloadFits entries.now) }
 {
     let payload = payload(alloc, entries)?;

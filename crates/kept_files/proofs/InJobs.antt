@@ -18,7 +18,7 @@ use Rattle.site_file.specs.declared.files.FileDevice.{FileDevice}
 use Rattle.site_file.specs.declared.asking.Asked.{Asked}
 use Rattle.site_file.specs.Files.{File, IsBytes, BecomesBy}
 use Rattle.site_file.specs.Held.{is_same, of_file}
-use Rattle.site_file.specs.AllFiles.{AreLeftBehind, LeadTo, FilesFollow, Holds, ShowOne, calls_of}
+use Rattle.site_file.specs.AllFiles.{AreLeftAfter, LeadTo, FilesFollow, Holds, ShowOne, calls_of}
 use Rattle.site_file.proofs.FilesFollow.{left_at_first, calls_of-snoc, early_or_at}
 use Rattle.book_model.specs.declared.next.DiskNext.{DiskNext}
 use Rattle.book_model.specs.declared.next.DiskNext.TheVariants as disk
@@ -41,31 +41,31 @@ module _ {F : Type 0} (owned : LineFile → Bool) (begun : LineFile → File) (d
 
   -- of any piece, the last one too
   piece_leaves : (time : ℕ) (one : List Asked) (images : LineFile → List ℕ) → ((name : LineFile) → IsBytes (images name))
-      → slice_get all time ≡ Some one → AreLeftBehind (calls_of (take time all)) one begun images
+      → slice_get all time ≡ Some one → AreLeftAfter (calls_of (take time all)) one begun images
       → (time < length follows.pieces) ⊎ (time ≡ length follows.pieces) → ShowOne owned (LeftTowards end (0 + time)) images
   piece_leaves time one images bytes is left (inl early) =
       follows.leaves time one images bytes (sym (slice_get-early follows.pieces (follows.last ∷ []) time early) ∙ is)
-      (subst (λ (l : List (List Asked)). AreLeftBehind (calls_of l) one begun images)
+      (subst (λ (l : List (List Asked)). AreLeftAfter (calls_of l) one begun images)
       (take-append-le time follows.pieces (follows.last ∷ []) (omega (arith, early))) left)
   piece_leaves time one images bytes is left (inr same) =
       let is_last : one ≡ follows.last = (let e : Some one ≡ Some follows.last =
       sym is ∙ ap (λ (n : ℕ). slice_get all n) same ∙ slice_get-seam follows.pieces (follows.last ∷ []) in cc) in
       let before : take time all ≡ follows.pieces = ap (λ (n : ℕ). take n all) same ∙ take-append_seam follows.pieces (follows.last ∷ []) in
       subst (λ (n : ℕ). ShowOne owned (LeftTowards end (0 + n)) images) (sym same)
-      (follows.leaves_last images bytes (subst (λ (c : List Asked). AreLeftBehind (calls_of follows.pieces) c begun images) is_last
-      (subst (λ (l : List (List Asked)). AreLeftBehind (calls_of l) one begun images) before left)))
+      (follows.leaves_last images bytes (subst (λ (c : List Asked). AreLeftAfter (calls_of follows.pieces) c begun images) is_last
+      (subst (λ (l : List (List Asked)). AreLeftAfter (calls_of l) one begun images) before left)))
 
-  -- behind the piece of a time the files hold the state at that time
-  held_behind : (time : ℕ) (files : LineFile → File)
+  -- after the piece of a time the files hold the state at that time
+  held_after : (time : ℕ) (files : LineFile → File)
       → (time < length follows.pieces) ⊎ ((device.has_failed ≡ false) × ¬ IsTrue end.is_stopped × (time ≡ length follows.pieces))
       → LeadTo (calls_of (take (time + 1) all)) begun files → (name : LineFile) → IsTrue (owned name) → Holds (state_at end time) name (files name)
-  held_behind time files (inl early) lead name is_owned =
+  held_after time files (inl early) lead name is_owned =
       let plain : 0 + time ≡ time = omega arith in
       subst (λ (t : ℕ). Holds (state_at end t) name (files name)) plain (follows.held time files name early (subst (λ (l : List (List Asked)). LeadTo (calls_of l) begun files)
       (take-append-le (time + 1) follows.pieces (follows.last ∷ []) (omega (arith, early))) lead) is_owned)
-  held_behind time files (inr (sound, going, same)) lead name is_owned =
-      let whole : take (time + 1) all ≡ all = take_all (time + 1) all (omega (arith, same, length-append follows.pieces (follows.last ∷ []))) in
-      let calls : calls_of (take (time + 1) all) ≡ calls_of follows.pieces ++ follows.last = ap calls_of whole ∙ calls_of-snoc follows.pieces follows.last in
+  held_after time files (inr (sound, going, same)) lead name is_owned =
+      let entire : take (time + 1) all ≡ all = take_all (time + 1) all (omega (arith, same, length-append follows.pieces (follows.last ∷ []))) in
+      let calls : calls_of (take (time + 1) all) ≡ calls_of follows.pieces ++ follows.last = ap calls_of entire ∙ calls_of-snoc follows.pieces follows.last in
       let now : time ≡ clock end = omega (arith, same, follows.all sound going) in
       subst (λ (s : State). Holds s name (files name)) (sym (ap (λ (t : ℕ). state_at end t) now ∙ state_then end end (Follows-same end)))
       (follows.holds sound going name (files name) is_owned
@@ -112,7 +112,7 @@ module _ {J O : Type 0} (Does : J → O → Seen → Seen → Type 0) (InProgres
         let to_next : Follows at.mid at.next = through_follows at.out at.mid at.next at.through in
         let state : state_at end (clock at.mid) ≡ at.mid.state = state_then at.mid end (Follows-then at.mid at.next end to_next on) in
         let shown = left_at_first (state_at end (clock at.mid)) owned left.mid
-        (λ name is_owned. held_behind owned begun device end follows (clock at.mid) left.mid sound left.lead name is_owned) images left.left in
+        (λ name is_owned. held_after owned begun device end follows (clock at.mid) left.mid sound left.lead name is_owned) images left.left in
         let leaves : Leaves at.mid.state shown.0 = subst (λ (s : State). Leaves s shown.0) state shown.1 in
         (shown.0, since_in_progress at.out at.mid at.next shown.0 at.through (since_first at.mid at.next shown.0 to_next leaves) (λ none. leaves), shown.2)
 

@@ -13,7 +13,7 @@ use Rattle.site_file.specs.declared.files.FileDevice.{FileDevice}
 use Rattle.site_file.specs.declared.asking.Asked.{Asked}
 use Rattle.site_file.specs.Files.{File, IsBytes}
 use Rattle.site_file.specs.Held.{is_same}
-use Rattle.site_file.specs.AllFiles.{AreLeftBehind, FilesFollow, calls_of}
+use Rattle.site_file.specs.AllFiles.{AreLeftAfter, FilesFollow, calls_of}
 use Rattle.book_model.specs.Book.{Book, base_of}
 use Rattle.book_model.specs.Machine.{Machine, reopened, MayKeep}
 use Rattle.book_model.specs.Machine as machines
@@ -85,17 +85,17 @@ CutIsKept = (machine : Machine) (journal : Journal) (old : State) (calls : List 
 
 -- FILES
 
--- A power cut in the log of a device leaves these images: in a piece of it behind the time `from`, up to the time `to`; or behind the piece of
+-- A power cut in the log of a device leaves these images: in a piece of it after the time `from`, up to the time `to`; or after the piece of
 -- the time `from`, while no call on a file has failed.
 pub data CutsLog {F : Type 0} {owned : LineFile → Bool} {begun : LineFile → File} {device : FileDevice F} {seen : Seen}
     (follows : FilesFollow 0 owned begun device seen) (from to : ℕ) (images : LineFile → List ℕ) : Type 0 where
   in_call : (time : ℕ) (piece : List Asked) → from < time → time ≤ to
       → slice_get (follows.pieces ++ follows.last ∷ []) time ≡ Some piece
-      → AreLeftBehind (calls_of (take time (follows.pieces ++ follows.last ∷ []))) piece begun images → CutsLog follows from to images
+      → AreLeftAfter (calls_of (take time (follows.pieces ++ follows.last ∷ []))) piece begun images → CutsLog follows from to images
   at_rest : (from < length follows.pieces) ⊎ ((device.has_failed ≡ false) × ¬ IsTrue seen.is_stopped × (from ≡ length follows.pieces))
-      → AreLeftBehind (calls_of (take (from + 1) (follows.pieces ++ follows.last ∷ []))) [] begun images → CutsLog follows from to images
+      → AreLeftAfter (calls_of (take (from + 1) (follows.pieces ++ follows.last ∷ []))) [] begun images → CutsLog follows from to images
 
--- The disk's thread works on a site that owns the journal, whose file has followed it, and went on behind the cut to `end`.
+-- The disk's thread works on a site that owns the journal, whose file has followed it, and went on after the cut to `end`.
 abbrev pub JournalIsCut : Type 0 → Type 0
 JournalIsCut F = (calls : List Call) (start end : Seen) (device : FileDevice F) (begun : LineFile → File) (images : LineFile → List ℕ)
     (at : IsAt DoesAction (disk_log calls) start) (follows : FilesFollow 0 (is_same JournalFile) begun device end)

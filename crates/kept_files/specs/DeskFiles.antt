@@ -1,4 +1,4 @@
--- A desk whose parts stand on files: the journal behind the disk's thread, and the image of each slave behind the thread of that slave.
+-- A desk whose parts stand on files: the journal after the disk's thread, and the image of each slave after the thread of that slave.
 use Rattle.std.specs.Prelude.{◌≡◌, ℕ, Bool, List, [], Some, slice_get, IsTrue}
 use Rattle.jrn_format.specs.declared.journal.Journal.{Journal}
 use Rattle.site_core.specs.State.{State, Seen, Pair, clock}

@@ -76,15 +76,15 @@ pub record KeepsOn (F : Type 0) (before now : Seen) : Type 0 where
 
 -- The pair is kept for the machine; or for its next session, which began with the first k of its commands and has accepted the first j of these,
 -- for some j.
-abbrev pub KeptBehind : Machine → (k : ℕ) → List Command → Pair → Type 0
-KeptBehind machine k commands pair = KeptFor machine pair ⊎ KeptWith (reopened machine k) commands pair
+abbrev pub KeptAfter : Machine → (k : ℕ) → List Command → Pair → Type 0
+KeptAfter machine k commands pair = KeptFor machine pair ⊎ KeptWith (reopened machine k) commands pair
 
 -- A station was opened on the way, and has accepted these commands. The machine's next session began there with the first k of its commands, every
 -- acknowledged one among them. At each moment a power cut could have left only what is kept for the machine, or for that session.
 pub record KeepsNext (machine : Machine) (commands : List Command) (before now : Seen) : Type 0 where
   pub k : ℕ
   pub may_keep : MayKeep machine k
-  pub stays : StaysWithin (KeptBehind machine k commands) before now
+  pub stays : StaysWithin (KeptAfter machine k commands) before now
 
 -- This is so for each machine, if all that a power cut could leave was kept before.
 abbrev pub KeepsServing : List Command → Seen → Seen → Type 0
@@ -95,7 +95,7 @@ KeepsServing commands before now = (machine : Machine) → LeavesOnly (KeptFor m
 pub record LeaveNext (machine : Machine) (commands : List Command) (before : State) (calls : List Asked) : Type 0 where
   pub k : ℕ
   pub may_keep : MayKeep machine k
-  pub kept : LeaveOnly (KeptBehind machine k commands) before calls
+  pub kept : LeaveOnly (KeptAfter machine k commands) before calls
 
 -- As `KeepsOn`, while a station was opened and then accepted these commands: what a power cut leaves in the files is kept so.
 pub record KeepsOnServing (F : Type 0) (commands : List Command) (before now : Seen) : Type 0 where
@@ -133,7 +133,7 @@ abbrev pub SiteKeepsServing : Type 0 → Type 0
 SiteKeepsServing F = (device : FileDevice F) (commands : List Command) (before now : Seen) → Follows device now → before.past ≡ []
     → first_of now ≡ before.state → KeepsServing commands before now → KeepsOnServing F commands before now
 
--- Behind a complete recovery the images have the contents, if no call on a file has failed and the site goes on.
+-- After a complete recovery the images have the contents, if no call on a file has failed and the site goes on.
 abbrev pub RecoveryLeavesContents : Type 0
 RecoveryLeavesContents = (s : Station) (is_sound : Bool) (calls : List Asked) → FilesOf calls s.seen is_sound → HasRecovered s → IsTrue is_sound
     → BecomeOnly (HasContents s.book) (first_of s.seen) calls

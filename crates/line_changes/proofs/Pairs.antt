@@ -31,13 +31,13 @@ second_known f (Some x) second before after old new Q unread same known =
     subst R (unread refl) (subst P same known)
 
 -- the status tells whether two images have the same words
-pub told : (old new : List ℕ) (difference : Difference) (status : ExitStatus) → NothingDiffers difference ↔ (old ≡ new) → IsStatusOf difference status → IsStatusOfPair old new status
-told old new difference status same (inl (none, done)) = inl (same.0 none, done)
-told old new difference status same (inr (some, refused)) = inr ((λ equal. some (same.1 equal)), refused)
+pub reported : (old new : List ℕ) (difference : Difference) (status : ExitStatus) → NothingDiffers difference ↔ (old ≡ new) → IsStatusOf difference status → IsStatusOfPair old new status
+reported old new difference status same (inl (none, done)) = inl (same.0 none, done)
+reported old new difference status same (inr (some, refused)) = inr ((λ equal. some (same.1 equal)), refused)
 
 -- the same of the images that two texts spell
 pub tells : (hex : Bool) (old new : List ℕ) (status : ExitStatus) → IsStatusOfPair old new status → (a b : List ℕ) → Spells hex a (bytes_of old) → Spells hex b (bytes_of new) → TellsDifference hex a b status
-tells hex old new status is a b one other = record { old = old; new = new; read_first = one; read_second = other; told = is }
+tells hex old new status is a b one other = record { old = old; new = new; read_first = one; read_second = other; reported = is }
 
 -- a stream's fault may be one of two texts
 pub stream_refuses : (hex : Bool) (first second : Option (List ℕ)) (fault : Fault) → IsOfStream fault → IfSome first (λ a. IfSome second (λ b. RefusesPair hex a b fault))

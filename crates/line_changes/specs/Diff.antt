@@ -33,7 +33,7 @@ pub record TellsDifference (hex : Bool) (first second : List ℕ) (status : Exit
   pub new : List ℕ
   pub read_first : Spells hex first (bytes_of old)
   pub read_second : Spells hex second (bytes_of new)
-  pub told : IsStatusOfPair old new status
+  pub reported : IsStatusOfPair old new status
 
 -- the fault is one of the first text, or one of the second
 abbrev pub RefusesPair : Bool → List ℕ → List ℕ → Fault → Type 0

@@ -1,4 +1,4 @@
--- What is reported behind a run or a recovery.
+-- What is reported after a run or a recovery.
 use Rattle.std.specs.Prelude.{◌≡◌, ℕ, List}
 use Rattle.std.specs.List.{AllZip}
 use Rattle.station_files.specs.Files.{Known}

@@ -24,7 +24,7 @@ const SECOND: Side = Side {
     letter: "B",
 };
 
-/// Puts what the categories of two images differ in, in the order of the first; behind this what only the second one has. Where the chain of
+/// Puts what the categories of two images differ in, in the order of the first; after this what only the second one has. Where the chain of
 /// one of them is cut off, only that.
 ///
 /// # Errors

@@ -20,6 +20,6 @@ pub use diff::{Compared, diff_images};
 pub use difference::{Difference, compare};
 pub use head::Head;
 pub use layout::{print_image, put_images};
-pub use report::{Before, REPORT, Report, changes_since, look_before, print_report, report_behind};
+pub use report::{Before, REPORT, Report, changes_since, look_before, print_report, report_after};
 pub use said::size_said;
 pub use words::WordChanges;

@@ -1,4 +1,4 @@
-//! The report behind a run or a recovery.
+//! The report after a run or a recovery.
 ghost use Rattle.std.specs.Prelude.{◌≡◌, IfErr, IfOk};
 ghost use Rattle.station_files.specs.Faults.{IsOfStream};
 ghost use Rattle.station_files.specs.LineFiles.{SpellsLine, SpellsSlaves};
@@ -149,12 +149,12 @@ pub fn look_before<S: Store>(
     Ok(Some(Before { line, words }))
 }
 
-/// Prints the report behind work that ended with this status, if one is asked for. Behind a fault nothing is reported. No file changes.
+/// Prints the report behind work that ended with this status, if one is asked for. After a fault nothing is reported. No file changes.
 ///
 /// # Errors
 ///
 /// The fault of `look_before`; then as for `print_report`.
-pub fn report_behind<S: Store, W: Write>(
+pub fn report_after<S: Store, W: Write>(
     alloc: Global,
     looked: Result<Option<Before>, Fault>,
     status: ExitStatus,

@@ -79,7 +79,7 @@ fn is_read(alloc: Global, row: &Chain) -> bool {
     }
 }
 
-/// An alias for slave 0, if there is one, and behind it a category that is malformed, or whose type none may have, in one group of edits.
+/// An alias for slave 0, if there is one, and after it a category that is malformed, or whose type none may have, in one group of edits.
 #[derive(Clone, Copy)]
 struct Case {
     alias: Option<u16>,

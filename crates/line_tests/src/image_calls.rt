@@ -2,7 +2,7 @@
 
 use sii_bytes::{
     CategoryPlace, Head, ImageSizes, PlacedSegment, edit_category, edit_image, find_category,
-    judge_image, place_line, read_head, set_alias,
+    place_line, read_head, set_alias, validate_image,
 };
 use std::alloc::Global;
 
@@ -69,14 +69,16 @@ fn codes_of(alloc: Global, bytes: &mut [u8], image: &[u8]) -> Codes {
     let mut detail = 0;
     let mut place = NO_PLACE;
     let read = read_head(alloc, bytes, &mut head);
-    let judged = judge_image(alloc, bytes, &mut detail);
+    let validated = validate_image(alloc, bytes, &mut detail);
     let found = find_category(alloc, bytes, 0, &mut place);
     let line = line_code(alloc, bytes);
     let named = set_alias(bytes, 7);
     let removed = edit_category(alloc, bytes, 10, &[]);
     let written = edit_image(alloc, bytes, image);
     let renamed = renamed_code(bytes);
-    [read, judged, named, found, removed, written, line, renamed]
+    [
+        read, validated, named, found, removed, written, line, renamed,
+    ]
 }
 
 /// Whether so many zeros get their codes.

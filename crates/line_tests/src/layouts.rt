@@ -37,7 +37,7 @@ const SEGMENTS: &[Segment] = &[
     },
 ];
 
-/// The line once its first slave is `INPUTS`, and has nothing behind it.
+/// The line once its first slave is `INPUTS`, and has nothing after it.
 const CHANGED: &[Segment] = &[Segment {
     slave: 0,
     manager: 0,
@@ -97,7 +97,7 @@ fn first_is_changed(alloc: Global, layout: &mut Layout) -> bool {
 }
 
 /// Whether this layout has the process image of the line once both slaves are changed.
-fn becomes_whole(layout: &mut Layout, new: NewLayouts) -> bool {
+fn becomes_complete(layout: &mut Layout, new: NewLayouts) -> bool {
     let is_within = layout.has_process_image_with(&new);
     layout.put_all(new);
     is_within && has_image(layout, SEGMENTS, (1, 6), 4)
@@ -106,7 +106,7 @@ fn becomes_whole(layout: &mut Layout, new: NewLayouts) -> bool {
 fn is_changed(alloc: Global, layout: &mut Layout) -> bool {
     let is_changed = first_is_changed(alloc, layout);
     match both_layouts(alloc) {
-        Some(new) => becomes_whole(layout, new) && is_changed,
+        Some(new) => becomes_complete(layout, new) && is_changed,
         None => false,
     }
 }

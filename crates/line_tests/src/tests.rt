@@ -16,7 +16,7 @@ use std::alloc::Global;
 
 // The site of these parts, if they fit together.
 fn site_of(alloc: Global, parts: Parts) -> Option<MemSite> {
-    if !parts.is_whole() {
+    if !parts.is_complete() {
         return None;
     }
     Some(MemSite::of_parts(alloc, parts))

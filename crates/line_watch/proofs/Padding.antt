@@ -1,4 +1,4 @@
--- The zeros behind a short frame.
+-- The zeros after a short frame.
 use Rattle.std.proofs.Common.{◌≡◌, ◌∙◌, ℕ, zero, suc, ◌-◌, ◌≤◌, List, [], ◌∷◌, take, refl, ap}
 use Rattle.std.specs.List.{repeat}
 use native.Mathlib.Omega.{arith}

@@ -14,7 +14,7 @@ abbrev pub header : Way → List ℕ
 header way =
     0xFF ∷ 0xFF ∷ 0xFF ∷ 0xFF ∷ 0xFF ∷ 0xFF ∷ mark_of way ∷ 0x10 ∷ 0x20 ∷ 0x30 ∷ 0x40 ∷ 0x50 ∷ 0x88 ∷ 0xA4 ∷ []
 
--- zeros behind these bytes, up to 60 bytes in all
+-- zeros after these bytes, up to 60 bytes in all
 abbrev pub padded : List ℕ → List ℕ
 padded bytes = bytes ++ repeat (60 - length bytes) (0 ∷ [])
 

@@ -13,7 +13,7 @@ commands_part stage =
 abbrev pub read_part : Stage → List ℕ
 read_part stage = if stage.read == 0 then [] else codes "words " ++ decimal stage.read ++ codes " read, "
 
--- how many words are written and how many slaves are busy, and nothing behind that
+-- how many words are written and how many slaves are busy, and nothing after that
 abbrev pub words_part : Stage → List ℕ
 words_part stage = codes "words " ++ decimal stage.words ++ codes " written, " ++ decimal stage.busy ++ codes " slaves busy" ++ 27 ∷ codes "[K"
 

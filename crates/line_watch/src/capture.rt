@@ -25,7 +25,7 @@ impl From<io::Error> for BeginFault {
     }
 }
 
-/// A capture file, to which several threads may write. Each record is written by one call, one behind the other, in the order of their times.
+/// A capture file, to which several threads may write. Each record is written by one call, one after the other, in the order of their times.
 ///
 /// If the clock can't be read or a record can't be written, nothing more is written: the file then ends with the record before, if it can
 /// be cut there.
@@ -50,7 +50,7 @@ impl<F: RandomAccessFile + Drop> Capture<F> {
     /// `Occupied` where the file isn't empty and doesn't begin as a capture of this program does. It stays as it is then. `Io` where it
     /// can't be read or written.
     pub fn begin(file: F) -> Result<Capture<F>, BeginFault> {
-        if !is_free(&file)? {
+        if !is_vacant(&file)? {
             return Err(BeginFault::Occupied);
         }
         file.set_len(0)?;
@@ -96,7 +96,7 @@ impl<F: RandomAccessFile + Drop> Capture<F> {
 }
 
 /// Whether the file is empty, or begins as a capture of this program does.
-fn is_free<F: RandomAccessFile>(file: &F) -> io::Result<bool> {
+fn is_vacant<F: RandomAccessFile>(file: &F) -> io::Result<bool> {
     let length = file.len()?;
     if length == 0 {
         return Ok(true);

@@ -35,7 +35,7 @@ pub struct ObservedWire<'o, W, F, T, R> {
     /// The station addresses of the slaves that were told a command, in that order.
     stations: [u16; 64],
     /// How many there are.
-    told: usize,
+    reported: usize,
 }
 
 /// So many of these bytes, from the first on, or all of them if there are fewer.
@@ -74,7 +74,7 @@ impl<'o, W: Wire, F: RandomAccessFile + Drop, T: Write, R: Wait + Clock> Observe
             progress,
             rt,
             stations: [0; 64],
-            told: 0,
+            reported: 0,
         }
     }
 
@@ -87,15 +87,15 @@ impl<'o, W: Wire, F: RandomAccessFile + Drop, T: Write, R: Wait + Clock> Observe
 
     /// The place of a slave among those that were told a command.
     fn place_of(&mut self, station: u16) -> usize {
-        for place in 0..self.told.min(64) {
+        for place in 0..self.reported.min(64) {
             if self.stations[place] == station {
                 return place;
             }
         }
-        let place = self.told;
+        let place = self.reported;
         if place < 64 {
             self.stations[place] = station;
-            self.told = place + 1;
+            self.reported = place + 1;
         }
         place
     }

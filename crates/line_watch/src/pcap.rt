@@ -67,8 +67,8 @@ fn packet_of(way: Way, frame: &[u8]) -> ArrayVec<u8, PACKET>
     let mut bytes = ArrayVec::new();
     put(&mut bytes, &header(way));
     put(&mut bytes, frame);
-    let behind = padding(bytes.len());
-    put(&mut bytes, behind);
+    let after = padding(bytes.len());
+    put(&mut bytes, after);
     bytes
 }
 
@@ -96,7 +96,7 @@ fn put<const N: usize>(bytes: &mut ArrayVec<u8, N>, part: &[u8])
     }
 }
 
-/// The zeros behind an Ethernet frame of which there are so many bytes.
+/// The zeros after an Ethernet frame of which there are so many bytes.
 fn padding(count: usize) -> &'static [u8]
     ensures zeros { result.now ≡ repeat (60 - count) (0 ∷ []) }
     ensures length { length result.now ≡ 60 - count }

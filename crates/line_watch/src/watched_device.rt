@@ -1,6 +1,6 @@
 //! A device whose work is counted.
 ghost use Rattle.std.specs.Prelude.{◌≡◌, ◌++◌, ℕ, List, length, Some};
-ghost use Rattle.jrn_format.specs.Batch.{PayloadFits, spelt_behind};
+ghost use Rattle.jrn_format.specs.Batch.{PayloadFits, spelt_after};
 ghost use Rattle.jrn_format.specs.declared.journal.Entry.{Entry};
 
 use crate::progress::Progress;
@@ -14,7 +14,7 @@ use std::rt::Clock;
 /// A device, and the progress for which its work counts, if there is one. It answers each call as the device does.
 ///
 /// A command is durable once the gate of its batch is opened and synced. A slave is busy from the datagram that starts a write to the moment
-/// its word is written. The line is drawn behind a word or a sync, and never behind a frame of process data, which is to wait for no terminal.
+/// its word is written. The line is drawn after a word or a sync, and never after a frame of process data, which is to wait for no terminal.
 #[derive(Drop)]
 pub struct Watched<'p, D, T, R> {
     device: D,
@@ -26,11 +26,11 @@ pub struct Watched<'p, D, T, R> {
     is_open: bool,
 }
 
-/// How many commands a batch has, whose bytes behind its gate begin so: bytes 5 and 6, behind the generation and the payload's length. None
+/// How many commands a batch has, whose bytes after its gate begin so: bytes 5 and 6, after the generation and the payload's length. None
 /// where there are fewer bytes.
 fn commands_in(bytes: &[u8]) -> Option<u16>
     ensures { (generation : ℕ) (entries : List Entry) (rest : List ℕ) → PayloadFits entries
-        → bytes.now ≡ spelt_behind Spelling.WithGeneration generation entries ++ rest → result ≡ Some (length entries) }
+        → bytes.now ≡ spelt_after Spelling.WithGeneration generation entries ++ rest → result ≡ Some (length entries) }
 {
     match bytes {
         [_, _, _, _, _, low, high, ..] => Some(u16::from_le_bytes([*low, *high])),
@@ -167,7 +167,7 @@ impl<'p, D: Device, T: Write, R: Clock> Device for Watched<'p, D, T, R> {
 /// The device inside lends and takes back. What is lent counts for the same progress.
 impl<'p, D: Lends, T: Write, R: Clock> Lends for Watched<'p, D, T, R> {
     /// What is told of the device inside.
-    type Told = D::Told;
+    type Logged = D::Logged;
 
     ghost tells = { λ watched. D.tells watched.device };
 
@@ -175,12 +175,12 @@ impl<'p, D: Lends, T: Write, R: Clock> Lends for Watched<'p, D, T, R> {
         Watched::new(self.device.lend(part), self.progress, self.rt)
     }
 
-    fn take_back(&mut self, lent: Self) -> D::Told {
+    fn take_back(&mut self, lent: Self) -> D::Logged {
         let Watched { device, .. } = lent;
         self.device.take_back(device)
     }
 
-    fn tell(&mut self) -> D::Told {
+    fn tell(&mut self) -> D::Logged {
         self.device.tell()
     }
 }

@@ -1,6 +1,6 @@
 //! A run by threads on a wire on which each frame takes a while, so that the others have something to send meanwhile.
 
-use crate::wire_threads::told_on;
+use crate::wire_threads::reported_on;
 use crate::wires::{Bench, bench_of, parts_on, slaves_of};
 use ecat_frame::Frame;
 use runner_cases::line::THREE;
@@ -68,9 +68,9 @@ fn ended<R: Wait + Threads + Clock + Sync>(
     let parts = parts_on(alloc, bench, &mut wire)?;
     wire.wire().is_slow = true;
     let locked = LockedLine::new(LiveLine::new(wire));
-    let told = told_on(rt, alloc, bench, &locked, parts)?;
+    let reported = reported_on(rt, alloc, bench, &locked, parts)?;
     let most = locked.into_line().into_wire().wire().most;
-    Some((told.is_all, most))
+    Some((reported.is_all, most))
 }
 
 /// Whether a run prints what it should, and a frame of it has the datagrams of several slaves.

@@ -1,7 +1,7 @@
 //! A run by threads, in which a datagram of a frame of several comes back with a working counter of 0.
 
 use crate::joined::SlowWire;
-use crate::wire_threads::told_on;
+use crate::wire_threads::reported_on;
 use crate::wires::{Bench, bench_of, parts_on, slaves_of};
 use ecat_frame::{Command, Datagram, Frame};
 use runner_cases::line::THREE;
@@ -76,7 +76,7 @@ fn ask_the_same(one: Datagram<'_>, other: Datagram<'_>) -> bool {
 }
 
 impl<W> FalseWire<W> {
-    /// Compares a datagram that is sent behind the frame.
+    /// Compares a datagram that is sent after the frame.
     fn note(&mut self, sent: Datagram<'_>) {
         let Some((first, second)) = first_two(&self.frame) else {
             return;
@@ -153,11 +153,11 @@ fn ended<R: Wait + Threads + Clock + Sync>(
     slow.is_slow = true;
     slow.wire.is_planned = true;
     let locked = LockedLine::new(LiveLine::new(wire));
-    let told = told_on(rt, alloc, bench, &locked, parts)?;
+    let reported = reported_on(rt, alloc, bench, &locked, parts)?;
     let mut wire = locked.into_line().into_wire();
     let false_wire = &wire.wire().wire;
     Some(Outcome {
-        is_all: told.is_all,
+        is_all: reported.is_all,
         is_work: match first_two(&false_wire.frame) {
             Some((first, _)) => begins_work(first),
             None => false,

@@ -2,9 +2,9 @@
 //! power.
 
 ghost use Rattle.std.specs.Prelude.{IfSome};
-ghost use Rattle.site_shadow.specs.Parts.{AreWhole};
+ghost use Rattle.site_shadow.specs.Parts.{AreComplete};
 
-use crate::wire_threads::told_on;
+use crate::wire_threads::reported_on;
 use crate::wires::{
     Bench, NO_TROUBLE, OpenJournal, TestWire, Trouble, bench_of, journal_on, parts_on, plan,
     slaves_of,
@@ -64,7 +64,7 @@ struct Left {
     begun: u32,
 }
 
-/// What comes of a step and the recovery behind it.
+/// What comes of a step and the recovery after it.
 #[derive(Clone, Copy)]
 struct Came {
     left: Left,
@@ -84,8 +84,8 @@ const RECOVERY: Step = Step {
 const ASTRAY: &[(Fate, u32, Why)] = &[
     (Fate::LostBefore, 2, Why::Never),
     (Fate::LostBefore, 3, Why::Silent),
-    (Fate::LostBehind, 1, Why::Never),
-    (Fate::LostBehind, 3, Why::Silent),
+    (Fate::LostAfter, 1, Why::Never),
+    (Fate::LostAfter, 3, Why::Silent),
     (Fate::Doubled, 9, Why::Never),
     (Fate::SentTwice, 9, Why::Never),
     (Fate::Delayed, 1, Why::Never),
@@ -129,7 +129,7 @@ fn parts_with(
     wire: &mut TestWire<'_>,
     trouble: &Trouble,
 ) -> Option<Parts>
-    ensures { IfSome result (λ parts. AreWhole parts) }
+    ensures { IfSome result (λ parts. AreComplete parts) }
 {
     plan(wire, &NO_TROUBLE);
     let parts = parts_on(alloc, bench, wire)?;
@@ -192,11 +192,11 @@ fn ran_by_threads<'f, R: Wait + Threads + Sync>(
     let parts = parts_with(alloc, bench, &mut wire, trouble)?;
     let before = wire.sent();
     let locked = LockedLine::new(LiveLine::new(wire));
-    let told = told_on(rt, alloc, bench, &locked, parts)?;
+    let reported = reported_on(rt, alloc, bench, &locked, parts)?;
     let reason = locked.reason(rt);
     let mut wire = locked.into_line().into_wire();
-    let is_done = told.is_all && reason.is_none();
-    let left = left_on(&mut wire, before, is_done, told.durable, reason);
+    let is_done = reported.is_all && reason.is_none();
+    let left = left_on(&mut wire, before, is_done, reported.durable, reason);
     Some((wire, left))
 }
 
@@ -287,8 +287,8 @@ fn frames_of<R: Wait + Threads + Sync>(rt: &R, alloc: Global, way: Way) -> Optio
     }
 }
 
-/// How many sites stop, as frames of a run have this mishap. It comes once behind each number of frames, or where the run is by threads
-/// behind every second number of the last ones. None where one ends as it may not.
+/// How many sites stop, as frames of a run have this mishap. It comes once after each number of frames, or where the run is by threads
+/// after every second number of the last ones. None where one ends as it may not.
 fn stops<R: Wait + Threads + Sync>(
     rt: &R,
     alloc: Global,

@@ -61,7 +61,7 @@ const DURABLE: &[(&str, u64)] = &[
 
 /// What a run told.
 #[derive(Clone, Copy)]
-pub(crate) struct Told {
+pub(crate) struct Reported {
     /// Whether it is all that a run without trouble prints.
     pub is_all: bool,
     /// How many commands are durable. None: no station was opened.
@@ -69,17 +69,17 @@ pub(crate) struct Told {
 }
 
 /// What a run without a station tells.
-const NOTHING: Told = Told {
+const NOTHING: Reported = Reported {
     is_all: false,
     durable: None,
 };
 
 /// What a run that printed this told. None: it has no totals.
-fn told_in(text: &[u8]) -> Option<Told> {
+fn reported_in(text: &[u8]) -> Option<Reported> {
     let text = str::from_utf8(text).unwrap_or("");
-    for (told, count) in DURABLE {
-        if text.contains(*told) {
-            return Some(Told {
+    for (reported, count) in DURABLE {
+        if text.contains(*reported) {
+            return Some(Reported {
                 is_all: text == ANSWERS,
                 durable: Some(*count),
             });
@@ -89,11 +89,11 @@ fn told_in(text: &[u8]) -> Option<Told> {
 }
 
 /// Runs the commands by threads on this site. None: memory was refused, or a station that was opened told no totals.
-fn told_by_threads<D: Lends + Send, R: Wait + Threads + Sync>(
+fn reported_by_threads<D: Lends + Send, R: Wait + Threads + Sync>(
     rt: &R,
     alloc: Global,
     site: ShadowSite<D>,
-) -> Option<Told> {
+) -> Option<Reported> {
     let Some(station) = opened(alloc, site) else {
         return Some(NOTHING);
     };
@@ -104,20 +104,20 @@ fn told_by_threads<D: Lends + Send, R: Wait + Threads + Sync>(
     let task = Task { work, turns: false };
     let mut text = Vec::new(alloc);
     drop(serve_task(rt, alloc, station, 3, task, &mut text).ok()?);
-    told_in(&text)
+    reported_in(&text)
 }
 
 /// What a run by threads on this line told. None: memory was refused, the parts aren't a line's, or a station that was opened told no totals.
-pub(crate) fn told_on<R: Wait + Threads + Sync, W: Wire + Send>(
+pub(crate) fn reported_on<R: Wait + Threads + Sync, W: Wire + Send>(
     rt: &R,
     alloc: Global,
     bench: &Bench,
     locked: &LockedLine<W>,
     parts: Parts,
-) -> Option<Told> {
-    if !parts.is_whole() {
+) -> Option<Reported> {
+    if !parts.is_complete() {
         return None;
     }
     let device = WireDevice::shared(locked.shared(rt), &bench.clock, journal_on(alloc, bench));
-    told_by_threads(rt, alloc, ShadowSite::of_parts(alloc, parts, device))
+    reported_by_threads(rt, alloc, ShadowSite::of_parts(alloc, parts, device))
 }

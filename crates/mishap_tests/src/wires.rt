@@ -1,7 +1,7 @@
 //! Lines on a wire in memory, with the journal in a file in memory.
 
 ghost use Rattle.std.specs.Prelude.{IfSome};
-ghost use Rattle.site_shadow.specs.Parts.{AreWhole};
+ghost use Rattle.site_shadow.specs.Parts.{AreComplete};
 
 use runner_cases::line::{Line, disk, parts_with, plant_of};
 use site_file::{FileDevice, OpenFiles, RandomAccessFile};
@@ -122,7 +122,7 @@ pub(crate) fn plan(wire: &mut TestWire<'_>, trouble: &Trouble) {
     let under = wire.wire();
     under.plan(trouble.mishap);
     match trouble.cut {
-        Some((words, left)) => under.cut_behind(words, left),
+        Some((words, left)) => under.cut_after(words, left),
         None => under.keep_power(),
     }
 }
@@ -133,7 +133,7 @@ pub(crate) fn parts_on<W: Wire>(
     bench: &Bench,
     wire: &mut NumberedWire<W>,
 ) -> Option<Parts>
-    ensures { IfSome result (λ parts. AreWhole parts) }
+    ensures { IfSome result (λ parts. AreComplete parts) }
 {
     let line = bring_up(alloc, wire, &bench.clock, &Sizes::unknown()).ok()?;
     let plant = line.into_words(alloc).ok()?;
@@ -143,5 +143,9 @@ pub(crate) fn parts_on<W: Wire>(
         .read_exact_at(&mut disk, 0)
         .ok()?;
     let parts = parts_with(alloc, &plant, disk)?;
-    if parts.is_whole() { Some(parts) } else { None }
+    if parts.is_complete() {
+        Some(parts)
+    } else {
+        None
+    }
 }

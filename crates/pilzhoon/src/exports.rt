@@ -12,7 +12,7 @@ ghost use Rattle.sii_cats.specs.Pdos.{ArePdos};
 ghost use Rattle.sii_bytes.specs.Content.{IsManager, IsPdo, ReadsEntry, ReadsItem, ReadsString};
 ghost use Rattle.sii_bytes.specs.Editing.{Edits, RefusesCategory, RefusesImage, category_edit, image_edit};
 ghost use Rattle.sii_bytes.specs.Head.{IsHead};
-ghost use Rattle.sii_bytes.specs.Judging.{Judges};
+ghost use Rattle.sii_bytes.specs.Validating.{Validates};
 ghost use Rattle.sii_bytes.specs.Line.{PlacesLine};
 ghost use Rattle.rom_steps.specs.Calls.{Starts, Steps, StepsWith, TellsNext};
 ghost use Rattle.rom_steps.specs.Remaining.{IssueCourse, OpenCourse, ReadCourse, SettleCourse};
@@ -30,12 +30,12 @@ pub extern "C" fn pz_read_head(alloc: Global, image: &[u8], head: &mut Head) -> 
     sii_bytes::read_head(alloc, image, head)
 }
 
-/// Judges an image, as `sii_bytes::judge_image` does.
+/// Judges an image, as `sii_bytes::validate_image` does.
 #[unsafe(no_mangle)]
 pub extern "C" fn pz_judge(alloc: Global, image: &[u8], detail: &mut usize) -> u32
-    ensures { Judges image.now result detail.new }
+    ensures { Validates image.now result detail.new }
 {
-    sii_bytes::judge_image(alloc, image, detail)
+    sii_bytes::validate_image(alloc, image, detail)
 }
 
 /// Finds a category by its place in the chain, as `sii_bytes::find_category` does.

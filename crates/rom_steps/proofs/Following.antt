@@ -19,9 +19,9 @@ Within {T} inner outer = (log : List Asked) → (result : Result T Stop) → inn
 pub follows-within : {T : Type 0} (course : Course T) (first : Asked) (outer inner : Course T) → Follows course first outer → Within inner outer → Follows course first inner
 follows-within course first outer inner follows within log result so = follows log result (within log result so)
 
-pub asks-so : {T : Type 0} (told : Pdu → T) (lost : T) (slave : ℕ) (order : Pdu) (back : Result Pdu DeviceFault) (value : T) → IsHeard told lost back (Ok value)
-    → Asks slave order told lost (asked slave order back ∷ []) (Ok value)
-asks-so told lost slave order back value heard = (back, refl, heard)
+pub asks-so : {T : Type 0} (reported : Pdu → T) (lost : T) (slave : ℕ) (order : Pdu) (back : Result Pdu DeviceFault) (value : T) → IsHeard reported lost back (Ok value)
+    → Asks slave order reported lost (asked slave order back ∷ []) (Ok value)
+asks-so reported lost slave order back value heard = (back, refl, heard)
 
 -- ONE COURSE BEHIND ANOTHER
 
@@ -30,7 +30,7 @@ module _ {T V : Type 0} (first : Course T) (next : T → Course V) where
   then-on one rest follows log result (inl on) = inl (record {
     value = on.value;
     front = one ∷ on.front;
-    behind = on.behind;
+    after = on.after;
     log_is = ap (λ (l : List Asked). one ∷ l) on.log_is;
     came_to = follows on.front (Ok on.value) on.came_to;
     goes_on = on.goes_on;
@@ -38,25 +38,25 @@ module _ {T V : Type 0} (first : Course T) (next : T → Course V) where
   then-on one rest follows log result (inr stops) = inr (stops.0, follows log (Err stops.0) stops.1, stops.2)
 
   pub then-next : (one : Asked) (value : T) → first (one ∷ []) (Ok value) → Follows (Then first next) one (next value)
-  then-next one value came log result more = inl (record { value = value; front = one ∷ []; behind = log; log_is = refl; came_to = came; goes_on = more })
+  then-next one value came log result more = inl (record { value = value; front = one ∷ []; after = log; log_is = refl; came_to = came; goes_on = more })
 
   pub then-value : (log : List Asked) (value : T) (last : V) → first log (Ok value) → next value [] (Ok last) → Then first next log (Ok last)
-  then-value log value last came ends = inl (record { value = value; front = log; behind = []; log_is = sym (append-nil log); came_to = came; goes_on = ends })
+  then-value log value last came ends = inl (record { value = value; front = log; after = []; log_is = sym (append-nil log); came_to = came; goes_on = ends })
 
   pub then-within : (inner : Course T) → Within inner first → Within (Then inner next) (Then first next)
   then-within inner within log result (inl on) = inl (record {
     value = on.value;
     front = on.front;
-    behind = on.behind;
+    after = on.after;
     log_is = on.log_is;
     came_to = within on.front (Ok on.value) on.came_to;
     goes_on = on.goes_on;
   })
   then-within inner within log result (inr stops) = inr (stops.0, within log (Err stops.0) stops.1, stops.2)
 
--- behind a course that sends nothing
+-- after a course that sends nothing
 pub ends-then : {T V : Type 0} (value : T) (next : T → Course V) → Within (next value) (Then (Ends value) next)
-ends-then value next log result so = inl (record { value = value; front = []; behind = log; log_is = refl; came_to = (refl, refl); goes_on = so })
+ends-then value next log result so = inl (record { value = value; front = []; after = log; log_is = refl; came_to = (refl, refl); goes_on = so })
 
 -- ROUNDS
 
@@ -64,7 +64,7 @@ module _ {T : Type 0} (round : Course T) (again : T) where
   rounds-before : (front : List Asked) → round front (Ok again) → (times : ℕ) (log : List Asked) → Rounds round again times log
       → Rounds round again (times + 1) (front ++ log)
   rounds-before front came times log no_round = subst (λ (l : List Asked). Rounds round again 1 l) (sym (append-nil front)) (one_more no_round came)
-  rounds-before front came times log (one_more {times = k} {front = f} {behind = b} so last) =
+  rounds-before front came times log (one_more {times = k} {front = f} {after = b} so last) =
       subst (λ (l : List Asked). Rounds round again (k + 1 + 1) l) (append_assoc front f b) (one_more (rounds-before front came k f so) last)
 
   pub upto-again : (most more : ℕ) → most ≡ more + 1 → (front log : List Asked) (result : Result T Stop) → round front (Ok again)
@@ -75,20 +75,20 @@ module _ {T : Type 0} (round : Course T) (again : T) where
     times = ends.times + 1;
     few = omega arith;
     front = front ++ ends.front;
-    behind = ends.behind;
-    log_is = ap (λ (l : List Asked). front ++ l) ends.log_is ∙ sym (append_assoc front ends.front ends.behind);
+    after = ends.after;
+    log_is = ap (λ (l : List Asked). front ++ l) ends.log_is ∙ sym (append_assoc front ends.front ends.after);
     rounds = rounds-before front came ends.times ends.front ends.rounds;
     last = ends.last;
     ends = ends.ends;
   })
 
   pub upto-ends : (most : ℕ) → 0 < most → (log : List Asked) (result : Result T Stop) → round log result → result ≢ Ok again → UpTo most round again log result
-  upto-ends most some log result last other = inr (record { times = 0; few = some; front = []; behind = log; log_is = refl; rounds = no_round; last = last; ends = other })
+  upto-ends most some log result last other = inr (record { times = 0; few = some; front = []; after = log; log_is = refl; rounds = no_round; last = last; ends = other })
 
   pub upto-last : (log : List Asked) → round log (Ok again) → UpTo 1 round again log (Ok again)
   upto-last log came = inl (one_more no_round came, refl)
 
-  -- a first round, and what is behind it
+  -- a first round, and what is after it
   module _ {V : Type 0} (next : T → Course V) (one : Asked) where
     pub rounds-next : (more : ℕ) (value : T) → value ≢ again → round (one ∷ []) (Ok value) → Follows (Then (UpTo (more + 1) round again) next) one (next value)
     rounds-next more value other came =
@@ -110,8 +110,8 @@ module _ {T : Type 0} (round : Course T) (again : T) where
 abbrev pub MayStop : {T : Type 0} → Course T → Asked → Type 0
 MayStop {T} course one = (result : Result T Stop) → IsErr result → course (one ∷ []) result
 
-pub asks-stop : {T : Type 0} (told : Pdu → T) (lost : T) (slave : ℕ) (order : Pdu) → MayStop (Asks slave order told lost) (asked slave order (Err device.Stopped))
-asks-stop told lost slave order result cut = (Err device.Stopped, refl, cut)
+pub asks-stop : {T : Type 0} (reported : Pdu → T) (lost : T) (slave : ℕ) (order : Pdu) → MayStop (Asks slave order reported lost) (asked slave order (Err device.Stopped))
+asks-stop reported lost slave order result cut = (Err device.Stopped, refl, cut)
 
 pub then-stop : {T V : Type 0} (first : Course T) (next : T → Course V) (one : Asked) → MayStop first one → MayStop (Then first next) one
 then-stop first next one stops (Ok value) cut = absurd (false≢true cut)

@@ -12,8 +12,8 @@ use Rattle.rom_steps.specs.declared.back.Back.TheVariants.{Came, Lost}
 use Rattle.rom_steps.specs.Back.{IsBack, counted_in, issued_in, pair_in, rested_in}
 
 -- how a frame that was lost is heard
-lost_so : {T : Type 0} (told : Pdu → T) (lost : T) (fault : DeviceFault) → fault ≡ device.Lost → IsHeard told lost (Err fault) (Ok lost)
-lost_so {T} told lost fault is = subst (λ (f : DeviceFault). IsHeard told lost (Err f) (Ok lost)) (sym is) refl
+lost_so : {T : Type 0} (reported : Pdu → T) (lost : T) (fault : DeviceFault) → fault ≡ device.Lost → IsHeard reported lost (Err fault) (Ok lost)
+lost_so {T} reported lost fault is = subst (λ (f : DeviceFault). IsHeard reported lost (Err f) (Ok lost)) (sym is) refl
 
 pub heard_counted : (back : Back) (came : Result Pdu DeviceFault) → IsBack back came → IsHeard is_counted false came (Ok (counted_in back))
 heard_counted (Came counter content) (Ok reply) is = ap (λ (n : ℕ). Ok (n == 1)) (sym is.0)

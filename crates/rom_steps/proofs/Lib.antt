@@ -5,4 +5,4 @@ pub mod Moving
 pub mod Stopping
 pub mod Stepping
 pub mod Numbered
-pub mod WholeLaws
+pub mod CompleteLaws

@@ -14,7 +14,7 @@ use Rattle.rom_steps.specs.declared.back.Rested.TheVariants.{Well, Failed}
 use Rattle.rom_steps.specs.declared.back.WordPair.{WordPair}
 use Rattle.rom_steps.specs.Accesses.Tried.{words_read, try_failed, never_idle}
 use Rattle.rom_steps.specs.Courses.{Asked, Course, IsHeard, Ends, Then, OnlyIf, no_round, UpTo, Stop}
-use Rattle.rom_steps.specs.Accesses.{found_in, pair_of, is_counted, issued_by, WritesBy, PollsBy, FetchesBy, WaitsBy, InsistsBy, IssuesBy, SettlesBehind, ClearsBy, FreesBy, tried_of, FetchesBehind, WaitsBehind, TriesBy, pair_tried, Tried}
+use Rattle.rom_steps.specs.Accesses.{found_in, pair_of, is_counted, issued_by, WritesBy, PollsBy, FetchesBy, WaitsBy, InsistsBy, IssuesBy, SettlesAfter, ClearsBy, FreesBy, tried_of, FetchesAfter, WaitsAfter, TriesBy, pair_tried, Tried}
 use Rattle.rom_steps.specs.declared.step.End.{End}
 use Rattle.rom_steps.specs.declared.step.End.TheVariants as ends
 use Rattle.rom_steps.specs.declared.step.Step.{Step}
@@ -27,7 +27,7 @@ use Rattle.rom_steps.proofs.Following.{asked, Within, follows-within, asks-so, t
 only : (a b : Stop) → a ≡ b
 only a b = refl
 
--- rounds with two courses behind them
+-- rounds with two courses after them
 module _ {T V W : Type 0} (round : Course T) (again : T) (next : T → Course V) (last : V → Course W) (one : Asked) where
   two-next : (more : ℕ) (value : T) → value ≢ again → round (one ∷ []) (Ok value)
       → Follows (Then (Then (UpTo (more + 1) round again) next) last) one (Then (next value) last)
@@ -126,11 +126,11 @@ no-more round log result so =
     subst (λ (l : List Asked). UpTo 0 round try_failed l result) (sym so.0)
     (subst (λ (r : Result Tried Stop). UpTo 0 round try_failed [] r) (sym so.1) (inl (no_round, refl)))
 
--- the step behind a try
-abbrev behind : (word tries : ℕ) → Tried → Step
-behind word tries try_failed = failed_try word tries
-behind word tries (words_read pair) = Ended (ends.Read pair.first pair.second)
-behind word tries never_idle = Ended ends.Dead
+-- the step after a try
+abbrev after : (word tries : ℕ) → Tried → Step
+after word tries try_failed = failed_try word tries
+after word tries (words_read pair) = Ended (ends.Read pair.first pair.second)
+after word tries never_idle = Ended ends.Dead
 
 module _ (slave word : ℕ) where
   failed-within : (tries : ℕ) → Within (Remains slave (failed_try word tries)) (Concludes (UpTo tries (TriesBy slave word) try_failed))
@@ -140,7 +140,7 @@ module _ (slave word : ℕ) where
       let same : tries + 1 ≡ suc tries = omega arith in
       subst (λ (n : ℕ). Concludes (UpTo n (TriesBy slave word) try_failed) log result) same so
 
-  tried-within : (tries : ℕ) (value : Tried) → Within (Remains slave (behind word tries value)) (Concludes (Then (Ends value) (TriesOn slave word tries)))
+  tried-within : (tries : ℕ) (value : Tried) → Within (Remains slave (after word tries value)) (Concludes (Then (Ends value) (TriesOn slave word tries)))
   tried-within tries try_failed log result so =
       concludes-within (UpTo tries (TriesBy slave word) try_failed) (Then (Ends try_failed) (TriesOn slave word tries)) (ends-then try_failed (TriesOn slave word tries)) log result
       (failed-within tries log result so)
@@ -151,26 +151,26 @@ module _ (slave word : ℕ) where
       concludes-within (Ends never_idle) (Then (Ends never_idle) (TriesOn slave word tries)) (ends-then never_idle (TriesOn slave word tries)) log result
       (ended-within never_idle log result so)
 
-  -- the rest of a try, and those behind it
-  tries-end : (tries : ℕ) (one : Asked) (front behind : List Asked) (result : Result Tried Stop) (value : Tried) → value ≢ try_failed → TriesBy slave word (one ∷ front) (Ok value)
-      → (behind ≡ []) × (result ≡ Ok value) → UpTo (tries + 1) (TriesBy slave word) try_failed (one ∷ (front ++ behind)) result
-  tries-end tries one front behind result value other came on =
-      subst (λ (r : Result Tried Stop). UpTo (tries + 1) (TriesBy slave word) try_failed (one ∷ (front ++ behind)) r) (sym on.1)
-      (upto-ends (TriesBy slave word) try_failed (tries + 1) (omega arith) (one ∷ (front ++ behind)) (Ok value)
+  -- the rest of a try, and those after it
+  tries-end : (tries : ℕ) (one : Asked) (front after : List Asked) (result : Result Tried Stop) (value : Tried) → value ≢ try_failed → TriesBy slave word (one ∷ front) (Ok value)
+      → (after ≡ []) × (result ≡ Ok value) → UpTo (tries + 1) (TriesBy slave word) try_failed (one ∷ (front ++ after)) result
+  tries-end tries one front after result value other came on =
+      subst (λ (r : Result Tried Stop). UpTo (tries + 1) (TriesBy slave word) try_failed (one ∷ (front ++ after)) r) (sym on.1)
+      (upto-ends (TriesBy slave word) try_failed (tries + 1) (omega arith) (one ∷ (front ++ after)) (Ok value)
       (subst (λ (l : List Asked). TriesBy slave word (one ∷ l) (Ok value)) (sym (ap (λ (l : List Asked). front ++ l) on.0 ∙ append-nil front)) came)
       (λ e. other (let v : value ≡ try_failed = cc in v)))
 
-  tries-value : (tries : ℕ) (one : Asked) (front behind : List Asked) (result : Result Tried Stop) (value : Tried) → TriesBy slave word (one ∷ front) (Ok value)
-      → TriesOn slave word tries value behind result → UpTo (tries + 1) (TriesBy slave word) try_failed (one ∷ (front ++ behind)) result
-  tries-value tries one front behind result try_failed came on = upto-again (TriesBy slave word) try_failed (tries + 1) tries refl (one ∷ front) behind result came on
-  tries-value tries one front behind result (words_read pair) came on = tries-end tries one front behind result (words_read pair) (λ e. absurd cc) came on
-  tries-value tries one front behind result never_idle came on = tries-end tries one front behind result never_idle (λ e. absurd cc) came on
+  tries-value : (tries : ℕ) (one : Asked) (front after : List Asked) (result : Result Tried Stop) (value : Tried) → TriesBy slave word (one ∷ front) (Ok value)
+      → TriesOn slave word tries value after result → UpTo (tries + 1) (TriesBy slave word) try_failed (one ∷ (front ++ after)) result
+  tries-value tries one front after result try_failed came on = upto-again (TriesBy slave word) try_failed (tries + 1) tries refl (one ∷ front) after result came on
+  tries-value tries one front after result (words_read pair) came on = tries-end tries one front after result (words_read pair) (λ e. absurd cc) came on
+  tries-value tries one front after result never_idle came on = tries-end tries one front after result never_idle (λ e. absurd cc) came on
 
   tries-on : (tries : ℕ) (one : Asked) (rest : Course Tried) → Follows (TriesBy slave word) one rest
       → Follows (UpTo (tries + 1) (TriesBy slave word) try_failed) one (Then rest (TriesOn slave word tries))
   tries-on tries one rest follows log result (inl on) =
       subst (λ (l : List Asked). UpTo (tries + 1) (TriesBy slave word) try_failed (one ∷ l) result) (sym on.log_is)
-      (tries-value tries one on.front on.behind result on.value (follows on.front (Ok on.value) on.came_to) on.goes_on)
+      (tries-value tries one on.front on.after result on.value (follows on.front (Ok on.value) on.came_to) on.goes_on)
   tries-on tries one rest follows log (Ok value) (inr stops) = absurd (false≢true stops.2)
   tries-on tries one rest follows log (Err stop) (inr stops) =
       upto-ends (TriesBy slave word) try_failed (tries + 1) (omega arith) (one ∷ log) (Err stop)
@@ -180,16 +180,16 @@ module _ (slave : ℕ) (came : Result Pdu DeviceFault) (word : ℕ) where
   -- a try of which no datagram but the command is sent
   uncounted : IsHeard is_counted false came (Ok false) → TriesBy slave word (asked slave (read_order slave word) came ∷ []) (Ok try_failed)
   uncounted heard =
-      then-value (WritesBy slave (read_order slave word)) (WaitsBehind slave) (asked slave (read_order slave word) came ∷ []) false try_failed
+      then-value (WritesBy slave (read_order slave word)) (WaitsAfter slave) (asked slave (read_order slave word) came ∷ []) false try_failed
       (asks-so is_counted false slave (read_order slave word) came false heard) (refl, refl)
 
   pub commanded-moves : (tries : ℕ) (counted : Bool) → IsHeard is_counted false came (Ok counted)
       → Follows (Remains slave (Commands word tries)) (asked slave (read_order slave word) came) (Remains slave (commanded word tries counted))
   commanded-moves tries true heard =
       concludes-on (UpTo (tries + 1) (TriesBy slave word) try_failed) (asked slave (read_order slave word) came)
-      (Then (Then (WaitsBy slave) (FetchesBehind slave)) (TriesOn slave word tries))
-      (tries-on slave word tries (asked slave (read_order slave word) came) (Then (WaitsBy slave) (FetchesBehind slave))
-      (then-next (WritesBy slave (read_order slave word)) (WaitsBehind slave) (asked slave (read_order slave word) came) true
+      (Then (Then (WaitsBy slave) (FetchesAfter slave)) (TriesOn slave word tries))
+      (tries-on slave word tries (asked slave (read_order slave word) came) (Then (WaitsBy slave) (FetchesAfter slave))
+      (then-next (WritesBy slave (read_order slave word)) (WaitsAfter slave) (asked slave (read_order slave word) came) true
       (asks-so is_counted false slave (read_order slave word) came true heard)))
   commanded-moves zero false heard =
       follows-within (Remains slave (Commands word 0)) (asked slave (read_order slave word) came) (Then (Ends None) R) (Ends ends.Dead)
@@ -201,37 +201,37 @@ module _ (slave : ℕ) (came : Result Pdu DeviceFault) (word : ℕ) where
     pub waited_to_fetch-moves : (more : ℕ) (found : Option Rested) → IsHeard found_in None came (Ok found)
         → Follows (Remains slave (WaitsToFetch word tries more)) (asked slave (poll_order slave) came) (Remains slave (waited_to_fetch word tries more found))
     waited_to_fetch-moves more (Some Well) heard =
-        concludes-on (Then (Then (PollsOn slave more) (FetchesBehind slave)) (TriesOn slave word tries)) (asked slave (poll_order slave) came)
-        (Then (FetchesBehind slave (Some Well)) (TriesOn slave word tries))
-        (two-next (PollsBy slave) None (FetchesBehind slave) (TriesOn slave word tries) (asked slave (poll_order slave) came) more (Some Well) (λ e. absurd cc)
+        concludes-on (Then (Then (PollsOn slave more) (FetchesAfter slave)) (TriesOn slave word tries)) (asked slave (poll_order slave) came)
+        (Then (FetchesAfter slave (Some Well)) (TriesOn slave word tries))
+        (two-next (PollsBy slave) None (FetchesAfter slave) (TriesOn slave word tries) (asked slave (poll_order slave) came) more (Some Well) (λ e. absurd cc)
         (asks-so found_in None slave (poll_order slave) came (Some Well) heard))
     waited_to_fetch-moves more (Some Failed) heard =
         follows-within (Remains slave (WaitsToFetch word tries more)) (asked slave (poll_order slave) came) (Concludes (Then (Ends try_failed) (TriesOn slave word tries)))
         (Remains slave (failed_try word tries))
-        (concludes-on (Then (Then (PollsOn slave more) (FetchesBehind slave)) (TriesOn slave word tries)) (asked slave (poll_order slave) came)
+        (concludes-on (Then (Then (PollsOn slave more) (FetchesAfter slave)) (TriesOn slave word tries)) (asked slave (poll_order slave) came)
         (Then (Ends try_failed) (TriesOn slave word tries))
-        (two-next (PollsBy slave) None (FetchesBehind slave) (TriesOn slave word tries) (asked slave (poll_order slave) came) more (Some Failed) (λ e. absurd cc)
+        (two-next (PollsBy slave) None (FetchesAfter slave) (TriesOn slave word tries) (asked slave (poll_order slave) came) more (Some Failed) (λ e. absurd cc)
         (asks-so found_in None slave (poll_order slave) came (Some Failed) heard)))
         (tried-within slave word tries try_failed)
     waited_to_fetch-moves zero None heard =
         follows-within (Remains slave (WaitsToFetch word tries 0)) (asked slave (poll_order slave) came) (Concludes (Then (Ends never_idle) (TriesOn slave word tries)))
         (Ends ends.Dead)
-        (concludes-on (Then (Then (PollsOn slave 0) (FetchesBehind slave)) (TriesOn slave word tries)) (asked slave (poll_order slave) came)
+        (concludes-on (Then (Then (PollsOn slave 0) (FetchesAfter slave)) (TriesOn slave word tries)) (asked slave (poll_order slave) came)
         (Then (Ends never_idle) (TriesOn slave word tries))
-        (two-last (PollsBy slave) None (FetchesBehind slave) (TriesOn slave word tries) (asked slave (poll_order slave) came)
+        (two-last (PollsBy slave) None (FetchesAfter slave) (TriesOn slave word tries) (asked slave (poll_order slave) came)
         (asks-so found_in None slave (poll_order slave) came None heard)))
         (tried-within slave word tries never_idle)
     waited_to_fetch-moves (suc more) None heard =
-        concludes-on (Then (Then (PollsOn slave (suc more)) (FetchesBehind slave)) (TriesOn slave word tries)) (asked slave (poll_order slave) came)
-        (Then (Then (PollsOn slave more) (FetchesBehind slave)) (TriesOn slave word tries))
-        (two-on (PollsBy slave) None (FetchesBehind slave) (TriesOn slave word tries) (asked slave (poll_order slave) came) more
+        concludes-on (Then (Then (PollsOn slave (suc more)) (FetchesAfter slave)) (TriesOn slave word tries)) (asked slave (poll_order slave) came)
+        (Then (Then (PollsOn slave more) (FetchesAfter slave)) (TriesOn slave word tries))
+        (two-on (PollsBy slave) None (FetchesAfter slave) (TriesOn slave word tries) (asked slave (poll_order slave) came) more
         (asks-so found_in None slave (poll_order slave) came None heard))
 
     fetched-so : (pair : Option WordPair) → IsHeard pair_of None came (Ok pair)
-        → Follows (Remains slave (Fetches word tries)) (asked slave (fetch_order slave) came) (Remains slave (behind word tries (tried_of pair)))
+        → Follows (Remains slave (Fetches word tries)) (asked slave (fetch_order slave) came) (Remains slave (after word tries (tried_of pair)))
     fetched-so pair heard =
         follows-within (Remains slave (Fetches word tries)) (asked slave (fetch_order slave) came) (Concludes (Then (Ends (tried_of pair)) (TriesOn slave word tries)))
-        (Remains slave (behind word tries (tried_of pair)))
+        (Remains slave (after word tries (tried_of pair)))
         (concludes-on (Then (Then (FetchesBy slave) (λ (p : Option WordPair). Ends (tried_of p))) (TriesOn slave word tries)) (asked slave (fetch_order slave) came)
         (Then (Ends (tried_of pair)) (TriesOn slave word tries))
         (then-on (Then (FetchesBy slave) (λ (p : Option WordPair). Ends (tried_of p))) (TriesOn slave word tries) (asked slave (fetch_order slave) came) (Ends (tried_of pair))
@@ -263,9 +263,9 @@ module _ (slave : ℕ) (came : Result Pdu DeviceFault) where
       (ends-then settled.Again S)
 
   settled-next : (taken : Bool) (more : ℕ) (rested : Rested) → IsHeard found_in None came (Ok (Some rested))
-      → Follows (Remains slave (WaitsToSettle taken more)) (asked slave (poll_order slave) came) (Then (SettlesBehind slave taken (Some rested)) S)
+      → Follows (Remains slave (WaitsToSettle taken more)) (asked slave (poll_order slave) came) (Then (SettlesAfter slave taken (Some rested)) S)
   settled-next taken more rested heard =
-      two-next (PollsBy slave) None (SettlesBehind slave taken) S (asked slave (poll_order slave) came) more (Some rested) (λ e. absurd cc)
+      two-next (PollsBy slave) None (SettlesAfter slave taken) S (asked slave (poll_order slave) came) more (Some rested) (λ e. absurd cc)
       (asks-so found_in None slave (poll_order slave) came (Some rested) heard)
 
   pub waited_to_settle-moves : (taken : Bool) (more : ℕ) (found : Option Rested) → IsHeard found_in None came (Ok found)
@@ -278,7 +278,7 @@ module _ (slave : ℕ) (came : Result Pdu DeviceFault) where
   waited_to_settle-moves false more (Some Failed) heard = settled-next false more Failed heard
   waited_to_settle-moves taken zero None heard =
       follows-within (Remains slave (WaitsToSettle taken 0)) (asked slave (poll_order slave) came) (Then (Ends settled.Dead) S) (Ends (ends.Settled settled.Dead))
-      (two-last (PollsBy slave) None (SettlesBehind slave taken) S (asked slave (poll_order slave) came) (asks-so found_in None slave (poll_order slave) came None heard))
+      (two-last (PollsBy slave) None (SettlesAfter slave taken) S (asked slave (poll_order slave) came) (asks-so found_in None slave (poll_order slave) came None heard))
       (ends-then settled.Dead S)
   waited_to_settle-moves taken (suc more) None heard =
-      two-on (PollsBy slave) None (SettlesBehind slave taken) S (asked slave (poll_order slave) came) more (asks-so found_in None slave (poll_order slave) came None heard)
+      two-on (PollsBy slave) None (SettlesAfter slave taken) S (asked slave (poll_order slave) came) more (asks-so found_in None slave (poll_order slave) came None heard)

@@ -18,18 +18,18 @@ use Rattle.rom_steps.specs.Remaining.{IsOver, Moves}
 -- what is told where nothing is sent
 pub tells_over : (access : Access) (datagram : ToSend) (Unchanged : Type 0) (step : Step) (code : ℕ) → step_in access ≡ Some step → IsOver step → IsCodeOfOver step code → Unchanged
     → TellsNext access code datagram Unchanged
-tells_over access datagram Unchanged (Forces more) code is none told same = absurd (omega arith)
-tells_over access datagram Unchanged (Frees more) code is none told same = absurd (omega arith)
-tells_over access datagram Unchanged (WaitsToClear more) code is none told same = absurd (omega arith)
-tells_over access datagram Unchanged (Clears more) code is none told same = absurd (omega arith)
-tells_over access datagram Unchanged (Commands word tries) code is none told same = absurd (omega arith)
-tells_over access datagram Unchanged (WaitsToFetch word tries more) code is none told same = absurd (omega arith)
-tells_over access datagram Unchanged (Fetches word tries) code is none told same = absurd (omega arith)
-tells_over access datagram Unchanged (Issues word value) code is none told same = absurd (omega arith)
-tells_over access datagram Unchanged (WaitsToSettle taken more) code is none told same = absurd (omega arith)
-tells_over access datagram Unchanged Tidies code is none told same = absurd (omega arith)
-tells_over access datagram Unchanged (Ended end) code is none told same = ended end told is same
-tells_over access datagram Unchanged Stopped code is none told same = stopped told is same
+tells_over access datagram Unchanged (Forces more) code is none reported same = absurd (omega arith)
+tells_over access datagram Unchanged (Frees more) code is none reported same = absurd (omega arith)
+tells_over access datagram Unchanged (WaitsToClear more) code is none reported same = absurd (omega arith)
+tells_over access datagram Unchanged (Clears more) code is none reported same = absurd (omega arith)
+tells_over access datagram Unchanged (Commands word tries) code is none reported same = absurd (omega arith)
+tells_over access datagram Unchanged (WaitsToFetch word tries more) code is none reported same = absurd (omega arith)
+tells_over access datagram Unchanged (Fetches word tries) code is none reported same = absurd (omega arith)
+tells_over access datagram Unchanged (Issues word value) code is none reported same = absurd (omega arith)
+tells_over access datagram Unchanged (WaitsToSettle taken more) code is none reported same = absurd (omega arith)
+tells_over access datagram Unchanged Tidies code is none reported same = absurd (omega arith)
+tells_over access datagram Unchanged (Ended end) code is none reported same = ended end reported is same
+tells_over access datagram Unchanged Stopped code is none reported same = stopped reported is same
 
 -- an answer, as its first four bytes
 pub answer-back : (counter : ℕ) (content : List ℕ) (four : List ℕ) (came : Result Pdu DeviceFault) → four ≡ first_four content → IsAnswer counter content came → IsBack (Came counter four) came

@@ -1,4 +1,4 @@
--- Every step, and the step behind it.
+-- Every step, and the step after it.
 use Rattle.std.proofs.Common.{◌≡◌, ℕ, zero, suc, ◌+◌, ◌*◌, ◌<◌, Bool, true, false, Option, Some, None, Result, refl, sym, subst, arith}
 use Rattle.ecat_frame.specs.Frame.{Pdu}
 use Rattle.esc_model.specs.Orders.{access_order, poll_order, clear_order, read_order, fetch_order, write_order}
@@ -62,7 +62,7 @@ waited_to_settle-fewer taken more (Some Failed) = omega arith
 waited_to_settle-fewer taken zero None = omega arith
 waited_to_settle-fewer taken (suc more) None = omega arith
 
--- the step behind one that sends this datagram
+-- the step after one that sends this datagram
 makes : (slave : ℕ) (old new : Step) (came : Result Pdu DeviceFault) (wanted : Pdu) → ((order : Pdu) → IsNext slave old order → order ≡ wanted)
     → Follows (Remains slave old) (asked slave wanted came) (Remains slave new) → left new < left old → Moves slave old came new
 makes slave old new came wanted only follows fewer = record {

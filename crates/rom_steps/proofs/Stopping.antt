@@ -11,7 +11,7 @@ use Rattle.rom_steps.specs.declared.back.Rested.{Rested}
 use Rattle.rom_steps.specs.declared.back.WordPair.{WordPair}
 use Rattle.rom_steps.specs.Accesses.Tried.{try_failed}
 use Rattle.rom_steps.specs.Courses.{Asked, Course, Ends, Then, OnlyIf, UpTo}
-use Rattle.rom_steps.specs.Accesses.{found_in, pair_of, is_counted, issued_by, WritesBy, PollsBy, FetchesBy, InsistsBy, IssuesBy, SettlesBehind, ClearsBy, FreesBy, tried_of, FetchesBehind, WaitsBehind, TriesBy, Tried}
+use Rattle.rom_steps.specs.Accesses.{found_in, pair_of, is_counted, issued_by, WritesBy, PollsBy, FetchesBy, InsistsBy, IssuesBy, SettlesAfter, ClearsBy, FreesBy, tried_of, FetchesAfter, WaitsAfter, TriesBy, Tried}
 use Rattle.rom_steps.specs.declared.step.End.{End}
 use Rattle.rom_steps.specs.declared.step.End.TheVariants as ends
 use Rattle.rom_steps.specs.declared.step.Step.{Step}
@@ -26,7 +26,7 @@ cut slave order = asked slave order (Err device.Stopped)
 stops-on : (course : Course End) (one : Asked) → MayStop course one → Follows course one Stops
 stops-on course one stops log result so = subst (λ (l : List Asked). course (one ∷ l) result) (sym so.0) (stops result so.1)
 
--- one round, with courses behind it
+-- one round, with courses after it
 insist-stop : {V : Type 0} (slave : ℕ) (order : Pdu) (more : ℕ) (next : Bool → Course V) → MayStop (Then (InsistsOn slave order more) next) (cut slave order)
 insist-stop slave order more next =
     then-stop (InsistsOn slave order more) next (cut slave order) (upto-stop (WritesBy slave order) false more (cut slave order) (asks-stop is_counted false slave order))
@@ -40,7 +40,7 @@ concludes-stop course one stops = then-stop (Then course P) R one (then-stop cou
 
 tries-stop : (slave word : ℕ) → MayStop (TriesBy slave word) (cut slave (read_order slave word))
 tries-stop slave word =
-    then-stop (WritesBy slave (read_order slave word)) (WaitsBehind slave) (cut slave (read_order slave word)) (asks-stop is_counted false slave (read_order slave word))
+    then-stop (WritesBy slave (read_order slave word)) (WaitsAfter slave) (cut slave (read_order slave word)) (asks-stop is_counted false slave (read_order slave word))
 
 may-stop : (slave : ℕ) (step : Step) (order : Pdu) → IsNext slave step order → MayStop (Remains slave step) (cut slave order)
 may-stop slave (Forces more) order is =
@@ -63,8 +63,8 @@ may-stop slave (Commands word tries) order is =
     (upto-stop (TriesBy slave word) try_failed tries (cut slave (read_order slave word)) (tries-stop slave word)))
 may-stop slave (WaitsToFetch word tries more) order is =
     subst (λ (o : Pdu). MayStop (Remains slave (WaitsToFetch word tries more)) (cut slave o)) (sym is)
-    (concludes-stop (Then (Then (PollsOn slave more) (FetchesBehind slave)) (TriesOn slave word tries)) (cut slave (poll_order slave))
-    (then-stop (Then (PollsOn slave more) (FetchesBehind slave)) (TriesOn slave word tries) (cut slave (poll_order slave)) (polls-stop slave more (FetchesBehind slave))))
+    (concludes-stop (Then (Then (PollsOn slave more) (FetchesAfter slave)) (TriesOn slave word tries)) (cut slave (poll_order slave))
+    (then-stop (Then (PollsOn slave more) (FetchesAfter slave)) (TriesOn slave word tries) (cut slave (poll_order slave)) (polls-stop slave more (FetchesAfter slave))))
 may-stop slave (Fetches word tries) order is =
     subst (λ (o : Pdu). MayStop (Remains slave (Fetches word tries)) (cut slave o)) (sym is)
     (concludes-stop (Then (Then (FetchesBy slave) (λ (p : Option WordPair). Ends (tried_of p))) (TriesOn slave word tries)) (cut slave (fetch_order slave))
@@ -76,7 +76,7 @@ may-stop slave (Issues word value) order is =
     (asks-stop issued_by issued.Lost slave (write_order slave word value)))
 may-stop slave (WaitsToSettle taken more) order is =
     subst (λ (o : Pdu). MayStop (Remains slave (WaitsToSettle taken more)) (cut slave o)) (sym is)
-    (then-stop (Then (PollsOn slave more) (SettlesBehind slave taken)) S (cut slave (poll_order slave)) (polls-stop slave more (SettlesBehind slave taken)))
+    (then-stop (Then (PollsOn slave more) (SettlesAfter slave taken)) S (cut slave (poll_order slave)) (polls-stop slave more (SettlesAfter slave taken)))
 may-stop slave Tidies order is =
     subst (λ (o : Pdu). MayStop (Remains slave Tidies) (cut slave o)) (sym is)
     (then-stop (Then (WritesBy slave (clear_order slave)) (λ (b : Bool). Ends settled.Again)) S (cut slave (clear_order slave))

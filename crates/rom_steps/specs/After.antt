@@ -1,4 +1,4 @@
--- The step behind each step, case by case. No public contract cites it.
+-- The step after each step, case by case. No public contract cites it.
 use Rattle.std.specs.Prelude.{ℕ, zero, suc, Bool, true, false, Option, Some, None}
 use Rattle.site_core.specs.declared.answers.Settled.TheVariants as settled
 use Rattle.rom_steps.specs.declared.back.Rested.{Rested}

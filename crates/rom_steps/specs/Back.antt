@@ -11,7 +11,7 @@ use Rattle.rom_steps.specs.declared.back.Back.{Back}
 use Rattle.rom_steps.specs.declared.back.Back.TheVariants.{Came, Lost}
 use Rattle.rom_steps.specs.declared.back.WordPair.{WordPair}
 
--- the first four bytes of a content, with 0 behind a shorter one
+-- the first four bytes of a content, with 0 after a shorter one
 abbrev pub first_four : List ℕ → List ℕ
 first_four content = slice_index content 0 ∷ slice_index content 1 ∷ slice_index content 2 ∷ slice_index content 3 ∷ []
 

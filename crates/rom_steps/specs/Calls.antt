@@ -11,7 +11,7 @@ use Rattle.rom_steps.specs.declared.step.Step.TheVariants.{Ended, Stopped}
 use Rattle.rom_steps.specs.Numbers.{code_of_end, step_in}
 use Rattle.rom_steps.specs.Remaining.{Begins, IsToSend, IsOver, Moves, left}
 
--- The numbers are the first step of this course, behind which at most this number of datagrams is sent.
+-- The numbers are the first step of this course, after which at most this number of datagrams is sent.
 pub record Starts (course : (slave : ℕ) → Course End) (most : ℕ) (access : Access) : Type 0 where
   pub step : Step
   pub is : step_in access ≡ Some step

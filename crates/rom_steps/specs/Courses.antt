@@ -18,17 +18,17 @@ pub record Asked : Type 0 where
 abbrev pub Course : Type 0 → Type 1
 Course T = List Asked → Result T Stop → Type 0
 
--- how the answer is read: `told` says what a datagram that came back means, `lost` what a lost frame means
-abbrev pub IsHeard : {T : Type 0} → (told : Pdu → T) → (lost : T) → Result Pdu DeviceFault → Result T Stop → Type 0
-IsHeard told lost (Ok reply) result = result ≡ Ok (told reply)
-IsHeard told lost (Err device.Lost) result = result ≡ Ok lost
-IsHeard told lost (Err device.Stopped) result = IsErr result
-IsHeard told lost (Err device.Disk) result = ⊥
+-- how the answer is read: `reported` says what a datagram that came back means, `lost` what a lost frame means
+abbrev pub IsHeard : {T : Type 0} → (reported : Pdu → T) → (lost : T) → Result Pdu DeviceFault → Result T Stop → Type 0
+IsHeard reported lost (Ok reply) result = result ≡ Ok (reported reply)
+IsHeard reported lost (Err device.Lost) result = result ≡ Ok lost
+IsHeard reported lost (Err device.Stopped) result = IsErr result
+IsHeard reported lost (Err device.Disk) result = ⊥
 
 -- one datagram
-abbrev pub Asks : {T : Type 0} → (slave : ℕ) → Pdu → (told : Pdu → T) → (lost : T) → Course T
-Asks slave order told lost log result =
-    (back : Result Pdu DeviceFault) × (log ≡ record { slave = slave; order = order; back = back } ∷ []) × IsHeard told lost back result
+abbrev pub Asks : {T : Type 0} → (slave : ℕ) → Pdu → (reported : Pdu → T) → (lost : T) → Course T
+Asks slave order reported lost log result =
+    (back : Result Pdu DeviceFault) × (log ≡ record { slave = slave; order = order; back = back } ∷ []) × IsHeard reported lost back result
 
 -- nothing more
 abbrev pub Ends : {T : Type 0} → T → Course T
@@ -39,10 +39,10 @@ pub record GoesOn {T V : Type 0} (first : List Asked → Result T Stop → Type 
     (log : List Asked) (result : Result V Stop) : Type 0 where
   pub value : T
   pub front : List Asked
-  pub behind : List Asked
-  pub log_is : log ≡ front ++ behind
+  pub after : List Asked
+  pub log_is : log ≡ front ++ after
   pub came_to : first front (Ok value)
-  pub goes_on : next value behind result
+  pub goes_on : next value after result
 
 -- one course and then, by its value, another one; or the line stopped in the first
 abbrev pub Then : {T V : Type 0} → Course T → (T → Course V) → Course V
@@ -56,8 +56,8 @@ OnlyIf false course = Ends false
 -- This number of rounds, each of which came to the value that asks for the next one.
 pub data Rounds {T : Type 0} (round : List Asked → Result T Stop → Type 0) (again : T) : (times : ℕ) → List Asked → Type 0 where
   no_round : Rounds round again 0 []
-  one_more : {times : ℕ} {front behind : List Asked} → Rounds round again times front → round behind (Ok again)
-      → Rounds round again (times + 1) (front ++ behind)
+  one_more : {times : ℕ} {front after : List Asked} → Rounds round again times front → round after (Ok again)
+      → Rounds round again (times + 1) (front ++ after)
 
 -- The rounds ended with one of the first `most`: it came to another value, or the line stopped in it.
 pub record EndsInRound {T : Type 0} (most : ℕ) (round : List Asked → Result T Stop → Type 0) (again : T) (log : List Asked)
@@ -65,10 +65,10 @@ pub record EndsInRound {T : Type 0} (most : ℕ) (round : List Asked → Result 
   pub times : ℕ
   pub few : times < most
   pub front : List Asked
-  pub behind : List Asked
-  pub log_is : log ≡ front ++ behind
+  pub after : List Asked
+  pub log_is : log ≡ front ++ after
   pub rounds : Rounds round again times front
-  pub last : round behind result
+  pub last : round after result
   pub ends : result ≢ Ok again
 
 -- rounds until one comes to another value, at most this number of them

@@ -5,4 +5,4 @@ pub mod Remaining
 pub mod After
 pub mod Numbers
 pub mod Calls
-pub mod Whole
+pub mod Complete

@@ -8,7 +8,7 @@ use Rattle.rom_steps.specs.declared.back.Rested.{Rested}
 use Rattle.rom_steps.specs.declared.back.WordPair.{WordPair}
 use Rattle.rom_steps.specs.Accesses.Tried.{words_read, try_failed, never_idle}
 use Rattle.rom_steps.specs.Courses.{Asked, Course, Ends, Then, OnlyIf, UpTo, Stop}
-use Rattle.rom_steps.specs.Accesses.{WritesBy, PollsBy, FetchesBy, InsistsBy, IssuesBy, SettlesBehind, SettlesBy, ClearsBy, FreesBy, OpensBy, tried_of, FetchesBehind, TriesBy, pair_tried, ReadsPairBy, Tried}
+use Rattle.rom_steps.specs.Accesses.{WritesBy, PollsBy, FetchesBy, InsistsBy, IssuesBy, SettlesAfter, SettlesBy, ClearsBy, FreesBy, OpensBy, tried_of, FetchesAfter, TriesBy, pair_tried, ReadsPairBy, Tried}
 use Rattle.rom_steps.specs.declared.datagram.ToSend.{ToSend}
 use Rattle.rom_steps.specs.declared.step.End.{End}
 use Rattle.rom_steps.specs.declared.step.End.TheVariants as ends
@@ -48,7 +48,7 @@ InsistsOn slave order more = UpTo (more + 1) (WritesBy slave order) false
 abbrev pub PollsOn : (slave more : ℕ) → Course (Option Rested)
 PollsOn slave more = UpTo (more + 1) (PollsBy slave) None
 
--- A try to read ended so. Behind one that failed there are up to this number of others.
+-- A try to read ended so. After one that failed there are up to this number of others.
 abbrev pub TriesOn : (slave word tries : ℕ) → Tried → Course Tried
 TriesOn slave word tries try_failed = UpTo tries (TriesBy slave word) try_failed
 TriesOn slave word tries (words_read pair) = Ends (words_read pair)
@@ -72,11 +72,11 @@ Remains slave (WaitsToClear more) =
     Then (Then (PollsOn slave more) (λ found. OnlyIf (is_some found) (InsistsBy slave (clear_order slave)))) (λ opened. Ends (opening_end opened))
 Remains slave (Clears more) = Then (InsistsOn slave (clear_order slave) more) (λ opened. Ends (opening_end opened))
 Remains slave (Commands word tries) = Concludes (UpTo (tries + 1) (TriesBy slave word) try_failed)
-Remains slave (WaitsToFetch word tries more) = Concludes (Then (Then (PollsOn slave more) (FetchesBehind slave)) (TriesOn slave word tries))
+Remains slave (WaitsToFetch word tries more) = Concludes (Then (Then (PollsOn slave more) (FetchesAfter slave)) (TriesOn slave word tries))
 Remains slave (Fetches word tries) =
     Concludes (Then (Then (FetchesBy slave) (λ pair. Ends (tried_of pair))) (TriesOn slave word tries))
 Remains slave (Issues word value) = IssueCourse slave word value
-Remains slave (WaitsToSettle taken more) = Then (Then (PollsOn slave more) (SettlesBehind slave taken)) (λ settled. Ends (ends.Settled settled))
+Remains slave (WaitsToSettle taken more) = Then (Then (PollsOn slave more) (SettlesAfter slave taken)) (λ settled. Ends (ends.Settled settled))
 Remains slave Tidies =
     Then (Then (WritesBy slave (clear_order slave)) (λ counted. Ends settled.Again)) (λ settled. Ends (ends.Settled settled))
 Remains slave (Ended end) = Ends end
@@ -128,25 +128,25 @@ IsNext slave Tidies order = order ≡ clear_order slave
 IsNext slave (Ended end) order = ⊥
 IsNext slave Stopped order = ⊥
 
--- The bytes behind its content are 0.
-abbrev pub IsZeroBehind : ToSend → Type 0
-IsZeroBehind datagram = drop datagram.length datagram.content ≡ replicate (8 - datagram.length) 0
+-- The bytes after its content are 0.
+abbrev pub IsZeroAfter : ToSend → Type 0
+IsZeroAfter datagram = drop datagram.length datagram.content ≡ replicate (8 - datagram.length) 0
 
--- This is the datagram that is sent next, whichever slave it is sent to. Its length is that of its content, behind which its bytes are 0.
+-- This is the datagram that is sent next, whichever slave it is sent to. Its length is that of its content, after which its bytes are 0.
 pub record IsToSend (step : Step) (datagram : ToSend) : Type 0 where
   pub next : (slave : ℕ) → IsNext slave step (pdu_to slave datagram)
   pub long : length (take datagram.length datagram.content) ≡ datagram.length
-  pub behind : IsZeroBehind datagram
+  pub after : IsZeroAfter datagram
 
 -- Nothing more is sent.
 abbrev pub IsOver : Step → Type 0
 IsOver step = left step ≡ 0
 
--- What is taken from `rest` on makes, behind this datagram, what may be taken from `course` on.
+-- What is taken from `rest` on makes, after this datagram, what may be taken from `course` on.
 abbrev pub Follows : {T : Type 0} → Course T → Asked → Course T → Type 0
 Follows {T} course first rest = (log : List Asked) → (result : Result T Stop) → rest log result → course (first ∷ log) result
 
--- This came back for the datagram of one step, and the other one is behind it: what remains there is what remained, without that
+-- This came back for the datagram of one step, and the other one is after it: what remains there is what remained, without that
 -- datagram, and fewer are left. Where none was left, the step stays.
 pub record Moves (slave : ℕ) (old : Step) (back : Result Pdu DeviceFault) (new : Step) : Type 0 where
   pub follows : (order : Pdu) → IsNext slave old order

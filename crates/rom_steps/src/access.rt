@@ -17,9 +17,9 @@ pub struct Access {
     pub more: u32,
     /// How many tries to read are left.
     pub tries: u32,
-    /// The number of the word; behind a reading the word itself.
+    /// The number of the word; after a reading the word itself.
     pub first: u16,
-    /// The value that is written; behind a reading the next word.
+    /// The value that is written; after a reading the next word.
     pub second: u16,
 }
 

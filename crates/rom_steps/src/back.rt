@@ -9,7 +9,7 @@ use site_core::Issued;
 /// What came back for a datagram.
 #[derive(Clone, Copy)]
 pub enum Back {
-    /// The frame: the datagram's working counter, and the first four bytes of its content (behind a shorter one 0).
+    /// The frame: the datagram's working counter, and the first four bytes of its content (after a shorter one 0).
     Came { counter: u16, content: [u8; 4] },
     /// The frame was lost. The slave may have taken it or not.
     Lost,

@@ -86,7 +86,7 @@ pub fn next(access: &Access, datagram: &mut ToSend) -> u32
     }
 }
 
-/// A byte of a content, or 0 behind it.
+/// A byte of a content, or 0 after it.
 fn byte(content: &[u8], at: usize) -> u8
     ensures { result ≡ slice_index content.now at }
 {

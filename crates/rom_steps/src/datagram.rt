@@ -1,7 +1,7 @@
 //! The datagram that is sent next.
 
 ghost use Rattle.std.specs.Prelude.{◌≡◌, ◌≤◌, ℕ, [], ◌∷◌, length, take, MatchOption, IfSome};
-ghost use Rattle.rom_steps.specs.Remaining.{IsNext, IsOver, IsZeroBehind, pdu_to};
+ghost use Rattle.rom_steps.specs.Remaining.{IsNext, IsOver, IsZeroAfter, pdu_to};
 
 use crate::registers::{ACCESS, CONTENT, CONTROL, read_content, write_content};
 use crate::step::Step;
@@ -16,7 +16,7 @@ pub struct ToSend {
     pub length: u8,
     /// The address of the register: ADO.
     pub register: u16,
-    /// Its content, and 0 behind it.
+    /// Its content, and 0 after it.
     pub content: [u8; 8],
 }
 
@@ -63,7 +63,7 @@ fn writes(register: u16, count: u8, content: [u8; 8]) -> ToSend
 pub fn next_of(step: Step) -> Option<ToSend>
     ensures next { MatchOption result (IsOver step) (λ datagram. (slave : ℕ) → IsNext slave step (pdu_to slave datagram)) }
     ensures long { IfSome result (λ datagram. length (take datagram.length datagram.content) ≡ datagram.length) }
-    ensures behind { IfSome result (λ datagram. IsZeroBehind datagram) }
+    ensures after { IfSome result (λ datagram. IsZeroAfter datagram) }
 {
     match step {
         Step::Forces { .. } => Some(writes(ACCESS, 1, [2, 0, 0, 0, 0, 0, 0, 0])),

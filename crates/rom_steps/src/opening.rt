@@ -1,4 +1,4 @@
-//! Opening: what comes behind each of its datagrams.
+//! Opening: what comes after each of its datagrams.
 
 ghost use Rattle.std.specs.Prelude.{◌≡◌};
 ghost use Rattle.rom_steps.specs.After.{cleared, forced, freed, waited_to_clear};
@@ -6,7 +6,7 @@ ghost use Rattle.rom_steps.specs.After.{cleared, forced, freed, waited_to_clear}
 use crate::back::Rested;
 use crate::step::{End, Step};
 
-/// Behind the datagram that forces ECAT access.
+/// After the datagram that forces ECAT access.
 #[tactic(auto, using(crate::proofs::Again::again_none, crate::proofs::Again::again_more))]
 pub(crate) fn forced(more: u32, counted: bool) -> Step
     ensures { result ≡ forced more counted }
@@ -20,7 +20,7 @@ pub(crate) fn forced(more: u32, counted: bool) -> Step
     Step::Forces { more: more - 1 }
 }
 
-/// Behind the datagram that ends forcing.
+/// After the datagram that ends forcing.
 #[tactic(auto, using(crate::proofs::Again::again_none, crate::proofs::Again::again_more))]
 pub(crate) fn freed(more: u32, counted: bool) -> Step
     ensures { result ≡ freed more counted }
@@ -34,7 +34,7 @@ pub(crate) fn freed(more: u32, counted: bool) -> Step
     Step::Frees { more: more - 1 }
 }
 
-/// Behind a poll.
+/// After a poll.
 #[tactic(auto, using(crate::proofs::Again::again_none, crate::proofs::Again::again_more))]
 pub(crate) fn waited_to_clear(more: u32, found: Option<Rested>) -> Step
     ensures { result ≡ waited_to_clear more found }
@@ -50,7 +50,7 @@ pub(crate) fn waited_to_clear(more: u32, found: Option<Rested>) -> Step
     }
 }
 
-/// Behind the datagram that clears errors.
+/// After the datagram that clears errors.
 #[tactic(auto, using(crate::proofs::Again::again_none, crate::proofs::Again::again_more))]
 pub(crate) fn cleared(more: u32, counted: bool) -> Step
     ensures { result ≡ cleared more counted }

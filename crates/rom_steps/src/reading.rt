@@ -1,4 +1,4 @@
-//! Reading two words: what comes behind each of its datagrams.
+//! Reading two words: what comes after each of its datagrams.
 
 ghost use Rattle.std.specs.Prelude.{◌≡◌};
 ghost use Rattle.rom_steps.specs.After.{commanded, failed_try, fetched, waited_to_fetch};
@@ -6,7 +6,7 @@ ghost use Rattle.rom_steps.specs.After.{commanded, failed_try, fetched, waited_t
 use crate::back::{Rested, WordPair};
 use crate::step::{End, Step};
 
-/// Behind a try that failed: the next one, or the slave is given up.
+/// After a try that failed: the next one, or the slave is given up.
 #[tactic(auto, using(crate::proofs::Again::again_none, crate::proofs::Again::again_more))]
 fn failed_try(word: u16, tries: u32) -> Step
     ensures { result ≡ failed_try word tries }
@@ -20,7 +20,7 @@ fn failed_try(word: u16, tries: u32) -> Step
     }
 }
 
-/// Behind the command that reads words.
+/// After the command that reads words.
 pub(crate) fn commanded(word: u16, tries: u32, counted: bool) -> Step
     ensures { result ≡ commanded word tries counted }
 {
@@ -34,7 +34,7 @@ pub(crate) fn commanded(word: u16, tries: u32, counted: bool) -> Step
     failed_try(word, tries)
 }
 
-/// Behind a poll.
+/// After a poll.
 #[tactic(auto, using(crate::proofs::Again::again_none, crate::proofs::Again::again_more))]
 pub(crate) fn waited_to_fetch(word: u16, tries: u32, more: u32, found: Option<Rested>) -> Step
     ensures { result ≡ waited_to_fetch word tries more found }
@@ -55,7 +55,7 @@ pub(crate) fn waited_to_fetch(word: u16, tries: u32, more: u32, found: Option<Re
     }
 }
 
-/// Behind the datagram that fetches words.
+/// After the datagram that fetches words.
 pub(crate) fn fetched(word: u16, tries: u32, pair: Option<WordPair>) -> Step
     ensures { result ≡ fetched word tries pair }
 {

@@ -1,4 +1,4 @@
-//! Settling: what comes behind each of its datagrams.
+//! Settling: what comes after each of its datagrams.
 
 ghost use Rattle.std.specs.Prelude.{◌≡◌};
 ghost use Rattle.rom_steps.specs.After.{rested_well, waited_to_settle};
@@ -7,7 +7,7 @@ use crate::back::Rested;
 use crate::step::{End, Step};
 use site_core::Settled;
 
-/// Behind a poll that saw the slave idle without an error.
+/// After a poll that saw the slave idle without an error.
 fn rested_well(taken: bool) -> Step
     ensures { result ≡ rested_well taken }
 {
@@ -17,7 +17,7 @@ fn rested_well(taken: bool) -> Step
     Step::Tidies
 }
 
-/// Behind a poll.
+/// After a poll.
 #[tactic(auto, using(crate::proofs::Again::again_none, crate::proofs::Again::again_more))]
 pub(crate) fn waited_to_settle(taken: bool, more: u32, found: Option<Rested>) -> Step
     ensures { result ≡ waited_to_settle taken more found }

@@ -14,7 +14,7 @@ pub enum End {
     Read { first: u16, second: u16 },
     /// A word was issued, with this outcome.
     Issued(Issued),
-    /// The slave was waited for behind a word that was issued, with this outcome.
+    /// The slave was waited for after a word that was issued, with this outcome.
     Settled(Settled),
     /// The slave was given up in an opening or a reading: a datagram was sent three times and never counted, three tries to read the
     /// words failed, or the slave wasn't seen idle in 10,000 polls.
@@ -36,7 +36,7 @@ pub enum Step {
     Clears { more: u32 },
     /// Reading: the command that reads a word and the next one.
     Commands { word: u16, tries: u32 },
-    /// Reading: polls behind that command.
+    /// Reading: polls after that command.
     WaitsToFetch { word: u16, tries: u32, more: u32 },
     /// Reading: the datagram that fetches the words.
     Fetches { word: u16, tries: u32 },
@@ -69,7 +69,7 @@ pub fn begin_reading(word: u16) -> Step
     Step::Commands { word, tries: 2 }
 }
 
-/// Begins to issue a word: to send the command that writes it, once. It ends with `Issued`, behind one datagram.
+/// Begins to issue a word: to send the command that writes it, once. It ends with `Issued`, after one datagram.
 pub fn begin_issue(word: u16, value: u16) -> Step
     ensures course { Begins result (λ slave. IssueCourse slave word value) }
     ensures bounded { left result ≡ 1 }

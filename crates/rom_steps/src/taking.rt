@@ -40,7 +40,7 @@ fn after(step: Step, back: Back) -> Step
     }
 }
 
-/// Takes in what came back for the datagram of a step, and returns the step behind it. An access that has ended stays as it is.
+/// Takes in what came back for the datagram of a step, and returns the step after it. An access that has ended stays as it is.
 pub fn take(step: Step, back: Back) -> Step
     ensures { (slave : ℕ) → (came : Result Pdu DeviceFault) → IsBack back came → Moves slave step came result }
 {

@@ -14,7 +14,7 @@ pub enum Ask {
     Group(&'static [(u16, u16)]),
     /// Slave and alias of each edit of a guarded group that expects no identity.
     Guarded(&'static [(u16, u16)]),
-    /// An image of slave 0 with this alias and check byte and an end mark in word 64. Behind it this number of words have this in both
+    /// An image of slave 0 with this alias and check byte and an end mark in word 64. After it this number of words have this in both
     /// bytes.
     Image((u8, u8), u16, u8),
     /// An RXPDO of slave 0 for its first sync manager: 46 entries of 255 bits, and one of this many.

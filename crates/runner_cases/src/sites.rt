@@ -40,7 +40,7 @@ fn set(site: &mut MemSite, trouble: &Trouble) {
 
 /// The site of these parts, on which this goes wrong. None if a part is missing.
 pub fn site_of(alloc: Global, parts: Parts, trouble: &Trouble) -> Option<MemSite> {
-    if !parts.is_whole() {
+    if !parts.is_complete() {
         drop(parts);
         return None;
     }

@@ -109,7 +109,7 @@ fn change(dice: &mut Dice, bytes: &mut [u8]) {
     }
 }
 
-/// Writes a copy of a piece behind it.
+/// Writes a copy of a piece after it.
 fn double(dice: &mut Dice, bytes: &mut [u8]) {
     let from = dice.below(2056);
     let count = dice.below(48);

@@ -1,7 +1,7 @@
 //! Images that fill a half of the journal, on a slave of 4,096 words.
 
 use crate::story::Chapter::{Aliases, Recovery, Session};
-use crate::story::{Chapter, Story, all_told};
+use crate::story::{Chapter, Story, all_reported};
 use book_model::SubmitRefusal;
 use runner_cases::asks::Ask::{Alias, Image};
 use runner_cases::line::{ALONE, Line, Slave};
@@ -14,7 +14,7 @@ const LONG: Line = Line {
     ..ALONE
 };
 
-/// Images of words 0 to 64 and as many behind them as make a batch of 2,047 bytes with its closing gate. One more is too many.
+/// Images of words 0 to 64 and as many after them as make a batch of 2,047 bytes with its closing gate. One more is too many.
 const FULL: &[Chapter] = &[
     Session(
         Nothing,
@@ -44,8 +44,8 @@ const FULL: &[Chapter] = &[
     Aliases([2, 0, 0]),
 ];
 
-/// While a batch is appended behind a full half, an image that would fill its half finds no room, and an alias does.
-const BEHIND_A_BATCH: &[Chapter] = &[
+/// While a batch is appended after a full half, an image that would fill its half finds no room, and an alias does.
+const AFTER_A_BATCH: &[Chapter] = &[
     Session(
         Nothing,
         &[
@@ -98,12 +98,12 @@ const SECOND: &[Chapter] = &[
 
 const STORIES: &[Story] = &[
     (LONG, FULL),
-    (LONG, BEHIND_A_BATCH),
+    (LONG, AFTER_A_BATCH),
     (LONG, BOTH),
     (LONG, SECOND),
 ];
 
 #[test]
 fn halves_are_filled(rt: HostRuntime) {
-    all_told(&rt, rt.alloc(), STORIES);
+    all_reported(&rt, rt.alloc(), STORIES);
 }

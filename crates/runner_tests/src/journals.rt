@@ -3,7 +3,7 @@
 use crate::damage::{READERS, Verdict, verdict_of};
 use crate::stops::writes_mended;
 use crate::story::Chapter::{Aliases, Bytes, Recovery, Session};
-use crate::story::{Chapter, STOPPED, Story, all_told};
+use crate::story::{Chapter, STOPPED, Story, all_reported};
 use book_model::SubmitRefusal;
 use jrn_format::JournalFault::{self, BadJournal, BadVersion, NotAJournal, WrongLine};
 use runner_cases::asks::Ask::Alias;
@@ -57,7 +57,7 @@ const REFUSED: &[(Line, JournalFault)] = &[
         },
         BadJournal { at: 4104 },
     ),
-    // The mark of a migration behind an open gate is none.
+    // The mark of a migration after an open gate is none.
     (
         Line {
             header: [0xa5, 0x77, 0x02, 0x00, 0x00, 0x10, 0x00, 0x00],
@@ -192,7 +192,7 @@ const GENERATIONS: &[Story] = &[
 
 #[test]
 fn the_newer_half_counts(rt: HostRuntime) {
-    all_told(&rt, rt.alloc(), GENERATIONS);
+    all_reported(&rt, rt.alloc(), GENERATIONS);
 }
 
 /// A journal of version 1 with a batch by which the slave gets alias 1.
@@ -206,7 +206,7 @@ pub(crate) const OLD: Line = Line {
     ..ALONE
 };
 
-/// How the file begins once it is of version 2, with the mark behind the first gate.
+/// How the file begins once it is of version 2, with the mark after the first gate.
 const NEW: &[u8] = &[
     0xa5, 0x02, 0x01, 0x00, 0x00, 0x10, 0x00, 0x00, 0x00, 0x4d, 0x49, 0x47, 0x32,
 ];
@@ -260,7 +260,7 @@ const MIGRATIONS: &[Story] = &[
 
 #[test]
 fn an_old_journal_is_migrated(rt: HostRuntime) {
-    all_told(&rt, rt.alloc(), MIGRATIONS);
+    all_reported(&rt, rt.alloc(), MIGRATIONS);
 }
 
 /// The number of writes of a recovery of the old journal. Cut by the pattern at any of them, a second recovery completes it.

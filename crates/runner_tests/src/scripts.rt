@@ -1,7 +1,7 @@
 //! What a station answers step by step, and what a recovery finds afterwards.
 
 use crate::story::Chapter::{Aliases, Bytes, Recovery, Session};
-use crate::story::{Chapter, STOPPED, Story, all_told};
+use crate::story::{Chapter, STOPPED, Story, all_reported};
 use book_model::{Fault, SubmitRefusal};
 use runner_cases::asks::Ask::{Alias, Group, Image, Outputs, Swap};
 use runner_cases::line::{ALONE, Line, Slave, THREE, TWO};
@@ -46,7 +46,7 @@ const SPELT: &[Chapter] = &[
     Bytes(8, &[0xa5, 0x00, 0x2c, 0x00, 0x00, 0x00]),
 ];
 
-/// A slave gets alias 1: its batch behind a closed gate, and behind an open one, which isn't synced.
+/// A slave gets alias 1: its batch after a closed gate, and after an open one, which isn't synced.
 const NAMED: &[Chapter] = &[
     Session(Nothing, &[Submit(Alias(0, 1), Accepted(0)), Disk(2, Did)]),
     Bytes(8, &[0x00, 0x00, 0x1c]),
@@ -317,10 +317,10 @@ const RECOVERED: &[Story] = &[
 
 #[test]
 fn steps_are_answered(rt: HostRuntime) {
-    all_told(&rt, rt.alloc(), SERVED);
+    all_reported(&rt, rt.alloc(), SERVED);
 }
 
 #[test]
 fn what_was_stopped_is_recovered(rt: HostRuntime) {
-    all_told(&rt, rt.alloc(), RECOVERED);
+    all_reported(&rt, rt.alloc(), RECOVERED);
 }

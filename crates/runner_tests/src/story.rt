@@ -31,8 +31,8 @@ pub(crate) type Story = (Line, &'static [Chapter]);
 
 fn served(alloc: Global, station: Alone<MemSite>, events: &[Event]) -> (MemSite, bool) {
     let mut station = station;
-    let is_told = all_come(alloc, &mut station, events);
-    (off(station), is_told)
+    let is_reported = all_come(alloc, &mut station, events);
+    (off(station), is_reported)
 }
 
 fn session(alloc: Global, site: MemSite, events: &[Event]) -> (MemSite, bool) {
@@ -44,14 +44,14 @@ fn session(alloc: Global, site: MemSite, events: &[Event]) -> (MemSite, bool) {
 
 /// The parts after the chapter, and whether it gave what it must. None: memory was refused, or a part is missing.
 fn comes(alloc: Global, parts: Parts, chapter: &Chapter) -> Option<(Parts, bool)> {
-    let (site, is_told) = match *chapter {
+    let (site, is_reported) = match *chapter {
         Chapter::Aliases(aliases) => {
-            let is_told = aliases_of(&parts) == aliases;
-            return Some((parts, is_told));
+            let is_reported = aliases_of(&parts) == aliases;
+            return Some((parts, is_reported));
         }
         Chapter::Bytes(at, bytes) => {
-            let is_told = holds(&parts, at, bytes);
-            return Some((parts, is_told));
+            let is_reported = holds(&parts, at, bytes);
+            return Some((parts, is_reported));
         }
         Chapter::Session(trouble, events) => {
             session(alloc, site_of(alloc, parts, &trouble)?, events)
@@ -61,15 +61,15 @@ fn comes(alloc: Global, parts: Parts, chapter: &Chapter) -> Option<(Parts, bool)
             (site, came == wanted)
         }
     };
-    Some((site.into_parts(), is_told))
+    Some((site.into_parts(), is_reported))
 }
 
 /// How many chapters give what they must, before the first that doesn't.
-fn told(alloc: Global, line: &Line, chapters: &[Chapter]) -> Option<usize> {
+fn reported(alloc: Global, line: &Line, chapters: &[Chapter]) -> Option<usize> {
     let mut parts = parts_of(alloc, line)?;
     for count in 0..chapters.len() {
-        let (left, is_told) = comes(alloc, parts, &chapters[count])?;
-        if !is_told {
+        let (left, is_reported) = comes(alloc, parts, &chapters[count])?;
+        if !is_reported {
             drop(left);
             return Some(count);
         }
@@ -79,8 +79,8 @@ fn told(alloc: Global, line: &Line, chapters: &[Chapter]) -> Option<usize> {
 }
 
 /// Checks that each story's chapters give what they must.
-pub(crate) fn all_told(rt: &impl Abort, alloc: Global, stories: &[Story]) {
+pub(crate) fn all_reported(rt: &impl Abort, alloc: Global, stories: &[Story]) {
     for (line, chapters) in stories {
-        assert!(rt; told(alloc, line, chapters) == Some(chapters.len()));
+        assert!(rt; reported(alloc, line, chapters) == Some(chapters.len()));
     }
 }

@@ -36,16 +36,16 @@ use Rattle.script_session.specs.declared.closing.AtDesk.{AtDesk}
 use Rattle.script_session.specs.declared.closing.Ending.{Ending}
 use Rattle.script_session.specs.declared.threads.Left.{Left}
 use Rattle.script_session.specs.declared.threads.NotServed.{NotServed}
-use Rattle.script_session.specs.declared.told.PartTold.{PartTold}
-use Rattle.script_session.specs.declared.told.UnservedTold.{UnservedTold}
+use Rattle.script_session.specs.declared.logs.PartLog.{PartLog}
+use Rattle.script_session.specs.declared.logs.UnservedLog.{UnservedLog}
 use Rattle.station_jobs.specs.declared.log.SlaveLog.{SlaveLog}
 use Rattle.station_jobs.specs.Ends.{Stay}
 use Rattle.station_threads.specs.Parts.{IsEndOfSlave}
 use Rattle.station_threads.proofs.PlaceLaws.{placed-long}
-use Rattle.script_session.specs.Parts.{Sites, AreFollowed, AreSound, BeginsWith, EndsSynced, HasDiskOf, IsApart, IsDeskLeft, IsDeskTold, IsLineTold}
+use Rattle.script_session.specs.Parts.{Sites, AreFollowed, AreSound, BeginsWith, EndsSynced, HasDiskOf, IsSeparate, IsDeskLeft, IsDeskReported, IsLineReported}
 use Rattle.script_session.specs.Parts.{IsServable, AreEndsOfParts}
 use Rattle.script_session.specs.AtDesk as at_desk
-use Rattle.script_session.specs.AtDesk.{seen_of, Closes, ClosesWith, DeskServes, IsUnservedTold, EndsSo, IsServedAtDesk, IsStopped}
+use Rattle.script_session.specs.AtDesk.{seen_of, Closes, ClosesWith, DeskServes, IsUnservedReported, EndsSo, IsServedAtDesk, IsStopped}
 use Rattle.script_session.specs.Parts.{IsTogether, Telling}
 use Rattle.script_session.specs.AtDesk.{IsStoppedAtDesk, LeavesSo, ServesFollowed, TellsWhy}
 use Rattle.script_session.proofs.AskLaws.{all-received}
@@ -55,10 +55,10 @@ use Rattle.script_session.proofs.SoundLaws.{followed_ends, on_ok}
 use Rattle.script_session.proofs.LeftLaws.{kept-together, left-together}
 
 -- the result for a closed desk
-pub closes-now : (opened : Book) (calls : List Call) (shares : List ShareCounts) (receipts : List Numbered) (ends left : Ends SiteValue) (closed : Result (Unit {0}) CloseFault) (told : Result (Unit {0}) Fault) → AreAnswered opened calls → is_served (replayed opened calls) ≡ true
+pub closes-now : (opened : Book) (calls : List Call) (shares : List ShareCounts) (receipts : List Numbered) (ends left : Ends SiteValue) (closed : Result (Unit {0}) CloseFault) (reported : Result (Unit {0}) Fault) → AreAnswered opened calls → is_served (replayed opened calls) ≡ true
     → IsHandedIn opened calls shares receipts ends → (IsJustOpened opened → AllReadAsContents opened (replayed opened calls) seen_of left.workers.items) → AllEndSo IsLeft opened calls seen_of left.flusher left.workers.items → left ≡ ends → closed ≡ Ok tt
-    → MatchResult closed (λ done. Closes opened shares receipts ends) (λ why. IsStopped opened why told ends)
-closes-now opened calls shares receipts ends left (Ok done) told answered served handed_in contents leaves same is = record {
+    → MatchResult closed (λ done. Closes opened shares receipts ends) (λ why. IsStopped opened why reported ends)
+closes-now opened calls shares receipts ends left (Ok done) reported answered served handed_in contents leaves same is = record {
   calls = calls;
   closed = record {
     answered = answered;
@@ -68,28 +68,28 @@ closes-now opened calls shares receipts ends left (Ok done) told answered served
     left = subst (λ (e : Ends SiteValue). AllEndSo IsLeft opened calls seen_of e.flusher e.workers.items) same leaves;
   };
 }
-closes-now opened calls shares receipts ends left (Err why) told answered served handed_in contents leaves same is = absurd cc
+closes-now opened calls shares receipts ends left (Err why) reported answered served handed_in contents leaves same is = absurd cc
 
 -- the user is told why the desk isn't closed
-abbrev pub IsToldWhy : Book → Result (Unit {0}) Fault → Type 0
-IsToldWhy book told = MatchResult told (λ done. ⊥) (TellsWhy book)
+abbrev pub IsReportedWhy : Book → Result (Unit {0}) Fault → Type 0
+IsReportedWhy book reported = MatchResult reported (λ done. ⊥) (TellsWhy book)
 
-tells-why : (book : Book) (told : Result (Unit {0}) Fault) → IsToldWhy book told → IfErr told (TellsWhy book)
+tells-why : (book : Book) (reported : Result (Unit {0}) Fault) → IsReportedWhy book reported → IfErr reported (TellsWhy book)
 tells-why book (Ok done) why = tt
 tells-why book (Err fault) why = why
 
 -- the result for a desk that isn't closed: not all is settled, or a fault has closed the book
-pub stops-now : (opened : Book) (calls : List Call) (shares : List ShareCounts) (receipts : List Numbered) (ends left : Ends SiteValue) (why : CloseFault) (closed : Result (Unit {0}) CloseFault) (told : Result (Unit {0}) Fault) → AreAnswered opened calls
-    → (why ≡ Unserved → AllEndSo IsKeptAs opened calls seen_of left.flusher left.workers.items) → left ≡ ends → closed ≡ Err why → IsToldWhy (replayed opened calls) told
-    → MatchResult closed (λ done. Closes opened shares receipts ends) (λ fault. IsStopped opened fault told ends)
-stops-now opened calls shares receipts ends left why (Ok done) told answered kept same is tells = absurd cc
-stops-now opened calls shares receipts ends left why (Err fault) told answered kept same is tells =
+pub stops-now : (opened : Book) (calls : List Call) (shares : List ShareCounts) (receipts : List Numbered) (ends left : Ends SiteValue) (why : CloseFault) (closed : Result (Unit {0}) CloseFault) (reported : Result (Unit {0}) Fault) → AreAnswered opened calls
+    → (why ≡ Unserved → AllEndSo IsKeptAs opened calls seen_of left.flusher left.workers.items) → left ≡ ends → closed ≡ Err why → IsReportedWhy (replayed opened calls) reported
+    → MatchResult closed (λ done. Closes opened shares receipts ends) (λ fault. IsStopped opened fault reported ends)
+stops-now opened calls shares receipts ends left why (Ok done) reported answered kept same is tells = absurd cc
+stops-now opened calls shares receipts ends left why (Err fault) reported answered kept same is tells =
     let here : fault ≡ why = cc in
     record {
       calls = calls;
       answered = answered;
       kept = λ unserved. subst (λ (e : Ends SiteValue). AllEndSo IsKeptAs opened calls seen_of e.flusher e.workers.items) same (kept (sym here ∙ unserved));
-      tells = tells-why (replayed opened calls) told tells;
+      tells = tells-why (replayed opened calls) reported tells;
     }
 
 pub none-of : {A : Type 0} (items : List A) → length items ≡ 0 → items ≡ []
@@ -142,8 +142,8 @@ pub one-share : (shares room : List ShareCounts) (counts : ShareCounts) → shar
 one-share shares room counts is empty = subst (λ (l : List ShareCounts). shares ≡ l ++ counts ∷ []) empty is
 
 -- what the user is told, from the results of the submitter and of the desk
-abbrev pub IsToldOf : (asked ended : Result (Unit {0}) Fault) → Fault → Type 0
-IsToldOf asked ended fault = IsOfStream fault ⊎ (ended ≡ Err fault) ⊎ ((asked ≡ Err fault) × (ended ≡ Ok tt))
+abbrev pub IsReportedOf : (asked ended : Result (Unit {0}) Fault) → Fault → Type 0
+IsReportedOf asked ended fault = IsOfStream fault ⊎ (ended ≡ Err fault) ⊎ ((asked ≡ Err fault) × (ended ≡ Ok tt))
 
 -- for each result of the submitter, and of closing the desk
 module _ (opened : Book) (commands : List Command) (status : ExitStatus) (counts : ShareCounts) (shares : List ShareCounts) (receipts : List Numbered) (ends : Ends SiteValue) (alone : shares ≡ counts ∷ []) where
@@ -155,9 +155,9 @@ module _ (opened : Book) (commands : List Command) (status : ExitStatus) (counts
       closed-undriven opened commands status counts ends comes (subst (λ (l : List Numbered). Closes opened (counts ∷ []) l ends) same (subst (λ (l : List ShareCounts). Closes opened l receipts ends) alone closes))
 
   -- the desk was closed, and a fault is told all the same
-  closed-told : (came : Option (Result (Vec Numbered) Fault)) (asked ended : Result (Unit {0}) Fault) (fault : Fault) (is_driven : Bool) → asked ≡ fault_of came → ComesTo commands status counts came → Closes opened shares receipts ends → IfErr ended IsOfStream
-      → IsToldOf asked ended fault → ClosesWith opened commands is_driven status (Err fault) ends
-  closed-told came asked ended fault is_driven is comes closes printed tells =
+  closed-reported : (came : Option (Result (Vec Numbered) Fault)) (asked ended : Result (Unit {0}) Fault) (fault : Fault) (is_driven : Bool) → asked ≡ fault_of came → ComesTo commands status counts came → Closes opened shares receipts ends → IfErr ended IsOfStream
+      → IsReportedOf asked ended fault → ClosesWith opened commands is_driven status (Err fault) ends
+  closed-reported came asked ended fault is_driven is comes closes printed tells =
       let one = subst (λ (l : List ShareCounts). Closes opened l receipts ends) alone closes in
       record {
         calls = one.calls;
@@ -174,9 +174,9 @@ module _ (opened : Book) (commands : List Command) (status : ExitStatus) (counts
       }
 
   -- the desk wasn't closed
-  stopped-told : (why : CloseFault) (asked ended told : Result (Unit {0}) Fault) → IsStopped opened why ended ends → (ended ≡ Ok tt → ⊥) → IfErr told (IsToldOf asked ended) → IsStopped opened why told ends
-  stopped-told why asked ended (Ok done) stops bad tells = record { calls = stops.calls; answered = stops.answered; kept = stops.kept; tells = tt }
-  stopped-told why asked ended (Err fault) stops bad tells = record {
+  stopped-reported : (why : CloseFault) (asked ended reported : Result (Unit {0}) Fault) → IsStopped opened why ended ends → (ended ≡ Ok tt → ⊥) → IfErr reported (IsReportedOf asked ended) → IsStopped opened why reported ends
+  stopped-reported why asked ended (Ok done) stops bad tells = record { calls = stops.calls; answered = stops.answered; kept = stops.kept; tells = tt }
+  stopped-reported why asked ended (Err fault) stops bad tells = record {
     calls = stops.calls;
     answered = stops.answered;
     kept = stops.kept;
@@ -188,75 +188,75 @@ module _ (opened : Book) (commands : List Command) (status : ExitStatus) (counts
   }
 
   -- how the work ended
-  pub ends-so : (came : Option (Result (Vec Numbered) Fault)) (asked ended told : Result (Unit {0}) Fault) (closed : Result (Unit {0}) CloseFault) (is_driven : Bool) → receipts ≡ receipts_of came → asked ≡ fault_of came → is_driven ≡ is_some came → ComesTo commands status counts came
-      → MatchResult closed (λ done. Closes opened shares receipts ends) (λ why. IsStopped opened why ended ends) → OnOk ended (closed ≡ Ok tt) → OnOk closed (IfErr ended IsOfStream) → OnOk told ((asked ≡ Ok tt) × (ended ≡ Ok tt)) → IfErr told (IsToldOf asked ended)
-      → MatchResult closed (λ done. ClosesWith opened commands is_driven status told ends) (λ why. IsStopped opened why told ends)
+  pub ends-so : (came : Option (Result (Vec Numbered) Fault)) (asked ended reported : Result (Unit {0}) Fault) (closed : Result (Unit {0}) CloseFault) (is_driven : Bool) → receipts ≡ receipts_of came → asked ≡ fault_of came → is_driven ≡ is_some came → ComesTo commands status counts came
+      → MatchResult closed (λ done. Closes opened shares receipts ends) (λ why. IsStopped opened why ended ends) → OnOk ended (closed ≡ Ok tt) → OnOk closed (IfErr ended IsOfStream) → OnOk reported ((asked ≡ Ok tt) × (ended ≡ Ok tt)) → IfErr reported (IsReportedOf asked ended)
+      → MatchResult closed (λ done. ClosesWith opened commands is_driven status reported ends) (λ why. IsStopped opened why reported ends)
   ends-so came asked ended (Ok good) (Ok done) is_driven same is driven comes closes ends_well printed both tells =
       subst (λ (b : Bool). ClosesWith opened commands b status (Ok tt) ends) (sym driven) (all-closed came same (sym is ∙ both.0) comes closes)
   ends-so came asked ended (Err fault) (Ok done) is_driven same is driven comes closes ends_well printed both tells =
-      closed-told came asked ended fault is_driven is comes closes printed tells
-  ends-so came asked ended told (Err why) is_driven same is driven comes closes ends_well printed both tells =
-      stopped-told why asked ended told closes (λ well. let no : Err why ≡ Ok tt = subst (λ (r : Result (Unit {0}) Fault). OnOk r (Err why ≡ Ok tt)) well ends_well in absurd cc) tells
+      closed-reported came asked ended fault is_driven is comes closes printed tells
+  ends-so came asked ended reported (Err why) is_driven same is driven comes closes ends_well printed both tells =
+      stopped-reported why asked ended reported closes (λ well. let no : Err why ≡ Ok tt = subst (λ (r : Result (Unit {0}) Fault). OnOk r (Err why ≡ Ok tt)) well ends_well in absurd cc) tells
 
   -- nothing is told only if the desk was closed
-  pub told-closed : (asked ended told : Result (Unit {0}) Fault) (closed : Result (Unit {0}) CloseFault) → OnOk ended (closed ≡ Ok tt) → OnOk told ((asked ≡ Ok tt) × (ended ≡ Ok tt)) → OnOk told (closed ≡ Ok tt)
-  told-closed asked ended (Ok good) closed ends_well both = subst (λ (r : Result (Unit {0}) Fault). OnOk r (closed ≡ Ok tt)) both.1 ends_well
-  told-closed asked ended (Err fault) closed ends_well both = tt
+  pub reported-closed : (asked ended reported : Result (Unit {0}) Fault) (closed : Result (Unit {0}) CloseFault) → OnOk ended (closed ≡ Ok tt) → OnOk reported ((asked ≡ Ok tt) × (ended ≡ Ok tt)) → OnOk reported (closed ≡ Ok tt)
+  reported-closed asked ended (Ok good) closed ends_well both = subst (λ (r : Result (Unit {0}) Fault). OnOk r (closed ≡ Ok tt)) both.1 ends_well
+  reported-closed asked ended (Err fault) closed ends_well both = tt
 
 -- ---- the disk of a line that is taken apart
 
-pub servable : {E : Type 0} (result : Result Sites E) (sites : Sites) (capacity : ℕ) (whole : State) (disk : Option (Vec ℕ)) (halves : List SlaveHalf) → IsSomeAnd disk (λ (b : Vec ℕ). 8 + capacity ≤ length b.items) → IfSome disk (λ (b : Vec ℕ). b.items ≡ whole.disk.bytes)
-    → halves ≡ whole.halves → HasDiskOf disk sites.disk → sites.disk.seen.past ≡ [] → AllPlaced BeginsWith 0 halves sites.slaves.items
-    → IfOk result (λ (same : Sites). (same ≡ sites) × OwnParts (λ (s : SiteValue). s.line) same.disk same.slaves.items same.cycle) → IfOk result (λ (same : Sites). IsServable capacity whole same)
-servable (Ok same) sites capacity whole (Some b) halves long bytes held disk new slaves is =
+pub servable : {E : Type 0} (result : Result Sites E) (sites : Sites) (capacity : ℕ) (entire : State) (disk : Option (Vec ℕ)) (halves : List SlaveHalf) → IsSomeAnd disk (λ (b : Vec ℕ). 8 + capacity ≤ length b.items) → IfSome disk (λ (b : Vec ℕ). b.items ≡ entire.disk.bytes)
+    → halves ≡ entire.halves → HasDiskOf disk sites.disk → sites.disk.seen.past ≡ [] → AllPlaced BeginsWith 0 halves sites.slaves.items
+    → IfOk result (λ (same : Sites). (same ≡ sites) × OwnParts (λ (s : SiteValue). s.line) same.disk same.slaves.items same.cycle) → IfOk result (λ (same : Sites). IsServable capacity entire same)
+servable (Ok same) sites capacity entire (Some b) halves long bytes held disk new slaves is =
     let owned : OwnParts (λ (s : SiteValue). s.line) sites.disk sites.slaves.items sites.cycle = subst (λ (x : Sites). OwnParts (λ (s : SiteValue). s.line) x.disk x.slaves.items x.cycle) is.0 is.1 in
-    subst (λ (x : Sites). IsServable capacity whole x) (sym is.0) (record {
-      apart = record { disk = disk ∙ ap of_bytes bytes; new = new; slaves = subst (λ (l : List SlaveHalf). AllPlaced BeginsWith 0 l sites.slaves.items) held slaves };
+    subst (λ (x : Sites). IsServable capacity entire x) (sym is.0) (record {
+      separate = record { disk = disk ∙ ap of_bytes bytes; new = new; slaves = subst (λ (l : List SlaveHalf). AllPlaced BeginsWith 0 l sites.slaves.items) held slaves };
       own = record { owned = owned; long = subst (λ (d : Disk). 8 + capacity ≤ length d.bytes) (sym disk) long };
     })
-servable (Ok same) sites capacity whole None halves long bytes held disk new slaves is = absurd long
-servable (Err fault) sites capacity whole disk halves long bytes held of new slaves is = tt
+servable (Ok same) sites capacity entire None halves long bytes held disk new slaves is = absurd long
+servable (Err fault) sites capacity entire disk halves long bytes held of new slaves is = tt
 
 -- ---- a line that was served at a desk
 
-module _ (opened : Station) (commands : List Command) (sites : Sites) (ends : Ends SiteValue) (site : SiteValue) (apart : IsApart opened.seen.state sites) (of_sites : AreEndsOfParts sites ends) (together : IsTogether ends site) where
-  leaves-so : (is_driven : Bool) (status : ExitStatus) (told : Result (Unit {0}) Fault) (closed : Result (Unit {0}) CloseFault)
-      → MatchResult closed (λ done. ClosesWith opened.book commands is_driven status told ends) (λ why. IsStopped opened.book why told ends)
-      → MatchResult closed (λ done. IsServedAtDesk opened commands is_driven status told site) (λ why. IsStoppedAtDesk opened why told site)
-  leaves-so is_driven status told (Ok done) closes = record {
+module _ (opened : Station) (commands : List Command) (sites : Sites) (ends : Ends SiteValue) (site : SiteValue) (separate : IsSeparate opened.seen.state sites) (of_sites : AreEndsOfParts sites ends) (together : IsTogether ends site) where
+  leaves-so : (is_driven : Bool) (status : ExitStatus) (reported : Result (Unit {0}) Fault) (closed : Result (Unit {0}) CloseFault)
+      → MatchResult closed (λ done. ClosesWith opened.book commands is_driven status reported ends) (λ why. IsStopped opened.book why reported ends)
+      → MatchResult closed (λ done. IsServedAtDesk opened commands is_driven status reported site) (λ why. IsStoppedAtDesk opened why reported site)
+  leaves-so is_driven status reported (Ok done) closes = record {
     sites = sites;
-    apart = apart;
+    separate = separate;
     ends = ends;
     of_sites = of_sites;
     closes = closes;
     together = together;
-    contents = λ just. contents-together opened.book (replayed opened.book closes.calls) opened.seen.state sites ends site apart of_sites together (closes.closed.contents just);
-    left = left-together opened closes.calls sites ends apart of_sites site together closes.closed.left;
+    contents = λ just. contents-together opened.book (replayed opened.book closes.calls) opened.seen.state sites ends site separate of_sites together (closes.closed.contents just);
+    left = left-together opened closes.calls sites ends separate of_sites site together closes.closed.left;
   }
-  leaves-so is_driven status told (Err why) stops = record {
+  leaves-so is_driven status reported (Err why) stops = record {
     calls = stops.calls;
     answered = stops.answered;
-    kept = λ unserved. kept-together opened stops.calls sites ends apart of_sites site together (stops.kept unserved);
+    kept = λ unserved. kept-together opened stops.calls sites ends separate of_sites site together (stops.kept unserved);
     tells = stops.tells;
   }
 
-pub served-at-desk : {T E : Type 0} (opened : Station) (commands : List Command) (book : Book) (seen : Seen) (sites : Sites) (at : AtDesk SiteValue) (result : Result (Left SiteValue T) E) → book ≡ opened.book → seen ≡ opened.seen → IsApart seen.state sites → AreEndsOfParts sites at.ends
+pub served-at-desk : {T E : Type 0} (opened : Station) (commands : List Command) (book : Book) (seen : Seen) (sites : Sites) (at : AtDesk SiteValue) (result : Result (Left SiteValue T) E) → book ≡ opened.book → seen ≡ opened.seen → IsSeparate seen.state sites → AreEndsOfParts sites at.ends
     → IfOk result (λ (left : Left SiteValue T). IsTogether at.ends left.site × (left.ending ≡ at.ending)) → EndsSo book commands at.ends at.ending → IfOk result (λ (left : Left SiteValue T). LeavesSo opened commands left.ending left.site)
-served-at-desk opened commands book seen sites at (Ok left) of_book of_seen apart of_sites is ends =
+served-at-desk opened commands book seen sites at (Ok left) of_book of_seen separate of_sites is ends =
     let here : EndsSo opened.book commands at.ends at.ending = subst (λ (b : Book). EndsSo b commands at.ends at.ending) of_book ends in
     let same : EndsSo opened.book commands at.ends left.ending = subst (λ (e : Ending). EndsSo opened.book commands at.ends e) (sym is.1) here in
-    let parts : IsApart opened.seen.state sites = subst (λ (s : Seen). IsApart s.state sites) of_seen apart in
-    record { told = same.told; left = leaves-so opened commands sites at.ends left.site parts of_sites is.0 left.ending.is_driven left.ending.status left.ending.told left.ending.closed same.ended }
-served-at-desk opened commands book seen sites at (Err fault) of_book of_seen apart of_sites is ends = tt
+    let parts : IsSeparate opened.seen.state sites = subst (λ (s : Seen). IsSeparate s.state sites) of_seen separate in
+    record { reported = same.reported; left = leaves-so opened commands sites at.ends left.site parts of_sites is.0 left.ending.is_driven left.ending.status left.ending.reported left.ending.closed same.ended }
+served-at-desk opened commands book seen sites at (Err fault) of_book of_seen separate of_sites is ends = tt
 
 -- a desk served these sites
 module _ (opened : Station) (commands : List Command) (book : Book) (seen : Seen) (sites : Sites) (at : AtDesk SiteValue)
-    (of_book : book ≡ opened.book) (of_seen : seen ≡ opened.seen) (apart : IsApart seen.state sites) (of_sites : AreEndsOfParts sites at.ends)
+    (of_book : book ≡ opened.book) (of_seen : seen ≡ opened.seen) (separate : IsSeparate seen.state sites) (of_sites : AreEndsOfParts sites at.ends)
     (ends : EndsSo book commands at.ends at.ending) where
   abbrev desk-serves : (ending : Ending) → ending ≡ at.ending → DeskServes opened commands ending
   desk-serves ending same = record {
     sites = sites;
-    apart = subst (λ (s : Seen). IsApart s.state sites) of_seen apart;
+    separate = subst (λ (s : Seen). IsSeparate s.state sites) of_seen separate;
     ends = at.ends;
     of_sites = of_sites;
     ended = subst (λ (e : Ending). EndsSo opened.book commands at.ends e) (sym same)
@@ -265,40 +265,40 @@ module _ (opened : Station) (commands : List Command) (book : Book) (seen : Seen
 
   module _ {D : Type 0} (follows : D → Seen → Type 0) where
     -- and the line was put together again
-    pub serves-parts : {T E : Type 0} (well : D → Type 0) (tells : D → T → Type 0) (turns : Bool) (line : PartTold T)
+    pub serves-parts : {T E : Type 0} (well : D → Type 0) (tells : D → T → Type 0) (turns : Bool) (line : PartLog T)
         (result : Result (Left SiteValue T) E) → is_some sites.cycle ≡ turns
         → IfOk result (λ (left : Left SiteValue T). IsTogether at.ends left.site × (left.ending ≡ at.ending))
         → IfOk result (λ (left : Left SiteValue T). (s : Seen) → IsFollowed (Telling follows well tells line) s
-        → IsDeskTold follows well tells s left.told at.ends)
-        → IfOk result (λ (left : Left SiteValue T). OnOk left.sound (AreSound left.told × EndsSynced at.ends.flusher.log))
+        → IsDeskReported follows well tells s left.reported at.ends)
+        → IfOk result (λ (left : Left SiteValue T). OnOk left.sound (AreSound left.reported × EndsSynced at.ends.flusher.log))
         → IsFollowed (Telling follows well tells line) seen → length opened.line.sizes ≡ length seen.state.halves → AreFollowed follows at.ends
         → IfOk result (λ (left : Left SiteValue T). ServesFollowed follows well tells turns opened commands left)
-    serves-parts well tells turns line (Ok left) turning is told sound before count all = record {
+    serves-parts well tells turns line (Ok left) turning is reported sound before count all = record {
       parts = record { desk = desk-serves left.ending is.1; together = is.0 };
       turning = turning;
-      followed = followed_ends follows well tells opened seen sites at.ends left.told left.sound of_seen apart of_sites (told seen before) count sound all;
-      told = told opened.seen (subst (IsFollowed (Telling follows well tells line)) of_seen before);
-      sound = on_ok left.sound (λ (both : AreSound left.told × EndsSynced at.ends.flusher.log). both.0) sound;
+      followed = followed_ends follows well tells opened seen sites at.ends left.reported left.sound of_seen separate of_sites (reported seen before) count sound all;
+      reported = reported opened.seen (subst (IsFollowed (Telling follows well tells line)) of_seen before);
+      sound = on_ok left.sound (λ (both : AreSound left.reported × EndsSynced at.ends.flusher.log). both.0) sound;
     }
-    serves-parts well tells turns line (Err fault) turning is told sound before count all = tt
+    serves-parts well tells turns line (Err fault) turning is reported sound before count all = tt
 
     -- or not
-    pub ends-apart : {T : Type 0} (well : D → Type 0) (tells : D → T → Type 0) (line : PartTold T) (result : Result (Left SiteValue T) (NotServed T))
+    pub ends-separate : {T : Type 0} (well : D → Type 0) (tells : D → T → Type 0) (line : PartLog T) (result : Result (Left SiteValue T) (NotServed T))
         → IsFollowed (Telling follows well tells line) seen
-        → IfErr result (λ (why : NotServed T). IsDeskLeft follows well tells line at.ends why.told)
-        → IfErr result (λ (why : NotServed T). IsUnservedTold follows well tells opened commands why.told)
-    ends-apart well tells line (Ok left) before is = tt
-    ends-apart well tells line (Err why) before is =
-        subst (IsUnservedTold follows well tells opened commands) (sym is.desk)
+        → IfErr result (λ (why : NotServed T). IsDeskLeft follows well tells line at.ends why.reported)
+        → IfErr result (λ (why : NotServed T). IsUnservedReported follows well tells opened commands why.reported)
+    ends-separate well tells line (Ok left) before is = tt
+    ends-separate well tells line (Err why) before is =
+        subst (IsUnservedReported follows well tells opened commands) (sym is.desk)
         (at_desk.desk is.devices at.ending (desk-serves at.ending refl)
         (is.tells_them opened.seen (subst (IsFollowed (Telling follows well tells line)) of_seen before)))
 
 -- no desk began
-pub line-told : {D T : Type 0} (follows : D → Seen → Type 0) (well : D → Type 0) (tells : D → T → Type 0) (opened : Station) (commands : List Command)
-    (seen : Seen) (told : UnservedTold T) → seen ≡ opened.seen → IsLineTold follows well tells seen told
-    → IsUnservedTold follows well tells opened commands told
-line-told follows well tells opened commands seen told of_seen is =
-    subst (IsUnservedTold follows well tells opened commands) (sym is.line)
+pub line-reported : {D T : Type 0} (follows : D → Seen → Type 0) (well : D → Type 0) (tells : D → T → Type 0) (opened : Station) (commands : List Command)
+    (seen : Seen) (reported : UnservedLog T) → seen ≡ opened.seen → IsLineReported follows well tells seen reported
+    → IsUnservedReported follows well tells opened commands reported
+line-reported follows well tells opened commands seen reported of_seen is =
+    subst (IsUnservedReported follows well tells opened commands) (sym is.line)
     (at_desk.line is.part (subst (IsFollowed (Telling follows well tells is.part)) of_seen is.tells_it))
 
 -- as many workers end as there are sites of slaves
@@ -309,8 +309,8 @@ as-many-ends sites ends room of_sites enough =
     omega (arith, long, enough)
 
 -- where no fault is told, the desk was closed, and the line was served
-pub served-told : (opened : Station) (commands : List Command) (ending : Ending) (site : SiteValue) → ending.told ≡ Ok tt → LeavesSo opened commands ending site → IsServedAtDesk opened commands ending.is_driven ending.status (Ok tt) site
-served-told opened commands ending site good leaves =
-    let closed : ending.closed ≡ Ok tt = subst (λ (r : Result (Unit {0}) Fault). OnOk r (ending.closed ≡ Ok tt)) good leaves.told in
-    subst (λ (told : Result (Unit {0}) Fault). IsServedAtDesk opened commands ending.is_driven ending.status told site) good
-    (subst (λ (r : Result (Unit {0}) CloseFault). MatchResult r (λ done. IsServedAtDesk opened commands ending.is_driven ending.status ending.told site) (λ why. IsStoppedAtDesk opened why ending.told site)) closed leaves.left)
+pub served-reported : (opened : Station) (commands : List Command) (ending : Ending) (site : SiteValue) → ending.reported ≡ Ok tt → LeavesSo opened commands ending site → IsServedAtDesk opened commands ending.is_driven ending.status (Ok tt) site
+served-reported opened commands ending site good leaves =
+    let closed : ending.closed ≡ Ok tt = subst (λ (r : Result (Unit {0}) Fault). OnOk r (ending.closed ≡ Ok tt)) good leaves.reported in
+    subst (λ (reported : Result (Unit {0}) Fault). IsServedAtDesk opened commands ending.is_driven ending.status reported site) good
+    (subst (λ (r : Result (Unit {0}) CloseFault). MatchResult r (λ done. IsServedAtDesk opened commands ending.is_driven ending.status ending.reported site) (λ why. IsStoppedAtDesk opened why ending.reported site)) closed leaves.left)

@@ -20,7 +20,7 @@ use Rattle.book_model.specs.declared.next.RomNext.TheVariants as rom
 use Rattle.book_model.specs.declared.next.RomOutcome.{RomOutcome}
 use Rattle.book_model.specs.declared.next.RomOutcome.TheVariants as outcomes
 use Rattle.book_model.specs.Book.{Book, Slave, Doing, Resting, Payload, PayloadSync, OpenGate, OpenSync, CloseGate, CloseSync, FarGate, Mark}
-use Rattle.book_model.specs.Book.{MarkSync, Version, VersionSync, Errand, Free, Issuing, Unsettled, Settling, nobody, slave_at}
+use Rattle.book_model.specs.Book.{MarkSync, Version, VersionSync, Operation, NoOperation, Issuing, Unsettled, Settling, nobody, slave_at}
 use Rattle.book_model.specs.DiskSteps.{disk_next, went_on, disk_done}
 use Rattle.book_model.specs.RomSteps.{is_last, with_again, rom_next, rom_done}
 use Rattle.book_model.specs.Open.{open_book, opened_slave, owing_slaves}
@@ -31,11 +31,11 @@ use Rattle.station_jobs.specs.Dispatch.{with_outcome}
 use Rattle.station_jobs.specs.declared.log.SlaveLog.{SlaveLog}
 use Rattle.station_jobs.specs.Ends.{Stay}
 use Rattle.desk_book.specs.declared.call.Call.{Call}
-use Rattle.desk_book.specs.declared.call.Call.TheVariants.{Submitted, DiskAsked, DiskTold, SlaveAsked, SlaveTold, PlanAsked, Finished}
+use Rattle.desk_book.specs.declared.call.Call.TheVariants.{Submitted, DiskAsked, DiskReported, SlaveAsked, SlaveReported, PlanAsked, Finished}
 use Rattle.desk_book.specs.Calls.{after, replayed, AreAnswered, IsAnswered}
 use Rattle.desk_book.specs.Closing.{AreWorkersOf}
 use Rattle.desk_book.specs.Logs.{RomEntry, rom_noted, with_job, with_rom_answer}
-use Rattle.desk_book.proofs.LogLaws.{asked-here, asked-other, told-here, told-other, same-or-not}
+use Rattle.desk_book.proofs.LogLaws.{asked-here, asked-other, reported-here, reported-other, same-or-not}
 use Rattle.script_session.specs.Redoing.{is_issue, issues_in, issues_of}
 
 -- the numbers of issues, slave by slave
@@ -83,8 +83,8 @@ again-counts : (book : Book) (i word : ℕ) (last : Bool) → is_last (cell_of (
 again-counts book i word true is = rw is (same-counts book.slaves i _ refl)
 again-counts book i word false is = rw is (same-counts book.slaves i _ refl)
 
-back-counts : (book : Book) (i : ℕ) (errand : Errand) (outcome : RomOutcome) → (slave_at book i).errand ≡ errand → counts (rom_done book i outcome).slaves ≡ counts book.slaves
-back-counts book i Free outcome is = rw is refl
+back-counts : (book : Book) (i : ℕ) (operation : Operation) (outcome : RomOutcome) → (slave_at book i).operation ≡ operation → counts (rom_done book i outcome).slaves ≡ counts book.slaves
+back-counts book i NoOperation outcome is = rw is refl
 back-counts book i (Unsettled word value taken) outcome is = rw is refl
 back-counts book i (Issuing word value) (outcomes.Issued how) is = rw is (same-counts book.slaves i _ refl)
 back-counts book i (Issuing word value) (outcomes.Settled how) is = rw is refl
@@ -102,12 +102,12 @@ job-more : (log : List RomEntry) (job : RomNext) → issues_in (with_job log job
 job-more log job = sum_by_push (λ (entry : RomEntry). cond (is_issue entry.job) 1 0) log _
 
 -- an outcome is reported
-told-same : (log : List RomEntry) (outcome : RomOutcome) → issues_in (with_outcome log outcome) ≡ issues_in log
-told-same [] outcome = refl
-told-same (last ∷ []) outcome = refl
-told-same (first ∷ next ∷ jobs) outcome =
+reported-same : (log : List RomEntry) (outcome : RomOutcome) → issues_in (with_outcome log outcome) ≡ issues_in log
+reported-same [] outcome = refl
+reported-same (last ∷ []) outcome = refl
+reported-same (first ∷ next ∷ jobs) outcome =
     let one : RomEntry → ℕ = λ entry. cond (is_issue entry.job) 1 0 in
-    let rest = told-same (next ∷ jobs) outcome in
+    let rest = reported-same (next ∷ jobs) outcome in
     let had = sum_by-cons one first (next ∷ jobs) in
     let has = sum_by-cons one first (with_outcome (next ∷ jobs) outcome) in
     omega (arith, rest, had, has)
@@ -176,22 +176,22 @@ module _ (i : ℕ) where
   asked-grows book slave log (settle word value taken within ok is) =
       subst (AsksOf book slave log) (sym is) (same-grows book.slaves _ log (rom_noted i log (SlaveAsked slave (rom.Settle taken))) (same-counts book.slaves slave _ refl) (asked-settle slave taken log (same-or-not i slave)))
 
-  told-noted : (slave : ℕ) (outcome : RomOutcome) (log : List RomEntry) → (i ≡ slave) ⊎ (i ≢ slave) → issues_in (rom_noted i log (SlaveTold slave outcome)) ≡ issues_in log
-  told-noted slave outcome log (inl same) =
-      let here = subst (λ (k : ℕ). rom_noted k log (SlaveTold slave outcome) ≡ with_outcome log outcome) (sym same) (told-here slave outcome log) in
-      ap issues_in here ∙ told-same log outcome
-  told-noted slave outcome log (inr other) = ap issues_in (told-other slave outcome i log other)
+  reported-noted : (slave : ℕ) (outcome : RomOutcome) (log : List RomEntry) → (i ≡ slave) ⊎ (i ≢ slave) → issues_in (rom_noted i log (SlaveReported slave outcome)) ≡ issues_in log
+  reported-noted slave outcome log (inl same) =
+      let here = subst (λ (k : ℕ). rom_noted k log (SlaveReported slave outcome) ≡ with_outcome log outcome) (sym same) (reported-here slave outcome log) in
+      ap issues_in here ∙ reported-same log outcome
+  reported-noted slave outcome log (inr other) = ap issues_in (reported-other slave outcome i log other)
 
   grows : (book : Book) (call : Call) (log : List RomEntry) → IsAnswered book call → Grows book call log
   grows book (Submitted command (Ok number)) log is = refl
   grows book (Submitted command (Err refusal)) log is = refl
   grows book (DiskAsked answer) log is = same-grows book.slaves (disk_next book).1.slaves log log (next-counts book (hands book)) refl
-  grows book (DiskTold outcome) log is = same-grows book.slaves (disk_done book outcome).slaves log log (done-counts book book.is_handed_out outcome refl) refl
+  grows book (DiskReported outcome) log is = same-grows book.slaves (disk_done book outcome).slaves log log (done-counts book book.is_handed_out outcome refl) refl
   grows book (SlaveAsked slave answer) log is =
       subst (λ (a : RomNext). at (rom_next book slave).1.slaves + issues_in log ≡ at book.slaves + issues_in (rom_noted i log (SlaveAsked slave a))) (sym is)
       (asked-grows book slave log (hands-rom book slave))
-  grows book (SlaveTold slave outcome) log is =
-      same-grows book.slaves (rom_done book slave outcome).slaves log (rom_noted i log (SlaveTold slave outcome)) (back-counts book slave (slave_at book slave).errand outcome refl) (told-noted slave outcome log (same-or-not i slave))
+  grows book (SlaveReported slave outcome) log is =
+      same-grows book.slaves (rom_done book slave outcome).slaves log (rom_noted i log (SlaveReported slave outcome)) (back-counts book slave (slave_at book slave).operation outcome refl) (reported-noted slave outcome log (same-or-not i slave))
   grows book (PlanAsked answer) log is = refl
   grows book Finished log is = refl
 
@@ -221,9 +221,9 @@ as-many : (book : Book) (call : Call) → length (after book call).slaves ≡ le
 as-many book (Submitted command (Ok number)) = refl
 as-many book (Submitted command (Err refusal)) = refl
 as-many book (DiskAsked answer) = counted book.slaves (disk_next book).1.slaves (next-counts book (hands book))
-as-many book (DiskTold outcome) = counted book.slaves (disk_done book outcome).slaves (done-counts book book.is_handed_out outcome refl)
+as-many book (DiskReported outcome) = counted book.slaves (disk_done book outcome).slaves (done-counts book book.is_handed_out outcome refl)
 as-many book (SlaveAsked slave answer) = as-many-asked book slave (hands-rom book slave)
-as-many book (SlaveTold slave outcome) = counted book.slaves (rom_done book slave outcome).slaves (back-counts book slave (slave_at book slave).errand outcome refl)
+as-many book (SlaveReported slave outcome) = counted book.slaves (rom_done book slave outcome).slaves (back-counts book slave (slave_at book slave).operation outcome refl)
 as-many book (PlanAsked answer) = refl
 as-many book Finished = refl
 

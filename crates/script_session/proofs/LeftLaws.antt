@@ -25,7 +25,7 @@ use Rattle.station_threads.specs.declared.closing.Ends.{Ends}
 use Rattle.world_law.proofs.StandsLaws.{as-read}
 use Rattle.station_threads.specs.Places.{AllPlaced}
 use Rattle.station_threads.proofs.PlaceLaws.{placed-long}
-use Rattle.script_session.specs.Parts.{Sites, BeginsWith, HasHalf, EndsWith, IsApart, AreEndsOfParts, IsTogether}
+use Rattle.script_session.specs.Parts.{Sites, BeginsWith, HasHalf, EndsWith, IsSeparate, AreEndsOfParts, IsTogether}
 use Rattle.script_session.specs.AtDesk.{seen_of, AllLeftSo, BeginsAs}
 use Rattle.script_session.proofs.SlaveLaws.{placed-at}
 
@@ -52,7 +52,7 @@ synced-less disk image stop =
     let long : length disk.bytes ≤ length image = le_trans (le-min same same) stop.no_shorter in
     record { bytes = λ at is. stop.bytes at tt; no_shorter = le_trans (min-le_right disk.synced_length (length disk.bytes)) long }
 
-module _ (opened : Station) (calls : List Call) (sites : Sites) (ends : Ends SiteValue) (apart : IsApart opened.seen.state sites)
+module _ (opened : Station) (calls : List Call) (sites : Sites) (ends : Ends SiteValue) (separate : IsSeparate opened.seen.state sites)
     (of_sites : AreEndsOfParts sites ends) where
   -- the line when the work began: the disk is synced
   abbrev pub old : State
@@ -62,15 +62,15 @@ module _ (opened : Station) (calls : List Call) (sites : Sites) (ends : Ends Sit
   began slave s at =
       let end = mapped-back (λ (e : Stay SiteValue SlaveLog). e.start) ends.workers.items slave s at in
       let worker = placed-back (λ place (x : SiteValue) (e : Stay SiteValue SlaveLog). IsEndOfSlave place x e) 0 sites.slaves.items ends.workers.items slave end.0 of_sites.workers end.1 in
-      let half = placed-back BeginsWith 0 opened.seen.state.halves sites.slaves.items slave worker.0 apart.slaves worker.1 in
+      let half = placed-back BeginsWith 0 opened.seen.state.halves sites.slaves.items slave worker.0 separate.slaves worker.1 in
       let same : worker.0 ≡ s = sym worker.2.start ∙ end.2 in
       half.1 ∙ sym (subst (λ (x : SiteValue). HasHalf slave half.0 x) same (subst (λ (n : ℕ). HasHalf n half.0 worker.0) (omega arith) half.2.has))
 
   pub first : AreTogether seen_of ends.flusher.start (starts ends.workers.items) old
   first = record {
-    disk = sym (ap (λ (s : SiteValue). s.seen.state.disk) of_sites.flusher ∙ apart.disk);
+    disk = sym (ap (λ (s : SiteValue). s.seen.state.disk) of_sites.flusher ∙ separate.disk);
     count =
-        let many = placed-long BeginsWith 0 opened.seen.state.halves sites.slaves.items apart.slaves in
+        let many = placed-long BeginsWith 0 opened.seen.state.halves sites.slaves.items separate.slaves in
         let all = placed-long (λ place (x : SiteValue) (e : Stay SiteValue SlaveLog). IsEndOfSlave place x e) 0 sites.slaves.items ends.workers.items of_sites.workers in
         sym (length-map ends.workers.items (λ (e : Stay SiteValue SlaveLog). e.start) ∙ all ∙ many);
     halves = began;
@@ -80,7 +80,7 @@ module _ (opened : Station) (calls : List Call) (sites : Sites) (ends : Ends Sit
   opened-on machine begins =
       let pair : Pair = record { disk = opened.seen.state.disk.bytes; words = words_in opened.seen.state.halves } in
       record {
-        found = record { is_journal = begins.found.is_journal; synced = record { all = refl; whole = omega arith }; idle = begins.found.idle };
+        found = record { is_journal = begins.found.is_journal; synced = record { all = refl; entire = omega arith }; idle = begins.found.idle };
         kept = begins.kept pair (record { disk = record { bytes = λ at is. refl; no_shorter = min-le_right opened.seen.state.disk.synced_length (length opened.seen.state.disk.bytes) }; words = as-read opened.seen.state.halves });
         fits = begins.fits;
         commands_fit = begins.commands_fit;

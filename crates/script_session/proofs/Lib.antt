@@ -1,13 +1,13 @@
-pub mod ApartLaws
+pub mod SeparateLaws
 pub mod AskLaws
 pub mod HalfPlaces
 mod PartLaws
 pub mod SlaveLaws
 pub mod LeftLaws
-pub mod ToldLaws
+pub mod ReportedLaws
 pub mod SoundLaws
 pub mod DeskLaws
 pub mod IssueLaws
 pub mod RedoLaws
 pub mod SavingLaws
-pub mod BehindLaws
+pub mod AfterLaws

@@ -70,10 +70,10 @@ bytes-same None site bytes has_disk is same = absurd (false≢true (sym is ∙ h
 
 -- the line of these ends
 pub puts-together : {E : Type 0} (result : Result SiteValue E) (slaves : ℕ) (site : SiteValue) (disk : Option (Vec ℕ)) (halves : List (Option SlaveHalf)) (workers : List (Stay SiteValue SlaveLog)) (ends : Ends SiteValue)
-    → IfOk result (λ (whole : SiteValue). (whole ≡ site) × IsLineOf slaves whole.line) → site.seen.past ≡ [] → HasDiskOf disk site
+    → IfOk result (λ (entire : SiteValue). (entire ≡ site) × IsLineOf slaves entire.line) → site.seen.past ≡ [] → HasDiskOf disk site
     → IfSome disk (λ (b : Vec ℕ). b.items ≡ ends.flusher.site.seen.state.disk.bytes) → site.seen.state.halves ≡ halves_of halves → workers ≡ ends.workers.items → AllPlaced EndsWith 0 workers (halves_of halves)
-    → IfOk result (λ (whole : SiteValue). IsTogether ends whole × IsLineOf slaves whole.line)
-puts-together (Ok whole) slaves site disk halves workers ends is new there bytes held same all =
+    → IfOk result (λ (entire : SiteValue). IsTogether ends entire × IsLineOf slaves entire.line)
+puts-together (Ok entire) slaves site disk halves workers ends is new there bytes held same all =
     let has_disk : IsTrue site.line.has_disk = subst (λ (s : SiteValue). IsTrue s.line.has_disk) is.0 is.1.disk in
     let here : IsTogether ends site = record {
       new = new;

@@ -1,4 +1,4 @@
--- What a desk to which no command is submitted leaves, and the session that begins behind it.
+-- What a desk to which no command is submitted leaves, and the session that begins after it.
 use Rattle.std.proofs.Common.{◌≡◌, ℕ, ◌≤◌, true, List, [], ◌∷◌, ◌++◌, length, take, refl, sym, ◌∙◌, ap, subst, arith}
 use Rattle.std.proofs.Common.{Result, Ok, Err, inl}
 use Rattle.std.specs.Prelude.{cond, count_by, IfErr, IfOk, MatchResult, OnOk}
@@ -29,7 +29,7 @@ use Rattle.station_alone.specs.Keeping.{KeptFor}
 use Rattle.station_alone.specs.Opening.{Begins, OpensCounted}
 use Rattle.station_alone.specs.declared.opening.Found.{Found}
 use Rattle.desk_book.specs.declared.call.Call.{Call}
-use Rattle.desk_book.specs.declared.call.Call.TheVariants.{Submitted, DiskAsked, DiskTold, SlaveAsked, SlaveTold, PlanAsked, Finished}
+use Rattle.desk_book.specs.declared.call.Call.TheVariants.{Submitted, DiskAsked, DiskReported, SlaveAsked, SlaveReported, PlanAsked, Finished}
 use Rattle.desk_book.specs.Calls.{after, replayed, is_refusal}
 use Rattle.desk_book.proofs.CountLaws.{each-slave}
 use Rattle.desk_book.proofs.KeptLaws.{keeps-disk_next, keeps-disk_done, keeps-rom_next, keeps-rom_done}
@@ -44,7 +44,7 @@ use Rattle.station_files.specs.declared.faults.Fault.{Fault}
 use Rattle.station_files.specs.declared.faults.ExitStatus.TheVariants.{Done}
 use Rattle.script_session.specs.Asking.{no_counts}
 use Rattle.script_session.specs.AtDesk.{AllLeftSo, BeginsAs, Closes, ClosesWith, IsStopped, TellsWhy}
-use Rattle.script_session.specs.Parts.{Sites, IsApart, AreEndsOfParts, IsTogether}
+use Rattle.script_session.specs.Parts.{Sites, IsSeparate, AreEndsOfParts, IsTogether}
 use Rattle.script_session.specs.Redoing.{IsCount, IsOpenedHere, IsRedone, KeepsLine, StopsRedoing, issues_of}
 use Rattle.script_session.proofs.DeskLaws.{none-of}
 use Rattle.script_session.proofs.IssueLaws.{issued-by, opened-many}
@@ -63,9 +63,9 @@ no-fewer-after : (book : Book) (call : Call) → length book.accepted ≤ length
 no-fewer-after book (Submitted command (Ok number)) = omega (arith, length-append book.accepted (command ∷ []))
 no-fewer-after book (Submitted command (Err refusal)) = omega arith
 no-fewer-after book (DiskAsked answer) = let same = ap (λ (l : List Command). length l) (keeps-disk_next book).accepted in omega (arith, same)
-no-fewer-after book (DiskTold outcome) = let same = ap (λ (l : List Command). length l) (keeps-disk_done book outcome).accepted in omega (arith, same)
+no-fewer-after book (DiskReported outcome) = let same = ap (λ (l : List Command). length l) (keeps-disk_done book outcome).accepted in omega (arith, same)
 no-fewer-after book (SlaveAsked slave answer) = let same = ap (λ (l : List Command). length l) (keeps-rom_next book slave).accepted in omega (arith, same)
-no-fewer-after book (SlaveTold slave outcome) = let same = ap (λ (l : List Command). length l) (keeps-rom_done book slave outcome).accepted in omega (arith, same)
+no-fewer-after book (SlaveReported slave outcome) = let same = ap (λ (l : List Command). length l) (keeps-rom_done book slave outcome).accepted in omega (arith, same)
 no-fewer-after book (PlanAsked answer) = omega arith
 no-fewer-after book Finished = omega arith
 
@@ -83,9 +83,9 @@ none-submitted book (Submitted command (Err refusal) ∷ calls) none sound =
     let one = sum_by-cons (λ (call : Call). cond (is_refusal call) 1 0) (Submitted command (Err refusal)) calls in
     absurd (omega (arith, sound, one))
 none-submitted book (DiskAsked answer ∷ calls) none sound = (tt, none-submitted (after book (DiskAsked answer)) calls none sound)
-none-submitted book (DiskTold outcome ∷ calls) none sound = (tt, none-submitted (after book (DiskTold outcome)) calls none sound)
+none-submitted book (DiskReported outcome ∷ calls) none sound = (tt, none-submitted (after book (DiskReported outcome)) calls none sound)
 none-submitted book (SlaveAsked slave answer ∷ calls) none sound = (tt, none-submitted (after book (SlaveAsked slave answer)) calls none sound)
-none-submitted book (SlaveTold slave outcome ∷ calls) none sound = (tt, none-submitted (after book (SlaveTold slave outcome)) calls none sound)
+none-submitted book (SlaveReported slave outcome ∷ calls) none sound = (tt, none-submitted (after book (SlaveReported slave outcome)) calls none sound)
 none-submitted book (PlanAsked answer ∷ calls) none sound = (tt, none-submitted book calls none sound)
 none-submitted book (Finished ∷ calls) none sound = (tt, none-submitted (after book Finished) calls none sound)
 
@@ -104,8 +104,8 @@ kept-too bytes words one other none nothing zero_is base kept =
     record { journal = kept.journal; live = kept.live; k = 0; may_keep = (few, omega arith); same = begun ∙ base ∙ sym ends }
 
 -- the commands of a session that began without one
-none-behind : (kept : List Command) (k : ℕ) → kept ++ take k [] ≡ kept
-none-behind kept k = ap (λ (l : List Command). kept ++ l) (take-nil {A = Command} k) ∙ append-nil kept
+none-afterwards : (kept : List Command) (k : ℕ) → kept ++ take k [] ≡ kept
+none-afterwards kept k = ap (λ (l : List Command). kept ++ l) (take-nil {A = Command} k) ∙ append-nil kept
 
 module _ (opened : Station) (here : IsOpenedHere opened) (stands : Stands opened) where
   none-opened : opened.book.accepted ≡ []
@@ -131,31 +131,31 @@ module _ (opened : Station) (here : IsOpenedHere opened) (stands : Stands opened
     pub keeps-line : (site : SiteValue) → AllLeftSo IsLeft opened calls site → KeepsLine opened site.seen.state
     keeps-line site left machine is kept =
         let base = base_of opened.book in
-        let behind = left (blank base) (as-blank machine is kept) in
-        let session = reopened (blank base) behind.kept.k in
-        let same : machines.base_of session ≡ base = ap (λ (l : List Command). contents base l) (none-behind [] behind.kept.k) in
+        let afterwards = left (blank base) (as-blank machine is kept) in
+        let session = reopened (blank base) afterwards.kept.k in
+        let same : machines.base_of session ≡ base = ap (λ (l : List Command). contents base l) (none-afterwards [] afterwards.kept.k) in
         let zero_is : machine.acknowledged ≡ 0 = is.acknowledged ∙ ap (λ (book : Book). book.durable) here.book in
         λ pair leaves.
         kept-too pair.disk pair.words (served_by session (replayed opened.book calls)) machine none (is.accepted ∙ none-opened) zero_is
-        (same ∙ sym is.base) (behind.kept.kept pair leaves)
+        (same ∙ sym is.base) (afterwards.kept.kept pair leaves)
 
 -- ---- the desk is closed
 
 module _ (opened : Book) (shares : List ShareCounts) (receipts : List Numbered) (ends : Ends SiteValue) where
   -- how a desk was closed, or that it wasn't
   abbrev ClosesOrNot : Result (Unit {0}) CloseFault → Result (Unit {0}) Fault → Type 0
-  ClosesOrNot closed told = MatchResult closed (λ done. Closes opened shares receipts ends) (λ why. IsStopped opened why told ends)
+  ClosesOrNot closed reported = MatchResult closed (λ done. Closes opened shares receipts ends) (λ why. IsStopped opened why reported ends)
 
   -- if no fault is told, it was closed
-  pub closes-quietly : (closed : Result (Unit {0}) CloseFault) (told : Result (Unit {0}) Fault) → ClosesOrNot closed told → OnOk told (closed ≡ Ok tt) → told ≡ Ok tt
+  pub closes-quietly : (closed : Result (Unit {0}) CloseFault) (reported : Result (Unit {0}) Fault) → ClosesOrNot closed reported → OnOk reported (closed ≡ Ok tt) → reported ≡ Ok tt
       → Closes opened shares receipts ends
-  closes-quietly (Ok done) told closes good is = closes
+  closes-quietly (Ok done) reported closes good is = closes
   closes-quietly (Err why) (Ok done) closes good is = absurd cc
   closes-quietly (Err why) (Err fault) closes good is = absurd cc
 
   -- otherwise the fault is that of a stream, or of the book
-  pub stops-redoing : (closed : Result (Unit {0}) CloseFault) (told : Result (Unit {0}) Fault) (fault : Fault) → ClosesOrNot closed told → OnOk closed (IfErr told IsOfStream)
-      → told ≡ Err fault → StopsRedoing opened fault
+  pub stops-redoing : (closed : Result (Unit {0}) CloseFault) (reported : Result (Unit {0}) Fault) (fault : Fault) → ClosesOrNot closed reported → OnOk closed (IfErr reported IsOfStream)
+      → reported ≡ Err fault → StopsRedoing opened fault
   stops-redoing closed (Ok done) fault closes printed is = absurd cc
   stops-redoing (Ok done) (Err why) fault closes printed is =
       let same : why ≡ fault = cc in
@@ -177,9 +177,9 @@ closes-same opened (Ok same) shares ends is closes one =
 closes-same opened (Err fault) shares ends is closes one = tt
 
 module _ (opened : Station) (sites : Sites) (ends : Ends SiteValue) (site : SiteValue) (words : ℕ) (here : IsOpenedHere opened) (stands : Stands opened) where
-  redone-here : IsApart opened.seen.state sites → AreEndsOfParts sites ends → Closes opened.book (no_counts ∷ []) [] ends → IsTogether ends site
+  redone-here : IsSeparate opened.seen.state sites → AreEndsOfParts sites ends → Closes opened.book (no_counts ∷ []) [] ends → IsTogether ends site
       → IsCount (issues_of ends.workers.items) words → IsRedone opened words site
-  redone-here apart of_sites closes together counts =
+  redone-here separate of_sites closes together counts =
       let counted = closes.closed.handed_in.counted in
       let tickets = counted.tickets in
       let refusals = counted.refusals in
@@ -206,33 +206,33 @@ module _ (opened : Station) (sites : Sites) (ends : Ends SiteValue) (site : Site
       record {
         served = record {
           sites = sites;
-          apart = apart;
+          separate = separate;
           ends = ends;
           of_sites = of_sites;
           closes = with_none;
           together = together;
-          contents = λ just. contents-together opened.book (replayed opened.book calls) opened.seen.state sites ends site apart of_sites together (closes.closed.contents just);
-          left = left-together opened calls sites ends apart of_sites site together closes.closed.left;
+          contents = λ just. contents-together opened.book (replayed opened.book calls) opened.seen.state sites ends site separate of_sites together (closes.closed.contents just);
+          left = left-together opened calls sites ends separate of_sites site together closes.closed.left;
         };
         counts = subst (λ (n : ℕ). IsCount n words) all counts;
-        keeps = keeps-line opened here stands calls none sound site (left-together opened calls sites ends apart of_sites site together
+        keeps = keeps-line opened here stands calls none sound site (left-together opened calls sites ends separate of_sites site together
             closes.closed.left);
       }
 
-  pub redone : (book : Book) (seen : Seen) → book ≡ opened.book → seen ≡ opened.seen → IsApart seen.state sites → AreEndsOfParts sites ends
+  pub redone : (book : Book) (seen : Seen) → book ≡ opened.book → seen ≡ opened.seen → IsSeparate seen.state sites → AreEndsOfParts sites ends
       → Closes book (no_counts ∷ []) [] ends → IsTogether ends site → IsCount (issues_of ends.workers.items) words → IsRedone opened words site
-  redone book seen of_book of_seen apart of_sites closes together counts =
-      redone-here (subst (λ (s : Seen). IsApart s.state sites) of_seen apart) of_sites
+  redone book seen of_book of_seen separate of_sites closes together counts =
+      redone-here (subst (λ (s : Seen). IsSeparate s.state sites) of_seen separate) of_sites
       (subst (λ (b : Book). Closes b (no_counts ∷ []) [] ends) of_book closes) together counts
 
--- ---- the session behind it
+-- ---- the session after it
 
 -- a session that began without a command begins again where the line was recovered
 pub begins-still : (m : Machine) (k : ℕ) (s : Station) → Begins (reopened m k) s → MayKeep m k → Begins m s
 begins-still m k s again may =
     let session = reopened m k in
     let same : reopened session again.k ≡ session =
-    ap (λ (l : List Command). record { origin = m.origin; kept = l; accepted = []; acknowledged = 0 }) (none-behind session.kept again.k) in
+    ap (λ (l : List Command). record { origin = m.origin; kept = l; accepted = []; acknowledged = 0 }) (none-afterwards session.kept again.k) in
     record {
       k = k;
       may_keep = may;

@@ -1,4 +1,4 @@
--- What the files hold behind a desk.
+-- What the files hold after a desk.
 use Rattle.std.proofs.Common.{◌≡◌, ℕ, Bool, true, false, IsTrue, List, Result, Ok, Err, length, refl, subst}
 use Rattle.std.specs.Prelude.{OnOk}
 use Rattle.sii_edit.specs.declared.command.Command.{Command}
@@ -10,22 +10,22 @@ use Rattle.station_files.specs.Files.{Known}
 use Rattle.station_files.specs.declared.faults.ExitStatus.{ExitStatus}
 use Rattle.station_files.specs.declared.faults.ExitStatus.TheVariants.{Done}
 use Rattle.station_line.specs.Site.{IsFollowed}
-use Rattle.script_session.specs.declared.told.PartTold.{PartTold}
+use Rattle.script_session.specs.declared.logs.PartLog.{PartLog}
 use Rattle.script_session.specs.Parts.{IsLineOf, Telling}
-use Rattle.script_session.specs.Saving.{HoldsBehind, IsToldLine, KeepsTold, SavesBehind, SavesServed}
+use Rattle.script_session.specs.Saving.{HoldsAfter, IsReportedLine, KeepsReported, SavesAfter, SavesServed}
 
 pub line-of : (line : Line) (slaves count : ℕ) → slaves ≡ count → IsLineOf slaves line → IsLineOf count line
 line-of line slaves count same is = subst (λ (n : ℕ). IsLineOf n line) same is
 
 holds-unserved : (is_driven : Bool) (files : Known) (line : LineFile) (r : Station) (unserved commands : List Command) (status : ExitStatus) → (is_driven ≡ false → unserved ≡ commands)
-    → HoldsBehind is_driven files line r unserved status → HoldsBehind is_driven files line r commands status
+    → HoldsAfter is_driven files line r unserved status → HoldsAfter is_driven files line r commands status
 holds-unserved true files line r unserved commands status same holds = holds
 holds-unserved false files line r unserved commands status same holds = subst (λ (l : List Command). SavesServed files line r l status) (same refl) holds
 
 -- what wasn't submitted are all commands, or they don't matter
-pub behind-unserved : (is_driven : Bool) (files : Known) (line : LineFile) (before : Seen) (unserved commands : List Command) (status : ExitStatus) → (is_driven ≡ false → unserved ≡ commands)
-    → SavesBehind files line before is_driven unserved status → SavesBehind files line before is_driven commands status
-behind-unserved is_driven files line before unserved commands status same saves =
+pub after-unserved : (is_driven : Bool) (files : Known) (line : LineFile) (before : Seen) (unserved commands : List Command) (status : ExitStatus) → (is_driven ≡ false → unserved ≡ commands)
+    → SavesAfter files line before is_driven unserved status → SavesAfter files line before is_driven commands status
+after-unserved is_driven files line before unserved commands status same saves =
     record { r = saves.r; recovered = saves.recovered; begins = saves.begins; holds = holds-unserved is_driven files line saves.r unserved commands status same saves.holds }
 
 -- ---- of a status that is worse than that of the answers
@@ -43,13 +43,13 @@ serves-worse files line opened commands one final done_too saves = record {
 }
 
 holds-worse : (is_driven : Bool) (files : Known) (line : LineFile) (r : Station) (commands : List Command) (one final : ExitStatus)
-    → (final ≡ Done → one ≡ Done) → HoldsBehind is_driven files line r commands one → HoldsBehind is_driven files line r commands final
+    → (final ≡ Done → one ≡ Done) → HoldsAfter is_driven files line r commands one → HoldsAfter is_driven files line r commands final
 holds-worse true files line r commands one final done_too holds = holds
 holds-worse false files line r commands one final done_too holds = serves-worse files line r commands one final done_too holds
 
-pub behind-worse : (is_driven : Bool) (files : Known) (line : LineFile) (before : Seen) (commands : List Command) (one final : ExitStatus)
-    → (final ≡ Done → one ≡ Done) → SavesBehind files line before is_driven commands one → SavesBehind files line before is_driven commands final
-behind-worse is_driven files line before commands one final done_too saves = record {
+pub after-worse : (is_driven : Bool) (files : Known) (line : LineFile) (before : Seen) (commands : List Command) (one final : ExitStatus)
+    → (final ≡ Done → one ≡ Done) → SavesAfter files line before is_driven commands one → SavesAfter files line before is_driven commands final
+after-worse is_driven files line before commands one final done_too saves = record {
   r = saves.r;
   recovered = saves.recovered;
   begins = saves.begins;
@@ -65,11 +65,11 @@ in_each (Err fault) holds = tt
 
 module _ {D T : Type 0} (follows : D → Seen → Type 0) (well : D → Type 0) (tells : D → T → Type 0) where
   -- a device that ended soundly
-  pub keeps_told : (part : PartTold T) (seen : Seen) → IsTrue part.is_sound → IsFollowed (Telling follows well tells part) seen
-      → IsFollowed (KeepsTold follows well tells part.told) seen
-  keeps_told part seen sound is = let both = is.1.2 sound in (is.0, ((is.1.0, both.0, both.1), is.1.1))
+  pub keeps_reported : (part : PartLog T) (seen : Seen) → IsTrue part.is_sound → IsFollowed (Telling follows well tells part) seen
+      → IsFollowed (KeepsReported follows well tells part.reported) seen
+  keeps_reported part seen sound is = let both = is.1.2 sound in (is.0, ((is.1.0, both.0, both.1), is.1.1))
 
   -- a site whose device has told this, and has ended soundly
-  pub told_line : (part : PartTold T) (device : D) (seen : Seen) (slaves : ℕ) → Telling follows well tells part device seen → IsTrue part.is_sound
-      → slaves ≡ length seen.state.halves → IsToldLine follows well tells part.told slaves seen
-  told_line part device seen slaves telling sound count = record { ends = keeps_told part seen sound (device, telling); count = count }
+  pub reported_line : (part : PartLog T) (device : D) (seen : Seen) (slaves : ℕ) → Telling follows well tells part device seen → IsTrue part.is_sound
+      → slaves ≡ length seen.state.halves → IsReportedLine follows well tells part.reported slaves seen
+  reported_line part device seen slaves telling sound count = record { ends = keeps_reported part seen sound (device, telling); count = count }

@@ -12,7 +12,7 @@ use Rattle.station_threads.specs.Parts.{IsEndOfSlave}
 use Rattle.station_threads.specs.declared.closing.Ends.{Ends}
 use Rattle.desk_laws.specs.Slaves.{IsAsOpened, ReadsAsContents, AllReadAsContents}
 use Rattle.station_threads.specs.Places.{AllPlaced}
-use Rattle.script_session.specs.Parts.{Sites, BeginsWith, HasHalf, EndsWith, IsApart, AreEndsOfParts, IsTogether}
+use Rattle.script_session.specs.Parts.{Sites, BeginsWith, HasHalf, EndsWith, IsSeparate, AreEndsOfParts, IsTogether}
 use Rattle.script_session.specs.AtDesk.{seen_of}
 
 -- the item at this place has a partner at this place
@@ -31,11 +31,11 @@ at-place : (state : State) (place slave : ℕ) (one other : SlaveHalf) → place
 at-place state place slave one other is here there = sym here ∙ subst (λ (n : ℕ). slice_get state.halves n ≡ Some other) (sym is) there
 
 -- a slave that was idle with the opening words reads as the contents on the line that was put together
-pub contents-together : (opened book : Book) (whole : State) (sites : Sites) (ends : Ends SiteValue) (site : SiteValue) → IsApart whole sites → AreEndsOfParts sites ends → IsTogether ends site → AllReadAsContents opened book seen_of ends.workers.items
-    → (slave : ℕ) → IsAsOpened opened whole slave → ReadsAsContents book site.seen.state slave
-contents-together opened book whole sites ends site apart of_sites together reads slave was =
+pub contents-together : (opened book : Book) (entire : State) (sites : Sites) (ends : Ends SiteValue) (site : SiteValue) → IsSeparate entire sites → AreEndsOfParts sites ends → IsTogether ends site → AllReadAsContents opened book seen_of ends.workers.items
+    → (slave : ℕ) → IsAsOpened opened entire slave → ReadsAsContents book site.seen.state slave
+contents-together opened book entire sites ends site separate of_sites together reads slave was =
     let none : 0 + slave ≡ slave = omega arith in
-    let part = placed-at BeginsWith 0 whole.halves sites.slaves.items slave was.half apart.slaves was.here in
+    let part = placed-at BeginsWith 0 entire.halves sites.slaves.items slave was.half separate.slaves was.here in
     let worker = placed-at (λ place (s : SiteValue) (end : Stay SiteValue SlaveLog). IsEndOfSlave place s end) 0 sites.slaves.items ends.workers.items slave part.0 of_sites.workers part.1 in
     let begun : HasHalf slave was.half worker.0.start = subst (λ (s : SiteValue). HasHalf slave was.half s) (sym worker.2.start) (subst (λ (n : ℕ). HasHalf n was.half part.0) none part.2.has) in
     let left : ReadsAsContents book worker.0.site.seen.state slave = reads slave worker.0 worker.1 (record { half = was.half; here = begun; is = was.is }) in

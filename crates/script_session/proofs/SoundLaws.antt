@@ -17,13 +17,13 @@ use Rattle.station_jobs.specs.Jobs.{DoneInTurn, IsDone, IsLast, MayEnd}
 use Rattle.station_threads.specs.declared.closing.Ends.{Ends}
 use Rattle.station_alone.specs.Station.{Station}
 use Rattle.station_files.specs.declared.faults.Fault.{Fault}
-use Rattle.script_session.specs.Parts.{Sites, IsApart, AreEndsOfParts, AreFollowed, AreSound, EndsSynced, IsDeskTold, Soundly}
-use Rattle.script_session.specs.declared.told.DeskTold.{DeskTold}
-use Rattle.script_session.proofs.ToldLaws.{line_soundly, parts_soundly}
+use Rattle.script_session.specs.Parts.{Sites, IsSeparate, AreEndsOfParts, AreFollowed, AreSound, EndsSynced, IsDeskReported, Soundly}
+use Rattle.script_session.specs.declared.logs.DeskLog.{DeskLog}
+use Rattle.script_session.proofs.ReportedLaws.{line_soundly, parts_soundly}
 use Rattle.station_line.specs.Site.{IsFollowed}
 use Rattle.sii_edit.specs.declared.command.Command.{Command}
 use Rattle.script_session.specs.declared.threads.Left.{Left}
-use Rattle.script_session.specs.AtDesk.{EndsFollowed, IsServedTold, PartsFollowed, ServesFollowed}
+use Rattle.script_session.specs.AtDesk.{EndsFollowed, IsServedReported, PartsFollowed, ServesFollowed}
 
 -- ---- the disk
 
@@ -37,7 +37,7 @@ synced_entry = record { job = next.Sync; outcome = Some (Ok tt) }
 -- a sync that succeeded leaves all bytes synced
 by_sync : (entry : DiskEntry) (outcome : Result (Unit {0}) DeviceFault) (old new : Seen) → entry ≡ synced_entry → entry.outcome ≡ Some outcome → DoesAction entry.job outcome old new
     → IsSyncedNow new
-by_sync entry outcome old new is told does =
+by_sync entry outcome old new is reported does =
     let same : outcome ≡ Ok tt = (let there = ap (λ (e : DiskEntry). e.outcome) is in cc) in
     let sync : DoesAction next.Sync outcome old new = subst (λ (job : DiskNext). DoesAction job outcome old new) (ap (λ (e : DiskEntry). e.job) is) does in
     let ended = subst (λ (r : Result (Unit {0}) DeviceFault). OnOk r (new.state ≡ record old.state { disk = of_bytes old.state.disk.bytes })) same sync.ok in
@@ -48,7 +48,7 @@ done_synced [] old new at in_turn last here = absurd (omega (arith, last))
 done_synced (entry ∷ []) old new zero in_turn last here =
     let is : entry ≡ synced_entry = cc in
     let one : IsDone DoesAction entry old in_turn.0 = in_turn.1 in
-    subst IsSyncedNow (sym in_turn.2) (by_sync entry one.outcome old in_turn.0 is one.told one.does)
+    subst IsSyncedNow (sym in_turn.2) (by_sync entry one.outcome old in_turn.0 is one.reported one.does)
 done_synced (entry ∷ []) old new (suc at) in_turn last here = absurd (omega (arith, last))
 done_synced (entry ∷ second ∷ rest) old new zero in_turn last here = absurd (omega (arith, last))
 done_synced (entry ∷ second ∷ rest) old new (suc at) in_turn last here =
@@ -73,8 +73,8 @@ led_synced log done (entry ∷ []) old mid new at is in_turn ends last here =
     let one : IsLast DoesAction entry mid new = ends in
     let same : entry ≡ synced_entry =
     last_of done entry at (last ∙ ap length is) (subst (λ (l : List DiskEntry). slice_get l at ≡ Some synced_entry) is here) in
-    elim one.told [
-      | inl told ↦ by_sync entry one.outcome mid new same told one.does
+    elim one.reported [
+      | inl reported ↦ by_sync entry one.outcome mid new same reported one.does
       | inr none ↦ (let there = ap (λ (e : DiskEntry). e.outcome) same in absurd cc)
     ]
 led_synced log done (entry ∷ second ∷ rest) old mid new at is in_turn ends last here = absurd ends
@@ -85,8 +85,8 @@ none_led [] (entry ∷ last) old mid new is in_turn ends = absurd cc
 none_led (entry ∷ done) last old mid new is in_turn ends = absurd cc
 
 -- a disk's part that began with all bytes synced, and whose log ends so
-pub synced_behind : (log : List DiskEntry) (old new : Seen) → IsFlushed log old new → IsSyncedNow old → EndsSynced log → IsSyncedNow new
-synced_behind log old new flushed began ends = elim ends [
+pub synced_after : (log : List DiskEntry) (old new : Seen) → IsFlushed log old new → IsSyncedNow old → EndsSynced log → IsSyncedNow new
+synced_after log old new flushed began ends = elim ends [
   | inl empty ↦ subst IsSyncedNow (sym (none_led flushed.led.done flushed.led.last old flushed.led.mid new (sym empty ∙ flushed.led.log_is) flushed.led.in_turn flushed.led.ends)) began
   | inr there ↦ led_synced log flushed.led.done flushed.led.last old flushed.led.mid new there.0 flushed.led.log_is flushed.led.in_turn flushed.led.ends there.1 there.2
 ]
@@ -94,15 +94,15 @@ synced_behind log old new flushed began ends = elim ends [
 -- ---- the devices
 
 -- what devices have followed of parts that ended soundly
-pub parts_followed : {D : Type 0} (follows : D → Seen → Type 0) (well : D → Type 0) (opened : Station) (seen : Seen) (sites : Sites) (ends : Ends SiteValue) → seen ≡ opened.seen → IsApart seen.state sites → AreEndsOfParts sites ends
+pub parts_followed : {D : Type 0} (follows : D → Seen → Type 0) (well : D → Type 0) (opened : Station) (seen : Seen) (sites : Sites) (ends : Ends SiteValue) → seen ≡ opened.seen → IsSeparate seen.state sites → AreEndsOfParts sites ends
     → IsFollowed (Soundly follows well) seen → length opened.line.sizes ≡ length seen.state.halves → AreFollowed (Soundly follows well) ends → EndsSynced ends.flusher.log → PartsFollowed (Soundly follows well) opened ends
-parts_followed follows well opened seen sites ends of_seen apart of_sites before count parts synced =
-    let start : ends.flusher.start.seen.state.disk ≡ of_bytes seen.state.disk.bytes = ap (λ (s : SiteValue). s.seen.state.disk) of_sites.flusher ∙ apart.disk in
+parts_followed follows well opened seen sites ends of_seen separate of_sites before count parts synced =
+    let start : ends.flusher.start.seen.state.disk ≡ of_bytes seen.state.disk.bytes = ap (λ (s : SiteValue). s.seen.state.disk) of_sites.flusher ∙ separate.disk in
     record {
       before = subst (λ (s : Seen). IsFollowed (Soundly follows well) s) of_seen before;
       count = count ∙ ap (λ (s : Seen). length s.state.halves) of_seen;
       parts = parts;
-      synced = synced_behind ends.flusher.log ends.flusher.start.seen ends.flusher.site.seen parts.flushed
+      synced = synced_after ends.flusher.log ends.flusher.start.seen ends.flusher.site.seen parts.flushed
           (start ∙ ap of_bytes (sym (ap (λ (d : Disk). d.bytes) start))) synced;
     }
 
@@ -112,27 +112,27 @@ on_ok (Ok value) step holds = step holds
 on_ok (Err fault) step holds = tt
 
 -- what devices have followed, by how the ends were judged
-pub followed_ends : {D T : Type 0} (follows : D → Seen → Type 0) (well : D → Type 0) (tells : D → T → Type 0) (opened : Station) (seen : Seen) (sites : Sites) (ends : Ends SiteValue) (told : DeskTold T) (sound : Result (Unit {0}) Fault) → seen ≡ opened.seen
-    → IsApart seen.state sites → AreEndsOfParts sites ends → IsDeskTold follows well tells seen told ends → length opened.line.sizes ≡ length seen.state.halves → OnOk sound (AreSound told × EndsSynced ends.flusher.log) → AreFollowed follows ends
+pub followed_ends : {D T : Type 0} (follows : D → Seen → Type 0) (well : D → Type 0) (tells : D → T → Type 0) (opened : Station) (seen : Seen) (sites : Sites) (ends : Ends SiteValue) (reported : DeskLog T) (sound : Result (Unit {0}) Fault) → seen ≡ opened.seen
+    → IsSeparate seen.state sites → AreEndsOfParts sites ends → IsDeskReported follows well tells seen reported ends → length opened.line.sizes ≡ length seen.state.halves → OnOk sound (AreSound reported × EndsSynced ends.flusher.log) → AreFollowed follows ends
     → EndsFollowed follows well opened sound ends
-followed_ends follows well tells opened seen sites ends told (Ok done) of_seen apart of_sites is count sound all =
-    parts_followed follows well opened seen sites ends of_seen apart of_sites (line_soundly follows well tells seen told ends is sound.0) count
-    (parts_soundly follows well tells seen told ends is sound.0) sound.1
-followed_ends follows well tells opened seen sites ends told (Err fault) of_seen apart of_sites is count sound all = all
+followed_ends follows well tells opened seen sites ends reported (Ok done) of_seen separate of_sites is count sound all =
+    parts_followed follows well opened seen sites ends of_seen separate of_sites (line_soundly follows well tells seen reported ends is sound.0) count
+    (parts_soundly follows well tells seen reported ends is sound.0) sound.1
+followed_ends follows well tells opened seen sites ends reported (Err fault) of_seen separate of_sites is count sound all = all
 
 -- the parts that were served and ended soundly
 pub served_soundly : {D T : Type 0} (follows : D → Seen → Type 0) (well : D → Type 0) (tells : D → T → Type 0) (opened : Station) (commands : List Command) (left : Left SiteValue T) → ServesFollowed follows well tells false opened commands left → left.sound ≡ Ok tt
-    → IsServedTold follows well tells opened left.told left.site
+    → IsServedReported follows well tells opened left.reported left.site
 served_soundly follows well tells opened commands left serves sound = record {
   served = record {
     sites = serves.parts.desk.sites;
-    apart = serves.parts.desk.apart;
+    separate = serves.parts.desk.separate;
     ends = serves.parts.desk.ends;
     of_sites = serves.parts.desk.of_sites;
     together = serves.parts.together;
   };
   still = serves.turning;
   followed = subst (λ (r : Result (Unit {0}) Fault). EndsFollowed follows well opened r serves.parts.desk.ends) sound serves.followed;
-  devices = serves.told;
-  sound = subst (λ (r : Result (Unit {0}) Fault). OnOk r (AreSound left.told)) sound serves.sound;
+  devices = serves.reported;
+  sound = subst (λ (r : Result (Unit {0}) Fault). OnOk r (AreSound left.reported)) sound serves.sound;
 }

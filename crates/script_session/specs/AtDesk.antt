@@ -36,12 +36,12 @@ use Rattle.script_session.specs.declared.closing.AtDesk.{AtDesk}
 use Rattle.script_session.specs.declared.closing.Ending.{Ending}
 use Rattle.script_session.specs.declared.threads.Opening.{Opening}
 use Rattle.script_session.specs.declared.threads.Left.{Left}
-use Rattle.script_session.specs.declared.told.DeskTold.{DeskTold}
-use Rattle.script_session.specs.declared.told.PartTold.{PartTold}
-use Rattle.script_session.specs.declared.told.UnservedTold.{UnservedTold}
-use Rattle.script_session.specs.declared.told.UnservedTold.TheVariants as unserved
+use Rattle.script_session.specs.declared.logs.DeskLog.{DeskLog}
+use Rattle.script_session.specs.declared.logs.PartLog.{PartLog}
+use Rattle.script_session.specs.declared.logs.UnservedLog.{UnservedLog}
+use Rattle.script_session.specs.declared.logs.UnservedLog.TheVariants as unserved
 use Rattle.script_session.specs.Asking.{commands_of, GivesUp}
-use Rattle.script_session.specs.Parts.{Sites, IsApart, AreEndsOfParts, AreFollowed, AreSound, AreUnserved, IsDeskTold, IsTogether, Soundly, Telling}
+use Rattle.script_session.specs.Parts.{Sites, IsSeparate, AreEndsOfParts, AreFollowed, AreSound, AreUnserved, IsDeskReported, IsTogether, Soundly, Telling}
 use Rattle.station_line.specs.Site.{IsFollowed}
 
 -- the state of a site and its past
@@ -71,15 +71,15 @@ pub record Closes (opened : Book) (shares : List ShareCounts) (receipts : List N
 
 -- A desk of this book was closed with one share. If no fault is told to the user, it accepted of these commands those that it should, and
 -- each of them was acknowledged.
-pub record ClosesWith (opened : Book) (commands : List Command) (is_driven : Bool) (status : ExitStatus) (told : Result (Unit {0}) Fault)
+pub record ClosesWith (opened : Book) (commands : List Command) (is_driven : Bool) (status : ExitStatus) (reported : Result (Unit {0}) Fault)
     (ends : Ends SiteValue) : Type 0 where
   pub calls : List Call
   pub counts : ShareCounts
   pub receipts : List Numbered
   pub closed : IsClosed opened calls (counts ∷ []) receipts ends
-  pub acknowledged : OnOk told (commands_of receipts ≡ (replayed opened calls).accepted)
-  pub accepts : OnOk told (AcceptsOf is_driven commands status (replayed opened calls).accepted)
-  pub tells : IfErr told GivesUp
+  pub acknowledged : OnOk reported (commands_of receipts ≡ (replayed opened calls).accepted)
+  pub accepts : OnOk reported (AcceptsOf is_driven commands status (replayed opened calls).accepted)
+  pub tells : IfErr reported GivesUp
 
 -- the fault that the user is told of where a desk isn't closed: a stream failed, memory was refused, or it is the fault of the book
 abbrev pub TellsWhy : Book → Fault → Type 0
@@ -87,18 +87,18 @@ TellsWhy book fault = IsOfStream fault ⊎ (fault ≡ fault_of_book book.fault)
 
 -- A desk of this book wasn't closed. These are the calls of the book, each answered as the definition says. Unless what was handed in
 -- doesn't match what the desk handed out, a power cut leaves of disk and slaves only what is kept.
-pub record IsStopped (opened : Book) (why : CloseFault) (told : Result (Unit {0}) Fault) (ends : Ends SiteValue) : Type 0 where
+pub record IsStopped (opened : Book) (why : CloseFault) (reported : Result (Unit {0}) Fault) (ends : Ends SiteValue) : Type 0 where
   pub calls : List Call
   pub answered : AreAnswered opened calls
   pub kept : why ≡ Unserved → AllEndSo IsKeptAs opened calls seen_of ends.flusher ends.workers.items
-  pub tells : IfErr told (TellsWhy (replayed opened calls))
+  pub tells : IfErr reported (TellsWhy (replayed opened calls))
 
 -- How the desk was closed, or that it wasn't. If it wasn't, the user is told of a fault.
 pub record EndsSo (opened : Book) (commands : List Command) (ends : Ends SiteValue) (ending : Ending) : Type 0 where
-  pub told : OnOk ending.told (ending.closed ≡ Ok tt)
+  pub reported : OnOk ending.reported (ending.closed ≡ Ok tt)
   pub ended : MatchResult ending.closed
-      (λ done. ClosesWith opened commands ending.is_driven ending.status ending.told ends)
-      (λ why. IsStopped opened why ending.told ends)
+      (λ done. ClosesWith opened commands ending.is_driven ending.status ending.reported ends)
+      (λ why. IsStopped opened why ending.reported ends)
 
 -- A desk of this book is made of this: the book, which has accepted no command, and ledgers with these names and parts, more than one each.
 pub record OpensDesk (opened : Book) (ticket_name ticket_parts refusal_name refusal_parts : ℕ) (opening : Opening) : Type 0 where
@@ -134,12 +134,12 @@ AllLeftSo so opened calls site = (machine : Machine) → BeginsAs machine calls 
 -- the book was just opened, each slave that was idle with the opening words before reads as the contents after all accepted commands. A
 -- power cut leaves only what is kept for the session with all of them, and redo of it gives these contents.
 pub record IsServedAtDesk (opened : Station) (commands : List Command) (is_driven : Bool) (status : ExitStatus)
-    (told : Result (Unit {0}) Fault) (site : SiteValue) : Type 0 where
+    (reported : Result (Unit {0}) Fault) (site : SiteValue) : Type 0 where
   pub sites : Sites
-  pub apart : IsApart opened.seen.state sites
+  pub separate : IsSeparate opened.seen.state sites
   pub ends : Ends SiteValue
   pub of_sites : AreEndsOfParts sites ends
-  pub closes : ClosesWith opened.book commands is_driven status told ends
+  pub closes : ClosesWith opened.book commands is_driven status reported ends
   pub together : IsTogether ends site
   pub contents : IsJustOpened opened.book → (slave : ℕ) → IsAsOpened opened.book opened.seen.state slave
       → ReadsAsContents (replayed opened.book closes.calls) site.seen.state slave
@@ -147,35 +147,35 @@ pub record IsServedAtDesk (opened : Station) (commands : List Command) (is_drive
 
 -- The desk wasn't closed. Unless what was handed in doesn't match what the desk handed out, a power cut leaves only what is kept for the
 -- session, with the commands that the book has accepted and each durable one acknowledged.
-pub record IsStoppedAtDesk (opened : Station) (why : CloseFault) (told : Result (Unit {0}) Fault) (site : SiteValue) : Type 0 where
+pub record IsStoppedAtDesk (opened : Station) (why : CloseFault) (reported : Result (Unit {0}) Fault) (site : SiteValue) : Type 0 where
   pub calls : List Call
   pub answered : AreAnswered opened.book calls
   pub kept : why ≡ Unserved → AllLeftSo IsKeptAs opened calls site
-  pub tells : IfErr told (TellsWhy (replayed opened.book calls))
+  pub tells : IfErr reported (TellsWhy (replayed opened.book calls))
 
 -- The line was served if the desk was closed; otherwise it was stopped, and the user is told of a fault.
 pub record LeavesSo (opened : Station) (commands : List Command) (ending : Ending) (site : SiteValue) : Type 0 where
-  pub told : OnOk ending.told (ending.closed ≡ Ok tt)
+  pub reported : OnOk ending.reported (ending.closed ≡ Ok tt)
   pub left : MatchResult ending.closed
-      (λ done. IsServedAtDesk opened commands ending.is_driven ending.status ending.told site)
-      (λ why. IsStoppedAtDesk opened why ending.told site)
+      (λ done. IsServedAtDesk opened commands ending.is_driven ending.status ending.reported site)
+      (λ why. IsStoppedAtDesk opened why ending.reported site)
 
 -- The line of this station was taken apart, and its parts ended so.
 pub record PartsEnd (opened : Station) : Type 0 where
   pub sites : Sites
-  pub apart : IsApart opened.seen.state sites
+  pub separate : IsSeparate opened.seen.state sites
   pub ends : Ends SiteValue
   pub of_sites : AreEndsOfParts sites ends
 
 -- The line of this station was taken apart, and a desk of its book served the parts.
 pub record DeskServes (opened : Station) (commands : List Command) (ending : Ending) : Type 0 where
   pub sites : Sites
-  pub apart : IsApart opened.seen.state sites
+  pub separate : IsSeparate opened.seen.state sites
   pub ends : Ends SiteValue
   pub of_sites : AreEndsOfParts sites ends
   pub ended : EndsSo opened.book commands ends ending
 
--- Behind that the line was put together again.
+-- After that the line was put together again.
 pub record ServesParts (opened : Station) (commands : List Command) (ending : Ending) (site : SiteValue) : Type 0 where
   pub desk : DeskServes opened commands ending
   pub together : IsTogether desk.ends site
@@ -183,7 +183,7 @@ pub record ServesParts (opened : Station) (commands : List Command) (ending : En
 -- The line of this station was taken apart, a desk served the parts, and the line was put together again.
 pub record PartsAreServed (opened : Station) (site : SiteValue) : Type 0 where
   pub sites : Sites
-  pub apart : IsApart opened.seen.state sites
+  pub separate : IsSeparate opened.seen.state sites
   pub ends : Ends SiteValue
   pub of_sites : AreEndsOfParts sites ends
   pub together : IsTogether ends site
@@ -198,15 +198,15 @@ pub record PartsFollowed {D : Type 0} (follows : D → Seen → Type 0) (opened 
 
 -- The parts were served so, without a site for process data, devices have kept this of them, and this is told of the devices: each part ended
 -- soundly.
-pub record IsServedTold {D T : Type 0} (follows : D → Seen → Type 0) (well : D → Type 0) (tells : D → T → Type 0) (opened : Station)
-    (told : DeskTold T) (site : SiteValue) : Type 0 where
+pub record IsServedReported {D T : Type 0} (follows : D → Seen → Type 0) (well : D → Type 0) (tells : D → T → Type 0) (opened : Station)
+    (reported : DeskLog T) (site : SiteValue) : Type 0 where
   pub served : PartsAreServed opened site
   pub still : is_some served.sites.cycle ≡ false
   pub followed : PartsFollowed (Soundly follows well) opened served.ends
-  pub devices : IsDeskTold follows well tells opened.seen told served.ends
-  pub sound : AreSound told
+  pub devices : IsDeskReported follows well tells opened.seen reported served.ends
+  pub sound : AreSound reported
 
--- Behind each part a device keeps this of the part's site. Where the parts ended soundly, nothing has failed that these devices were asked, and no
+-- After each part a device keeps this of the part's site. Where the parts ended soundly, nothing has failed that these devices were asked, and no
 -- site has stopped.
 abbrev pub EndsFollowed : {D : Type 0} → (D → Seen → Type 0) → (D → Type 0) → Station → Result (Unit {0}) Fault → Ends SiteValue
     → Type 0
@@ -220,16 +220,16 @@ pub record ServesFollowed {D T : Type 0} (follows : D → Seen → Type 0) (well
   pub parts : ServesParts opened commands left.ending left.site
   pub turning : is_some parts.desk.sites.cycle ≡ turns
   pub followed : EndsFollowed follows well opened left.sound parts.desk.ends
-  pub told : IsDeskTold follows well tells opened.seen left.told parts.desk.ends
-  pub sound : OnOk left.sound (AreSound left.told)
+  pub reported : IsDeskReported follows well tells opened.seen left.reported parts.desk.ends
+  pub sound : OnOk left.sound (AreSound left.reported)
 
 -- A line was not served, or not put together again behind that, and this is told: of the line's device, where no part had one yet; of the devices
 -- of the parts, where no desk has served them; or of the devices at a desk of this book, which served the parts with this ending.
-pub data IsUnservedTold {D T : Type 0} (follows : D → Seen → Type 0) (well : D → Type 0) (tells : D → T → Type 0) (opened : Station)
-    (commands : List Command) : UnservedTold T → Type 0 where
-  line : (part : PartTold T) → IsFollowed (Telling follows well tells part) opened.seen
-      → IsUnservedTold follows well tells opened commands (unserved.Line part)
-  apart : (told : DeskTold T) (parts : PartsEnd opened) → AreUnserved parts.ends → IsDeskTold follows well tells opened.seen told parts.ends
-      → IsUnservedTold follows well tells opened commands (unserved.Apart told)
-  desk : (told : DeskTold T) (ending : Ending) (desk : DeskServes opened commands ending)
-      → IsDeskTold follows well tells opened.seen told desk.ends → IsUnservedTold follows well tells opened commands (unserved.Desk told)
+pub data IsUnservedReported {D T : Type 0} (follows : D → Seen → Type 0) (well : D → Type 0) (tells : D → T → Type 0) (opened : Station)
+    (commands : List Command) : UnservedLog T → Type 0 where
+  line : (part : PartLog T) → IsFollowed (Telling follows well tells part) opened.seen
+      → IsUnservedReported follows well tells opened commands (unserved.Line part)
+  separate : (reported : DeskLog T) (parts : PartsEnd opened) → AreUnserved parts.ends → IsDeskReported follows well tells opened.seen reported parts.ends
+      → IsUnservedReported follows well tells opened commands (unserved.Separate reported)
+  desk : (reported : DeskLog T) (ending : Ending) (desk : DeskServes opened commands ending)
+      → IsDeskReported follows well tells opened.seen reported desk.ends → IsUnservedReported follows well tells opened commands (unserved.Desk reported)

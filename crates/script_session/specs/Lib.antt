@@ -3,4 +3,4 @@ pub mod Parts
 pub mod AtDesk
 pub mod Redoing
 pub mod Saving
-pub mod Behind
+pub mod After

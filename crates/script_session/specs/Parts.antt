@@ -19,10 +19,10 @@ use Rattle.station_jobs.specs.Flushing.{IsFlushed}
 use Rattle.station_jobs.specs.Working.{IsWorked}
 use Rattle.station_threads.specs.declared.parts.PerDevice.{PerDevice}
 use Rattle.station_threads.specs.declared.closing.Ends.{Ends}
-use Rattle.script_session.specs.declared.told.PartTold.{PartTold}
-use Rattle.script_session.specs.declared.told.DeskTold.{DeskTold}
-use Rattle.script_session.specs.declared.told.UnservedTold.{UnservedTold}
-use Rattle.script_session.specs.declared.told.UnservedTold.TheVariants as unserved
+use Rattle.script_session.specs.declared.logs.PartLog.{PartLog}
+use Rattle.script_session.specs.declared.logs.DeskLog.{DeskLog}
+use Rattle.script_session.specs.declared.logs.UnservedLog.{UnservedLog}
+use Rattle.script_session.specs.declared.logs.UnservedLog.TheVariants as unserved
 use Rattle.script_session.specs.declared.together.OfSlaves.{OfSlaves}
 use Rattle.station_threads.specs.Places.{AllPlaced}
 use Rattle.station_threads.specs.Sites.{OwnParts, AreEndsOfSites, IsEndOfTurns}
@@ -46,10 +46,10 @@ pub record BeginsWith (slave : ℕ) (half : SlaveHalf) (site : SiteValue) : Type
   pub new : site.seen.past ≡ []
 
 -- The sites hold the bytes of the line's disk, all of them synced, and each slave's EEPROM half, and have seen no call.
-pub record IsApart (whole : State) (sites : Sites) : Type 0 where
-  pub disk : sites.disk.seen.state.disk ≡ of_bytes whole.disk.bytes
+pub record IsSeparate (entire : State) (sites : Sites) : Type 0 where
+  pub disk : sites.disk.seen.state.disk ≡ of_bytes entire.disk.bytes
   pub new : sites.disk.seen.past ≡ []
-  pub slaves : AllPlaced BeginsWith 0 whole.halves sites.slaves.items
+  pub slaves : AllPlaced BeginsWith 0 entire.halves sites.slaves.items
 
 -- Each site owns its part, and the disk reaches at least to this byte of the file.
 pub record OwnUpTo (limit : ℕ) (sites : Sites) : Type 0 where
@@ -57,8 +57,8 @@ pub record OwnUpTo (limit : ℕ) (sites : Sites) : Type 0 where
   pub long : limit ≤ length sites.disk.seen.state.disk.bytes
 
 -- The line is taken apart so, each site owns its part, and the disk reaches to the end of a journal's area of this capacity.
-pub record IsServable (capacity : ℕ) (whole : State) (sites : Sites) : Type 0 where
-  pub apart : IsApart whole sites
+pub record IsServable (capacity : ℕ) (entire : State) (sites : Sites) : Type 0 where
+  pub separate : IsSeparate entire sites
   pub own : OwnUpTo (8 + capacity) sites
 
 -- These sites are in the same states, whatever devices stand behind them.
@@ -83,9 +83,9 @@ abbrev pub Soundly : {D : Type 0} → (D → Seen → Type 0) → (D → Type 0)
 Soundly follows well device seen = follows device seen × well device × (seen.is_stopped ≡ false)
 
 -- A device keeps this of a site, and this is told of it. Where it is called sound, nothing has failed that it was asked, and the site goes on.
-abbrev pub Telling : {D T : Type 0} → (D → Seen → Type 0) → (D → Type 0) → (D → T → Type 0) → PartTold T → D → Seen → Type 0
-Telling follows well tells told device seen =
-    follows device seen × tells device told.told × (IsTrue told.is_sound → well device × (seen.is_stopped ≡ false))
+abbrev pub Telling : {D T : Type 0} → (D → Seen → Type 0) → (D → Type 0) → (D → T → Type 0) → PartLog T → D → Seen → Type 0
+Telling follows well tells reported device seen =
+    follows device seen × tells device reported.reported × (IsTrue reported.is_sound → well device × (seen.is_stopped ≡ false))
 
 -- The jobs of its log led the site of a slave's end there, and a device keeps this of it.
 pub record IsWorkFollowed {D : Type 0} (follows : D → Seen → Type 0) (end : Stay SiteValue SlaveLog) : Type 0 where
@@ -93,12 +93,12 @@ pub record IsWorkFollowed {D : Type 0} (follows : D → Seen → Type 0) (end : 
   pub followed : IsFollowed follows end.site.seen
 
 -- Each of these is told of the device behind the end at its place.
-abbrev pub AreToldOf : {D T : Type 0} → (D → Seen → Type 0) → (D → Type 0) → (D → T → Type 0) → List (PartTold T)
+abbrev pub AreReportedOf : {D T : Type 0} → (D → Seen → Type 0) → (D → Type 0) → (D → T → Type 0) → List (PartLog T)
     → List (Stay SiteValue SlaveLog) → Type 0
-AreToldOf follows well tells [] [] = Unit {0}
-AreToldOf follows well tells (told ∷ rest) (end ∷ ends) =
-    IsWorkFollowed (Telling follows well tells told) end × AreToldOf follows well tells rest ends
-AreToldOf follows well tells tellings ends = ⊥
+AreReportedOf follows well tells [] [] = Unit {0}
+AreReportedOf follows well tells (reported ∷ rest) (end ∷ ends) =
+    IsWorkFollowed (Telling follows well tells reported) end × AreReportedOf follows well tells rest ends
+AreReportedOf follows well tells tellings ends = ⊥
 
 -- The log is empty, or its last action is a sync that succeeded.
 abbrev pub EndsSynced : List DiskEntry → Type 0
@@ -112,19 +112,19 @@ pub record AreFollowed {D : Type 0} (follows : D → Seen → Type 0) (ends : En
   pub workers : AllByRecursion (IsWorkFollowed follows) ends.workers.items
 
 -- This is told of the devices of a line that was served at a desk: of the line's, whose site was this before it was taken apart, and of those
--- behind the ends of the disk and of each slave.
-pub record IsDeskTold {D T : Type 0} (follows : D → Seen → Type 0) (well : D → Type 0) (tells : D → T → Type 0) (opened : Seen)
-    (told : DeskTold T) (ends : Ends SiteValue) : Type 0 where
-  pub before : IsFollowed (Telling follows well tells told.line) opened
+-- after the ends of the disk and of each slave.
+pub record IsDeskReported {D T : Type 0} (follows : D → Seen → Type 0) (well : D → Type 0) (tells : D → T → Type 0) (opened : Seen)
+    (reported : DeskLog T) (ends : Ends SiteValue) : Type 0 where
+  pub before : IsFollowed (Telling follows well tells reported.line) opened
   pub flushed : IsFlushed ends.flusher.log ends.flusher.start.seen ends.flusher.site.seen
-  pub disk : IsFollowed (Telling follows well tells told.disk) ends.flusher.site.seen
-  pub slaves : AreToldOf follows well tells told.slaves.items ends.workers.items
+  pub disk : IsFollowed (Telling follows well tells reported.disk) ends.flusher.site.seen
+  pub slaves : AreReportedOf follows well tells reported.slaves.items ends.workers.items
 
 -- The line began soundly, and each part of it ended so.
-pub record AreSound {T : Type 0} (told : DeskTold T) : Type 0 where
-  pub line : IsTrue told.line.is_sound
-  pub disk : IsTrue told.disk.is_sound
-  pub slaves : AllByRecursion (λ (part : PartTold T). IsTrue part.is_sound) told.slaves.items
+pub record AreSound {T : Type 0} (reported : DeskLog T) : Type 0 where
+  pub line : IsTrue reported.line.is_sound
+  pub disk : IsTrue reported.disk.is_sound
+  pub slaves : AllByRecursion (λ (part : PartLog T). IsTrue part.is_sound) reported.slaves.items
 
 -- this is the EEPROM half of this slave at the end of its worker
 abbrev pub EndsWith : ℕ → Stay SiteValue SlaveLog → SlaveHalf → Type 0
@@ -135,25 +135,25 @@ EndsWith slave end half = HasHalf slave half end.site
 pub record AreLeftBy {D T : Type 0} (follows : D → Seen → Type 0) (well : D → Type 0) (tells : D → T → Type 0)
     (workers : List (Stay SiteValue SlaveLog)) (left : OfSlaves T) : Type 0 where
   pub halves : IfOk left.halves (λ halves. AllPlaced EndsWith 0 workers (halves_of halves.items))
-  pub told : AreToldOf follows well tells left.told.items workers
+  pub reported : AreReportedOf follows well tells left.reported.items workers
 
 -- There is nothing in these lists yet.
 abbrev pub IsRoom : {T : Type 0} → OfSlaves T → Type 0
-IsRoom room = IfOk room.halves (λ halves. halves.items ≡ []) × (room.told.items ≡ [])
+IsRoom room = IfOk room.halves (λ halves. halves.items ≡ []) × (room.reported.items ≡ [])
 
 -- This is told of the line's device, which keeps this of the line.
-pub record IsLineTold {D T : Type 0} (follows : D → Seen → Type 0) (well : D → Type 0) (tells : D → T → Type 0) (seen : Seen)
-    (told : UnservedTold T) : Type 0 where
-  pub part : PartTold T
-  pub line : told ≡ unserved.Line part
+pub record IsLineReported {D T : Type 0} (follows : D → Seen → Type 0) (well : D → Type 0) (tells : D → T → Type 0) (seen : Seen)
+    (reported : UnservedLog T) : Type 0 where
+  pub part : PartLog T
+  pub line : reported ≡ unserved.Line part
   pub tells_it : IsFollowed (Telling follows well tells part) seen
 
 -- This is told of the devices at a desk with these ends; of the line's, what was told before.
-pub record IsDeskLeft {D T : Type 0} (follows : D → Seen → Type 0) (well : D → Type 0) (tells : D → T → Type 0) (line : PartTold T)
-    (ends : Ends SiteValue) (told : UnservedTold T) : Type 0 where
-  pub devices : DeskTold T
-  pub desk : told ≡ unserved.Desk devices
-  pub tells_them : (opened : Seen) → IsFollowed (Telling follows well tells line) opened → IsDeskTold follows well tells opened devices ends
+pub record IsDeskLeft {D T : Type 0} (follows : D → Seen → Type 0) (well : D → Type 0) (tells : D → T → Type 0) (line : PartLog T)
+    (ends : Ends SiteValue) (reported : UnservedLog T) : Type 0 where
+  pub devices : DeskLog T
+  pub desk : reported ≡ unserved.Desk devices
+  pub tells_them : (opened : Seen) → IsFollowed (Telling follows well tells line) opened → IsDeskReported follows well tells opened devices ends
 
 -- The site's disk has the bytes that the flusher left, all of them synced, and each slave's EEPROM half is as its worker left it. It has seen no
 -- call.

@@ -23,13 +23,13 @@ abbrev pub MayFail : Known → Known → Fault → Type 0
 MayFail old new fault = (new ≡ old) ⊎ IsOfStream fault
 
 -- A device has kept of its site what it keeps, nothing has failed that it was asked, the site goes on, and this is told of the device.
-abbrev pub KeepsTold : {D T : Type 0} → (D → Seen → Type 0) → (D → Type 0) → (D → T → Type 0) → T → D → Seen → Type 0
-KeepsTold follows well tells told device seen = Soundly follows well device seen × tells device told
+abbrev pub KeepsReported : {D T : Type 0} → (D → Seen → Type 0) → (D → Type 0) → (D → T → Type 0) → T → D → Seen → Type 0
+KeepsReported follows well tells reported device seen = Soundly follows well device seen × tells device reported
 
 -- This is told of a device that has followed this site at its end, and it has a half for each of so many slaves.
-pub record IsToldLine {D T : Type 0} (follows : D → Seen → Type 0) (well : D → Type 0) (tells : D → T → Type 0) (told : T) (slaves : ℕ)
+pub record IsReportedLine {D T : Type 0} (follows : D → Seen → Type 0) (well : D → Type 0) (tells : D → T → Type 0) (reported : T) (slaves : ℕ)
     (last : Seen) : Type 0 where
-  pub ends : IsFollowed (KeepsTold follows well tells told) last
+  pub ends : IsFollowed (KeepsReported follows well tells reported) last
   pub count : slaves ≡ length last.state.halves
 
 -- The files hold the state of this station after some of the commands were accepted and served: all of them if the status is `Done`.
@@ -43,24 +43,24 @@ pub record SavesServed (files : Known) (line : LineFile) (opened : Station) (com
   pub held : HoldsSite files line s.seen.state
 
 -- The files hold the state of this recovered station. If no command had been submitted at the desk, the commands are served on it first.
-abbrev pub HoldsBehind : (is_driven : Bool) → Known → LineFile → Station → List Command → ExitStatus → Type 0
-HoldsBehind true files line r commands status = HoldsSite files line r.seen.state
-HoldsBehind false files line r commands status = SavesServed files line r commands status
+abbrev pub HoldsAfter : (is_driven : Bool) → Known → LineFile → Station → List Command → ExitStatus → Type 0
+HoldsAfter true files line r commands status = HoldsSite files line r.seen.state
+HoldsAfter false files line r commands status = SavesServed files line r commands status
 
 -- The site was recovered after the desk was closed, and the files hold its result.
-pub record SavesBehind (files : Known) (line : LineFile) (before : Seen) (is_driven : Bool) (commands : List Command)
+pub record SavesAfter (files : Known) (line : LineFile) (before : Seen) (is_driven : Bool) (commands : List Command)
     (status : ExitStatus) : Type 0 where
   pub r : Station
   pub recovered : HasRecovered r
   pub begins : BeginsRecovered before r
-  pub holds : HoldsBehind is_driven files line r commands status
+  pub holds : HoldsAfter is_driven files line r commands status
 
 -- No fault was told of the work at the desk, which was closed, and the files hold the line after it, with the commands that were not
 -- submitted there.
 pub record SavesLeft {T : Type 0} (files : Known) (line : LineFile) (left : Left SiteValue T) (status : ExitStatus) : Type 0 where
   pub worst : status ≡ Done → left.ending.status ≡ Done
-  pub told : left.ending.told ≡ Ok tt
-  pub behind : SavesBehind files line left.site.seen left.ending.is_driven left.unserved.items status
+  pub reported : left.ending.reported ≡ Ok tt
+  pub after : SavesAfter files line left.site.seen left.ending.is_driven left.unserved.items status
 
 -- The line of this station was taken apart, served by threads at a desk, put together again and recovered, and the files hold the result.
 -- The desk was closed with some of the commands accepted: all of them if the status is `Done`.
@@ -70,7 +70,7 @@ pub record SavesAtDesk (files : Known) (line : LineFile) (opened : Station) (com
   pub worst : status ≡ Done → answers ≡ Done
   pub site : SiteValue
   pub served : IsServedAtDesk opened commands is_driven answers (Ok tt) site
-  pub behind : SavesBehind files line site.seen is_driven commands status
+  pub after : SavesAfter files line site.seen is_driven commands status
 
 -- A run with a planned power cut is served on one thread, any other by threads.
 abbrev pub Serves : (is_cut : Bool) → Known → LineFile → Station → List Command → ExitStatus → Type 0

@@ -3,7 +3,7 @@
 use std::marker::Brand;
 
 /// A type that names, for contracts alone, the commands that are submitted at a desk.
-pub trait Asked {
+pub trait NamesCommands {
     ghost use Rattle.std.specs.Prelude.{List};
     ghost use Rattle.sii_edit.specs.declared.command.Command.{Command};
 
@@ -11,7 +11,7 @@ pub trait Asked {
     ghost commands: { List Command };
 }
 
-impl Asked for Brand {
+impl NamesCommands for Brand {
     ghost use Rattle.std.specs.Prelude.{[]};
 
     ghost commands = { [] };

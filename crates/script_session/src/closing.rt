@@ -6,7 +6,7 @@ ghost use Rattle.station_files.specs.Faults.{IsOfStream};
 ghost use Rattle.script_session.specs.Asking.{fault_of, receipts_of};
 ghost use Rattle.script_session.specs.AtDesk.{Closes, EndsSo, IsStopped, TellsWhy};
 
-use crate::asked::Asked;
+use crate::asked::NamesCommands;
 use crate::submitter::Submitter;
 use sii_edit::Command;
 use site_core::Site;
@@ -30,7 +30,7 @@ pub struct Ending {
     pub closed: Result<(), CloseFault>,
     /// The fault that the user is told of, if there is one. The desk can be closed all the same: where an answer or the totals couldn't be
     /// printed, or memory for a receipt was refused.
-    pub told: Result<(), Fault>,
+    pub reported: Result<(), Fault>,
 }
 
 /// What a closed desk leaves: the ends of its threads, how the work ended, and the commands where they were not submitted.
@@ -44,7 +44,7 @@ pub(crate) struct AtDesk<S: Site> {
 
 /// Closes the desk with the submitter's share and receipts and the ends of the threads. Prints the totals if the commands were submitted.
 /// `room` is an empty list with room for the share.
-pub(crate) fn hand_in<T: Tickets, R: Refusals, C: Asked, O: Write, D: Device + Drop>(
+pub(crate) fn hand_in<T: Tickets, R: Refusals, C: NamesCommands, O: Write, D: Device + Drop>(
     desk: Desk<T, R>,
     submitter: Submitter<'_, T, R, C, O>,
     room: Vec<Share<T, R>>,
@@ -73,7 +73,7 @@ pub(crate) fn hand_in<T: Tickets, R: Refusals, C: Asked, O: Write, D: Device + D
         is_driven,
         status,
         closed,
-        told: told_of(asked, ended),
+        reported: reported_of(asked, ended),
     };
     AtDesk {
         ends,
@@ -98,7 +98,7 @@ fn received(
 }
 
 /// What the user is told, from the result of the submitter and that of closing the desk.
-fn told_of(asked: Result<(), Fault>, ended: Result<(), Fault>) -> Result<(), Fault>
+fn reported_of(asked: Result<(), Fault>, ended: Result<(), Fault>) -> Result<(), Fault>
     ensures good { OnOk result ((asked ≡ Ok tt) × (ended ≡ Ok tt)) }
     ensures fault { IfErr result (λ fault. IsOfStream fault ⊎ (ended ≡ Err fault) ⊎ ((asked ≡ Err fault) × (ended ≡ Ok tt))) }
 {
@@ -124,7 +124,7 @@ fn first_of(fault: Fault, ended: Result<(), Fault>) -> Fault
 }
 
 /// What closing a desk returns: the ends, why the desk isn't closed, and the fault that the user is told of.
-pub(crate) type Told<D> = (
+pub(crate) type Logged<D> = (
     Ends<ShadowSite<D>>,
     Result<(), CloseFault>,
     Result<(), Fault>,
@@ -138,10 +138,10 @@ pub(crate) fn close_desk<T: Tickets, R: Refusals, O: Write, D: Device + Drop>(
     ends: Ends<ShadowSite<D>>,
     has_totals: bool,
     output: &mut O,
-) -> Told<D>
+) -> Logged<D>
     ensures ends { result.0 ≡ ends }
     ensures closes { MatchResult result.1 (λ done. Closes T.opened shares.items receipts.items ends) (λ why. IsStopped T.opened why result.2 ends) }
-    ensures told { OnOk result.2 (result.1 ≡ Ok tt) }
+    ensures reported { OnOk result.2 (result.1 ≡ Ok tt) }
     ensures printed { OnOk result.1 (IfErr result.2 IsOfStream) }
 {
     match close(desk, shares, receipts, ends) {
@@ -155,7 +155,7 @@ fn tell_closed<T: Tickets, R: Refusals, O: Write, D: Device + Drop>(
     closed: Closed<T, R, ShadowSite<D>>,
     has_totals: bool,
     output: &mut O,
-) -> Told<D>
+) -> Logged<D>
     ensures ends { (result.0 ≡ closed.ends) × (result.1 ≡ Ok tt) }
     ensures printed { IfErr result.2 IsOfStream }
     ensures answered { AreAnswered T.opened closed.book.calls }
@@ -171,7 +171,7 @@ fn tell_open<T: Tickets, R: Refusals, O: Write, D: Device + Drop>(
     left: NotClosed<T, R, ShadowSite<D>>,
     has_totals: bool,
     output: &mut O,
-) -> Told<D>
+) -> Logged<D>
     ensures ends { (result.0 ≡ left.ends) × (result.1 ≡ Err left.fault) }
     ensures fault { MatchResult result.2 (λ done. ⊥) (TellsWhy (replayed T.opened left.book.calls)) }
     ensures answered { AreAnswered T.opened left.book.calls }

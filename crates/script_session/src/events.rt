@@ -22,7 +22,7 @@ pub(crate) fn tell_events<T: Tickets, R: Refusals, O: Write, W: Wait>(
 ) -> Result<(), Fault>
     ensures { IfErr result IsOfStream }
 {
-    let mut told = Status {
+    let mut reported = Status {
         accepted: 0,
         durable: 0,
         settled: 0,
@@ -30,13 +30,13 @@ pub(crate) fn tell_events<T: Tickets, R: Refusals, O: Write, W: Wait>(
     };
     let mut status = desk.status(rt);
     for _change in rt.forever() {
-        tell_change(&told, &status, output)?;
+        tell_change(&reported, &status, output)?;
         if status.settled >= status.accepted {
             return Ok(());
         }
-        told = status;
-        status = desk.changed(rt, &told);
-        if status == told {
+        reported = status;
+        status = desk.changed(rt, &reported);
+        if status == reported {
             return Ok(());
         }
     }
@@ -44,13 +44,13 @@ pub(crate) fn tell_events<T: Tickets, R: Refusals, O: Write, W: Wait>(
 }
 
 /// Prints what is durable and settled by now and wasn't before.
-fn tell_change<O: Write>(told: &Status, status: &Status, output: &mut O) -> Result<(), Fault>
+fn tell_change<O: Write>(reported: &Status, status: &Status, output: &mut O) -> Result<(), Fault>
     ensures { IfErr result IsOfStream }
 {
-    if status.durable > told.durable {
+    if status.durable > reported.durable {
         writeln!(output, "event durable {}", status.durable)?;
     }
-    if status.settled > told.settled {
+    if status.settled > reported.settled {
         writeln!(output, "event settled {}", status.settled)?;
     }
     output.flush()?;

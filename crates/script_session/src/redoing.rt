@@ -2,7 +2,7 @@
 
 ghost use Rattle.std.specs.Prelude.{◌≡◌, ◌≤◌, ◌+◌, ◌∷◌, [], vec_capacity, IfErr, IfOk};
 ghost use Rattle.script_session.specs.Asking.{no_counts};
-ghost use Rattle.script_session.specs.AtDesk.{Closes, IsServedTold, OpensDesk};
+ghost use Rattle.script_session.specs.AtDesk.{Closes, IsServedReported, OpensDesk};
 ghost use Rattle.script_session.specs.Parts.{AreEndsOfParts, IsLineOf, OwnUpTo};
 ghost use Rattle.script_session.specs.Redoing.{
   IsCount,
@@ -15,10 +15,10 @@ ghost use Rattle.script_session.specs.Redoing.{
 };
 
 use crate::closing::close_desk;
-use crate::soundness::{disk_is_synced, judge_ends};
+use crate::logs::DeskLog;
+use crate::soundness::{disk_is_synced, validate_ends};
 use crate::threads::{Opened, Opening, Prepared, open_desk, prepare, serve_sites};
 use crate::together::put_together;
-use crate::told::DeskTold;
 use book_model::RomNext;
 use site_core::Site;
 use site_shadow::{Device, Lends, ShadowSite};
@@ -38,7 +38,7 @@ pub struct Redone<S, T> {
     /// The line, put together again.
     pub site: S,
     /// What is told of the devices of the line and its parts.
-    pub told: DeskTold<T>,
+    pub reported: DeskLog<T>,
     /// Number of issues: words sent to slaves, each counted as often as it was sent. `u64::MAX` where there were more.
     pub words: u64,
 }
@@ -55,26 +55,26 @@ impl<T: Tickets, R: Refusals> Client<T, R> for NoCommand {
 /// printed, and no process data are exchanged. If a thread can't be started, its part is done on this one. The station must just have been opened on
 /// its site.
 ///
-/// A power cut behind it leaves only what is kept for each machine that the book was to its callers, if so it was before.
+/// A power cut after it leaves only what is kept for each machine that the book was to its callers, if so it was before.
 ///
 /// # Errors
 ///
 /// `Unserved` where the station's site can't be taken apart, what is put together in the end isn't a line with its disk and `slaves`
-/// slaves; `Memory`; the fault that has closed the book; or that of `judge_ends`. The site is dropped.
+/// slaves; `Memory`; the fault that has closed the book; or that of `validate_ends`. The site is dropped.
 pub fn redo_by_threads<D: Lends + Send, W: Wait + Threads + Sync>(
     rt: &W,
     alloc: Global,
     alone: Alone<ShadowSite<D>>,
     slaves: usize,
-) -> Result<Redone<ShadowSite<D>, D::Told>, Fault>
+) -> Result<Redone<ShadowSite<D>, D::Logged>, Fault>
     requires { IsOpenedHere alone }
     ensures line { IfOk result (λ redone. IsLineOf slaves redone.site.line) }
     ensures redone { IfOk result (λ redone. IsRedone alone redone.words redone.site) }
-    ensures told { IfOk result (λ redone. IsServedTold D.follows D.well D.tells alone redone.told redone.site) }
+    ensures reported { IfOk result (λ redone. IsServedReported D.follows D.well D.tells alone redone.reported redone.site) }
 {
     let capacity = alone.core().capacity();
     let (core, site) = alone.into_parts();
-    let Prepared { sites, whole } = match prepare(alloc, site, capacity, false) {
+    let Prepared { sites, entire } = match prepare(alloc, site, capacity, false) {
         Ok(prepared) => prepared,
         Err(why) => {
             drop(core);
@@ -84,14 +84,18 @@ pub fn redo_by_threads<D: Lends + Send, W: Wait + Threads + Sync>(
     let ends = redo_at_desk::<Brand, Brand, D, W>(rt, alloc, Opening::of(core), sites)?;
     let words = issues_of(ends.workers.as_slice());
     let is_synced = disk_is_synced(&ends);
-    let (put, told) = put_together(alloc, whole, slaves, ends);
+    let (put, reported) = put_together(alloc, entire, slaves, ends);
     let site = put?;
-    let sound = judge_ends(&told, is_synced);
+    let sound = validate_ends(&reported, is_synced);
     match sound {
-        Ok(()) => Ok(Redone { site, told, words }),
+        Ok(()) => Ok(Redone {
+            site,
+            reported,
+            words,
+        }),
         Err(fault) => {
             drop(site);
-            drop(told);
+            drop(reported);
             Err(fault)
         }
     }
@@ -172,7 +176,7 @@ fn close_redone<T: Tickets, R: Refusals, D: Device + Drop>(
     ensures stopped { IfErr result (StopsRedoing T.opened) }
 {
     let mut nowhere = sink();
-    let (ends, _closed, told) = close_desk(
+    let (ends, _closed, reported) = close_desk(
         desk,
         shares,
         Vec::new(alloc),
@@ -180,7 +184,7 @@ fn close_redone<T: Tickets, R: Refusals, D: Device + Drop>(
         false,
         &mut nowhere,
     );
-    match told {
+    match reported {
         Ok(()) => Ok(ends),
         Err(fault) => {
             drop(ends);

@@ -6,7 +6,7 @@ ghost use Rattle.book_model.specs.declared.next.DiskNext.TheVariants as next;
 ghost use Rattle.script_session.specs.Parts.{AreSound, EndsSynced, Soundly};
 ghost use Rattle.station_line.specs.Site.{IsFollowed};
 
-use crate::told::{DeskTold, PartTold};
+use crate::logs::{DeskLog, PartLog};
 use book_model::DiskNext;
 use site_core::Site;
 use site_shadow::{Device, ShadowSite};
@@ -31,10 +31,13 @@ pub fn is_sound<D: Device>(site: &ShadowSite<D>) -> bool
 ///
 /// `Unserved` where a site has stopped, or something has failed that a device was asked; else `Memory` where the disk's log doesn't end with a
 /// sync, since its jobs stopped for want of memory.
-pub(crate) fn judge_ends<T>(told: &DeskTold<T>, is_synced: bool) -> Result<(), Fault>
-    ensures { OnOk result (AreSound told.now × IsTrue is_synced) }
+pub(crate) fn validate_ends<T>(reported: &DeskLog<T>, is_synced: bool) -> Result<(), Fault>
+    ensures { OnOk result (AreSound reported.now × IsTrue is_synced) }
 {
-    if !told.line.is_sound || !told.disk.is_sound || !are_sound(told.slaves.as_slice()) {
+    if !reported.line.is_sound
+        || !reported.disk.is_sound
+        || !are_sound(reported.slaves.as_slice())
+    {
         return Err(Fault::Unserved);
     }
     if is_synced {
@@ -45,7 +48,7 @@ pub(crate) fn judge_ends<T>(told: &DeskTold<T>, is_synced: bool) -> Result<(), F
 }
 
 /// Whether all these parts ended soundly.
-fn are_sound<T>(parts: &[PartTold<T>]) -> bool
+fn are_sound<T>(parts: &[PartLog<T>]) -> bool
     ensures { IsTrue result → AllByRecursion (λ part. IsTrue part.is_sound) parts.now }
 {
     for place in 0..parts.len() {

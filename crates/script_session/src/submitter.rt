@@ -2,7 +2,7 @@
 
 ghost use Rattle.std.specs.Prelude.{◌≡◌, None};
 
-use crate::asked::Asked;
+use crate::asked::NamesCommands;
 use crate::submitting::submit_and_wait;
 use crate::work::Work;
 use sii_edit::Command;
@@ -18,7 +18,7 @@ use std::thread::Threads;
 /// A client that submits the commands of the type `C` once. Contracts see the counts of its share, the highest status of the answers, and
 /// its result, once it has submitted.
 #[derive(Drop)]
-pub(crate) struct Submitter<'o, T: Tickets, R: Refusals, C: Asked, O: Write> {
+pub(crate) struct Submitter<'o, T: Tickets, R: Refusals, C: NamesCommands, O: Write> {
     pub(crate) alloc: Global,
     /// The commands; none once they are submitted.
     pub(crate) commands: Vec<Command>,
@@ -31,7 +31,7 @@ pub(crate) struct Submitter<'o, T: Tickets, R: Refusals, C: Asked, O: Write> {
     pub(crate) of: PhantomData<C>,
 }
 
-impl<'o, T: Tickets, R: Refusals, C: Asked, O: Write> Model for Submitter<'o, T, R, C, O> {
+impl<'o, T: Tickets, R: Refusals, C: NamesCommands, O: Write> Model for Submitter<'o, T, R, C, O> {
     ghost use Rattle.std.specs.Prelude.{◌≡◌, false, is_some};
     ghost use Rattle.script_session.specs.Asking.{ComesTo, Submission};
 
@@ -42,7 +42,8 @@ impl<'o, T: Tickets, R: Refusals, C: Asked, O: Write> Model for Submitter<'o, T,
     ghost invariant = { λ s. (is_some s.came ≡ false → s.commands.items ≡ C.commands) × ComesTo C.commands s.status s.share s.came };
 }
 
-impl<'o, T: Tickets, R: Refusals, C: Asked, O: Write> Client<T, R> for Submitter<'o, T, R, C, O> {
+impl<'o, T: Tickets, R: Refusals, C: NamesCommands, O: Write> Client<T, R>
+    for Submitter<'o, T, R, C, O> {
     fn drive<W: Wait + Threads + Sync>(&mut self, rt: &W, desk: &Desk<T, R>) {
         if self.came.is_some() {
             return;

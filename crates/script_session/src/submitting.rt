@@ -47,7 +47,7 @@ fn ask<T: Tickets, R: Refusals, W: Wait>(
                     drop(command);
                     return Err(refusal);
                 }
-                seen = Some(status_behind(rt, desk, seen));
+                seen = Some(status_after(rt, desk, seen));
                 if desk.is_out_of_memory(rt) {
                     drop(command);
                     return Err(NO_MEMORY);
@@ -60,7 +60,7 @@ fn ask<T: Tickets, R: Refusals, W: Wait>(
 }
 
 /// The desk's status, once it differs from the one that was seen before, if one was.
-fn status_behind<T: Tickets, R: Refusals, W: Wait>(
+fn status_after<T: Tickets, R: Refusals, W: Wait>(
     rt: &W,
     desk: &Desk<T, R>,
     seen: Option<Status>,

@@ -4,17 +4,17 @@ ghost use Rattle.std.specs.Prelude.{◌≡◌, ◌+◌, ◌≤◌, [], true, fal
 ghost use Rattle.site_core.specs.State.{Seen, State};
 ghost use Rattle.site_shadow.specs.Line.{halves_of};
 ghost use Rattle.script_session.specs.Asking.{no_counts};
-ghost use Rattle.script_session.specs.AtDesk.{IsUnservedTold, LeavesSo, OpensDesk, ServesFollowed, ServesSites};
-ghost use Rattle.script_session.specs.declared.told.UnservedTold.TheVariants as unserved;
+ghost use Rattle.script_session.specs.AtDesk.{IsUnservedReported, LeavesSo, OpensDesk, ServesFollowed, ServesSites};
+ghost use Rattle.script_session.specs.declared.logs.UnservedLog.TheVariants as unserved;
 ghost use Rattle.script_session.specs.Parts.{
   AreEndsOfParts,
   AreFollowed,
   AreSound,
   EndsSynced,
   IsDeskLeft,
-  IsDeskTold,
+  IsDeskReported,
   IsLineOf,
-  IsLineTold,
+  IsLineReported,
   IsRoom,
   IsServable,
   IsTogether,
@@ -23,13 +23,13 @@ ghost use Rattle.script_session.specs.Parts.{
 };
 ghost use Rattle.station_line.specs.Site.{IsFollowed};
 
-use crate::apart::{InMemory, lent_sites, servable_sites};
-use crate::asked::Asked;
+use crate::asked::NamesCommands;
 use crate::closing::{AtDesk, Ending, hand_in};
-use crate::soundness::{disk_is_synced, judge_ends};
+use crate::logs::{DeskLog, PartLog, UnservedLog, reported_by};
+use crate::separate::{InMemory, lent_sites, servable_sites};
+use crate::soundness::{disk_is_synced, validate_ends};
 use crate::submitter::Submitter;
-use crate::together::{OfSlaves, Whole, put_together, told_unserved};
-use crate::told::{DeskTold, PartTold, UnservedTold, told_by};
+use crate::together::{Complete, OfSlaves, put_together, reported_unserved};
 use crate::work::{Task, Work};
 use book_core::Core;
 use sii_edit::Command;
@@ -61,7 +61,7 @@ pub struct Left<S, T> {
     /// stopped for want of memory.
     pub sound: Result<(), Fault>,
     /// What is told of the devices of the line and its parts.
-    pub told: DeskTold<T>,
+    pub reported: DeskLog<T>,
 }
 
 /// Why a line was not served, or not put together again behind that. `T` is what its devices tell.
@@ -70,27 +70,27 @@ pub struct NotServed<T> {
     /// The fault.
     pub fault: Fault,
     /// What is told of the devices.
-    pub told: UnservedTold<T>,
+    pub reported: UnservedLog<T>,
 }
 
 impl<T> NotServed<T> {
     /// No part had a device yet, and this is told of the line's.
-    pub(crate) fn unbegun(fault: Fault, told: PartTold<T>) -> NotServed<T>
-        ensures { result.told ≡ unserved.Line told }
+    pub(crate) fn unbegun(fault: Fault, reported: PartLog<T>) -> NotServed<T>
+        ensures { result.reported ≡ unserved.Line reported }
     {
         NotServed {
             fault,
-            told: UnservedTold::Line(told),
+            reported: UnservedLog::Line(reported),
         }
     }
 
     /// Memory was refused for a desk, and this is told of the devices of the parts, which none has served.
-    pub(crate) fn apart(told: DeskTold<T>) -> NotServed<T>
-        ensures { result.told ≡ unserved.Apart told }
+    pub(crate) fn separate(reported: DeskLog<T>) -> NotServed<T>
+        ensures { result.reported ≡ unserved.Separate reported }
     {
         NotServed {
             fault: Fault::Memory,
-            told: UnservedTold::Apart(told),
+            reported: UnservedLog::Separate(reported),
         }
     }
 }
@@ -113,13 +113,13 @@ pub fn serve_by_threads<D: Lends + Send, O: Write, W: Wait + Threads + Sync>(
     slaves: usize,
     work: Work,
     output: &mut O,
-) -> Result<Left<ShadowSite<D>, D::Told>, NotServed<D::Told>>
+) -> Result<Left<ShadowSite<D>, D::Logged>, NotServed<D::Logged>>
     requires { alone.book.accepted ≡ [] }
     ensures line { IfOk result (λ left. IsLineOf slaves left.site.line) }
     ensures left { IfOk result (λ left. LeavesSo alone work.commands.items left.ending left.site) }
     ensures parts { IfOk result (λ left. ServesFollowed D.follows D.well D.tells true alone work.commands.items left) }
     ensures before { IsFollowed D.follows alone.seen }
-    ensures failed { IfErr result (λ why. IsUnservedTold D.follows D.well D.tells alone work.commands.items why.told) }
+    ensures failed { IfErr result (λ why. IsUnservedReported D.follows D.well D.tells alone work.commands.items why.reported) }
     ensures unserved { IfOk result (λ left. left.ending.is_driven ≡ false → left.unserved.items ≡ work.commands.items) }
 {
     let task = Task { work, turns: true };
@@ -138,18 +138,18 @@ pub fn serve_task<D: Lends + Send, O: Write, W: Wait + Threads + Sync>(
     slaves: usize,
     task: Task,
     output: &mut O,
-) -> Result<Left<ShadowSite<D>, D::Told>, NotServed<D::Told>>
+) -> Result<Left<ShadowSite<D>, D::Logged>, NotServed<D::Logged>>
     requires { alone.book.accepted ≡ [] }
     ensures line { IfOk result (λ left. IsLineOf slaves left.site.line) }
     ensures left { IfOk result (λ left. LeavesSo alone task.work.commands.items left.ending left.site) }
     ensures parts { IfOk result (λ left. ServesFollowed D.follows D.well D.tells task.turns alone task.work.commands.items left) }
     ensures before { IsFollowed D.follows alone.seen }
-    ensures failed { IfErr result (λ why. IsUnservedTold D.follows D.well D.tells alone task.work.commands.items why.told) }
+    ensures failed { IfErr result (λ why. IsUnservedReported D.follows D.well D.tells alone task.work.commands.items why.reported) }
     ensures unserved { IfOk result (λ left. left.ending.is_driven ≡ false → left.unserved.items ≡ task.work.commands.items) }
 {
     let Task { work, turns } = task;
     let (core, site) = alone.into_parts();
-    let Prepared { sites, whole } = match prepare(alloc, site, core.capacity(), turns) {
+    let Prepared { sites, entire } = match prepare(alloc, site, core.capacity(), turns) {
         Ok(prepared) => prepared,
         Err(why) => {
             drop(core);
@@ -159,8 +159,8 @@ pub fn serve_task<D: Lends + Send, O: Write, W: Wait + Threads + Sync>(
     };
     let opening = Opening::of(core);
     match serve_at_desk::<Brand, Brand, Brand, D, O, W>(rt, alloc, opening, sites, work, output) {
-        Ok(at) => put_back(alloc, whole, slaves, at),
-        Err(sites) => Err(NotServed::apart(told_unserved(whole, sites))),
+        Ok(at) => put_back(alloc, entire, slaves, at),
+        Err(sites) => Err(NotServed::separate(reported_unserved(entire, sites))),
     }
 }
 
@@ -168,12 +168,12 @@ pub fn serve_task<D: Lends + Send, O: Write, W: Wait + Threads + Sync>(
 #[derive(Drop)]
 pub(crate) struct Prepared<D: Device, T> {
     pub(crate) sites: Sites<ShadowSite<D>>,
-    pub(crate) whole: Whole<D, T>,
+    pub(crate) entire: Complete<D, T>,
 }
 
 /// A line taken apart in memory, whose device has lent no part one yet.
 #[derive(Drop)]
-struct Apart<D: Device, T> {
+struct Separate<D: Device, T> {
     sites: Sites<InMemory>,
     /// An empty list with room for the sites of the slaves, each with its device.
     lent: Vec<ShadowSite<D>>,
@@ -188,16 +188,16 @@ fn taken_apart<D: Device + Drop, T: Drop>(
     line: Parts,
     capacity: u32,
     turns: bool,
-) -> Result<Apart<D, T>, Fault>
-    ensures turning { IfOk result (λ apart. is_some apart.sites.cycle ≡ turns) }
+) -> Result<Separate<D, T>, Fault>
+    ensures turning { IfOk result (λ separate. is_some separate.sites.cycle ≡ turns) }
     ensures sites { (state : State) → IfSome line.disk (λ bytes. bytes.items ≡ state.disk.bytes) → halves_of line.halves.items ≡ state.halves
-        → IfOk result (λ apart. IsServable capacity state apart.sites) }
-    ensures lent { IfOk result (λ apart. (apart.lent.items ≡ []) × (length apart.sites.slaves.items ≤ vec_capacity apart.lent)) }
-    ensures room { IfOk result (λ apart. IsRoom apart.room × (length apart.sites.slaves.items ≤ vec_capacity apart.room.told)) }
+        → IfOk result (λ separate. IsServable capacity state separate.sites) }
+    ensures lent { IfOk result (λ separate. (separate.lent.items ≡ []) × (length separate.sites.slaves.items ≤ vec_capacity separate.lent)) }
+    ensures room { IfOk result (λ separate. IsRoom separate.room × (length separate.sites.slaves.items ≤ vec_capacity separate.room.reported)) }
 {
     let sites = servable_sites(alloc, line, capacity, turns)?;
     match room_for(alloc, sites.slaves.len()) {
-        Ok((lent, room)) => Ok(Apart { sites, lent, room }),
+        Ok((lent, room)) => Ok(Separate { sites, lent, room }),
         Err(AllocError) => {
             drop(sites);
             Err(Fault::Memory)
@@ -211,7 +211,7 @@ fn room_for<D: Device + Drop, T: Drop>(
     slaves: usize,
 ) -> Result<(Vec<ShadowSite<D>>, OfSlaves<T>), AllocError>
     ensures lent { IfOk result (λ room. (room.0.items ≡ []) × (slaves ≤ vec_capacity room.0)) }
-    ensures room { IfOk result (λ room. IsRoom room.1 × (slaves ≤ vec_capacity room.1.told)) }
+    ensures room { IfOk result (λ room. IsRoom room.1 × (slaves ≤ vec_capacity room.1.reported)) }
 {
     let lent = Vec::with_capacity(alloc, slaves)?;
     let room = OfSlaves::room(alloc, slaves)?;
@@ -230,13 +230,13 @@ pub(crate) fn prepare<D: Lends>(
     site: ShadowSite<D>,
     capacity: u32,
     turns: bool,
-) -> Result<Prepared<D, D::Told>, NotServed<D::Told>>
+) -> Result<Prepared<D, D::Logged>, NotServed<D::Logged>>
     ensures turning { IfOk result (λ prepared. is_some prepared.sites.cycle ≡ turns) }
     ensures sites { IfOk result (λ prepared. IsServable capacity site.seen.state prepared.sites) }
-    ensures room { IfOk result (λ prepared. IsRoom prepared.whole.room) }
-    ensures reserved { IfOk result (λ prepared. length prepared.sites.slaves.items ≤ vec_capacity prepared.whole.room.told) }
-    ensures told { IfOk result (λ prepared. IsFollowed (Telling D.follows D.well D.tells prepared.whole.told) site.seen) }
-    ensures failed { IfErr result (λ why. IsLineTold D.follows D.well D.tells site.seen why.told) }
+    ensures room { IfOk result (λ prepared. IsRoom prepared.entire.room) }
+    ensures reserved { IfOk result (λ prepared. length prepared.sites.slaves.items ≤ vec_capacity prepared.entire.room.reported) }
+    ensures reported { IfOk result (λ prepared. IsFollowed (Telling D.follows D.well D.tells prepared.entire.reported) site.seen) }
+    ensures failed { IfErr result (λ why. IsLineReported D.follows D.well D.tells site.seen why.reported) }
     ensures followed { IsFollowed D.follows site.seen }
     ensures count { length site.line.sizes ≡ length site.seen.state.halves }
 {
@@ -244,18 +244,22 @@ pub(crate) fn prepare<D: Lends>(
     let _slaves = site.slaves();
     let has_stopped = site.has_stopped();
     let (parts, mut device) = site.into_parts();
-    let told = told_by(&mut device, has_stopped);
+    let reported = reported_by(&mut device, has_stopped);
     match taken_apart(alloc, parts, capacity, turns) {
-        Ok(Apart { sites, lent, room }) => {
+        Ok(Separate { sites, lent, room }) => {
             let sites = lent_sites(&mut device, sites, lent);
             Ok(Prepared {
                 sites,
-                whole: Whole { device, told, room },
+                entire: Complete {
+                    device,
+                    reported,
+                    room,
+                },
             })
         }
         Err(fault) => {
             drop(device);
-            Err(NotServed::unbegun(fault, told))
+            Err(NotServed::unbegun(fault, reported))
         }
     }
 }
@@ -263,20 +267,20 @@ pub(crate) fn prepare<D: Lends>(
 /// Puts a line of `slaves` slaves together again, which a desk has served, with its device, and tells of the devices.
 fn put_back<D: Lends>(
     alloc: Global,
-    whole: Whole<D, D::Told>,
+    entire: Complete<D, D::Logged>,
     slaves: usize,
     at: AtDesk<ShadowSite<D>>,
-) -> Result<Left<ShadowSite<D>, D::Told>, NotServed<D::Told>>
-    requires room { IsRoom whole.room }
-    requires reserved { length at.ends.workers.items ≤ vec_capacity whole.room.told }
+) -> Result<Left<ShadowSite<D>, D::Logged>, NotServed<D::Logged>>
+    requires room { IsRoom entire.room }
+    requires reserved { length at.ends.workers.items ≤ vec_capacity entire.room.reported }
     ensures line { IfOk result (λ left. IsLineOf slaves left.site.line) }
     ensures left { IfOk result (λ left. IsTogether at.ends left.site × (left.ending ≡ at.ending)) }
     ensures followed { AreFollowed D.follows at.ends }
     ensures unserved { IfOk result (λ left. left.unserved ≡ at.unserved) }
-    ensures told { IfOk result (λ left. (opened : Seen) → IsFollowed (Telling D.follows D.well D.tells whole.told) opened
-        → IsDeskTold D.follows D.well D.tells opened left.told at.ends) }
-    ensures sound { IfOk result (λ left. OnOk left.sound (AreSound left.told × EndsSynced at.ends.flusher.log)) }
-    ensures failed { IfErr result (λ why. IsDeskLeft D.follows D.well D.tells whole.told at.ends why.told) }
+    ensures reported { IfOk result (λ left. (opened : Seen) → IsFollowed (Telling D.follows D.well D.tells entire.reported) opened
+        → IsDeskReported D.follows D.well D.tells opened left.reported at.ends) }
+    ensures sound { IfOk result (λ left. OnOk left.sound (AreSound left.reported × EndsSynced at.ends.flusher.log)) }
+    ensures failed { IfErr result (λ why. IsDeskLeft D.follows D.well D.tells entire.reported at.ends why.reported) }
 {
     let AtDesk {
         ends,
@@ -284,23 +288,23 @@ fn put_back<D: Lends>(
         unserved,
     } = at;
     let is_synced = disk_is_synced(&ends);
-    let (put, told) = put_together(alloc, whole, slaves, ends);
+    let (put, reported) = put_together(alloc, entire, slaves, ends);
     match put {
         Ok(site) => {
-            let sound = judge_ends(&told, is_synced);
+            let sound = validate_ends(&reported, is_synced);
             Ok(Left {
                 site,
                 unserved,
                 ending,
                 sound,
-                told,
+                reported,
             })
         }
         Err(fault) => {
             drop(unserved);
             Err(NotServed {
                 fault,
-                told: UnservedTold::Desk(told),
+                reported: UnservedLog::Desk(reported),
             })
         }
     }
@@ -312,7 +316,7 @@ fn serve_at_desk<
     'o,
     T: Tickets + Send + Sync,
     R: Refusals + Send + Sync,
-    C: Asked,
+    C: NamesCommands,
     D: Device + Drop + Send,
     O: Write,
     W: Wait + Threads + Sync,
@@ -345,7 +349,7 @@ fn serve_opened<
     'o,
     T: Tickets + Send + Sync,
     R: Refusals + Send + Sync,
-    C: Asked,
+    C: NamesCommands,
     D: Device + Drop + Send,
     O: Write,
     W: Wait + Threads + Sync,

@@ -16,7 +16,7 @@ ghost use Rattle.script_session.specs.Parts.{
   AreLeftBy,
   EndsWith,
   HasDiskOf,
-  IsDeskTold,
+  IsDeskReported,
   IsLineOf,
   IsRoom,
   IsTogether,
@@ -25,8 +25,8 @@ ghost use Rattle.script_session.specs.Parts.{
 };
 ghost use Rattle.station_line.specs.Site.{IsFollowed};
 
-use crate::apart::site_of;
-use crate::told::{DeskTold, PartTold, taken_back};
+use crate::logs::{DeskLog, PartLog, taken_back};
+use crate::separate::site_of;
 use esc_model::RomHalf;
 use esc_rom::owns_all;
 use site_core::Site;
@@ -40,20 +40,20 @@ use std::alloc::{AllocError, Global};
 #[derive(Drop)]
 pub(crate) struct OfSlaves<T> {
     pub(crate) halves: Result<Vec<Option<RomHalf>>, Fault>,
-    pub(crate) told: Vec<PartTold<T>>,
+    pub(crate) reported: Vec<PartLog<T>>,
 }
 
 impl<T> OfSlaves<T> {
     /// Empty lists, with room for this many slaves.
     pub(crate) fn room(alloc: Global, slaves: usize) -> Result<OfSlaves<T>, AllocError>
         ensures room { IfOk result IsRoom }
-        ensures reserved { IfOk result (λ room. slaves ≤ vec_capacity room.told) }
+        ensures reserved { IfOk result (λ room. slaves ≤ vec_capacity room.reported) }
     {
         let halves = Vec::with_capacity(alloc, slaves)?;
-        let told = Vec::with_capacity(alloc, slaves)?;
+        let reported = Vec::with_capacity(alloc, slaves)?;
         Ok(OfSlaves {
             halves: Ok(halves),
-            told,
+            reported,
         })
     }
 }
@@ -83,97 +83,100 @@ fn with_half(
 
 /// What is kept of a line that was taken apart, until it is put together again.
 #[derive(Drop)]
-pub(crate) struct Whole<D, T> {
+pub(crate) struct Complete<D, T> {
     /// The line's device, which has lent each part one.
     pub(crate) device: D,
     /// What was told of it before.
-    pub(crate) told: PartTold<T>,
+    pub(crate) reported: PartLog<T>,
     /// Empty lists with room for what the workers leave.
     pub(crate) room: OfSlaves<T>,
 }
 
 /// The parts of a site. The device of the line takes the site's back, and tells of it.
-fn parts_of<D: Lends>(site: ShadowSite<D>, whole: &mut D) -> (Parts, PartTold<D::Told>)
+fn parts_of<D: Lends>(site: ShadowSite<D>, entire: &mut D) -> (Parts, PartLog<D::Logged>)
     ensures disk { IfSome result.0.disk (λ bytes. bytes.items ≡ site.seen.state.disk.bytes) }
     ensures halves { halves_of result.0.halves.items ≡ site.seen.state.halves }
-    ensures told { IsFollowed (Telling D.follows D.well D.tells result.1) site.seen }
+    ensures reported { IsFollowed (Telling D.follows D.well D.tells result.1) site.seen }
 {
     let has_stopped = site.has_stopped();
     let (parts, device) = site.into_parts();
-    (parts, taken_back(whole, device, has_stopped))
+    (parts, taken_back(entire, device, has_stopped))
 }
 
 /// The parts of the site with which a thread ended. The device of the line takes the site's back, and tells of it.
 fn parts_at<D: Lends, L: Leads + Drop>(
     end: End<ShadowSite<D>, L>,
-    whole: &mut D,
-) -> (Parts, PartTold<D::Told>)
+    entire: &mut D,
+) -> (Parts, PartLog<D::Logged>)
     ensures disk { IfSome result.0.disk (λ bytes. bytes.items ≡ end.site.seen.state.disk.bytes) }
     ensures halves { halves_of result.0.halves.items ≡ end.site.seen.state.halves }
     ensures led { L.leads end.log end.start.seen end.site.seen }
-    ensures told { IsFollowed (Telling D.follows D.well D.tells result.1) end.site.seen }
+    ensures reported { IsFollowed (Telling D.follows D.well D.tells result.1) end.site.seen }
 {
     let (site, _log) = end.into_parts();
-    parts_of(site, whole)
+    parts_of(site, entire)
 }
 
 /// What is told of the device of a site that no desk has served. The device of the line takes it back.
-fn told_of<D: Lends>(site: ShadowSite<D>, whole: &mut D) -> PartTold<D::Told>
+fn reported_of<D: Lends>(site: ShadowSite<D>, entire: &mut D) -> PartLog<D::Logged>
     ensures { IsFollowed (Telling D.follows D.well D.tells result) site.seen }
 {
-    let (parts, told) = parts_of(site, whole);
+    let (parts, reported) = parts_of(site, entire);
     drop(parts);
-    told
+    reported
 }
 
 /// What is told of the devices of the slaves' sites, in order, that no desk has served. `room` is empty.
-fn told_of_slaves<D: Lends>(
+fn reported_of_slaves<D: Lends>(
     sites: Vec<ShadowSite<D>>,
-    whole: &mut D,
-    room: Vec<PartTold<D::Told>>,
-) -> Vec<PartTold<D::Told>>
+    entire: &mut D,
+    room: Vec<PartLog<D::Logged>>,
+) -> Vec<PartLog<D::Logged>>
     requires empty { room.items ≡ [] }
     requires room { length sites.items ≤ vec_capacity room }
-    ensures { AllZip (λ site told. IsFollowed (Telling D.follows D.well D.tells told) site.seen) sites.items result.items }
+    ensures { AllZip (λ site reported. IsFollowed (Telling D.follows D.well D.tells reported) site.seen) sites.items result.items }
 {
-    let mut told = room;
+    let mut reported = room;
     for site in sites {
-        told.push_reserved(told_of(site, whole));
+        reported.push_reserved(reported_of(site, entire));
     }
-    told
+    reported
 }
 
 /// What is told of the devices of a line that was taken apart into these sites, which no desk has served. The line's device takes back what it lent
 /// them.
-pub(crate) fn told_unserved<D: Lends>(
-    whole: Whole<D, D::Told>,
+pub(crate) fn reported_unserved<D: Lends>(
+    entire: Complete<D, D::Logged>,
     sites: Sites<ShadowSite<D>>,
-) -> DeskTold<D::Told>
-    requires room { IsRoom whole.room }
-    requires reserved { length sites.slaves.items ≤ vec_capacity whole.room.told }
-    ensures line { result.line ≡ whole.told }
+) -> DeskLog<D::Logged>
+    requires room { IsRoom entire.room }
+    requires reserved { length sites.slaves.items ≤ vec_capacity entire.room.reported }
+    ensures line { result.line ≡ entire.reported }
     ensures disk { IsFollowed (Telling D.follows D.well D.tells result.disk) sites.disk.seen }
-    ensures slaves { AllZip (λ site told. IsFollowed (Telling D.follows D.well D.tells told) site.seen) sites.slaves.items result.slaves.items }
+    ensures slaves { AllZip (λ site reported. IsFollowed (Telling D.follows D.well D.tells reported) site.seen) sites.slaves.items result.slaves.items }
 {
-    let Whole {
+    let Complete {
         mut device,
-        told,
+        reported,
         room,
-    } = whole;
+    } = entire;
     let PerDevice {
         disk,
         slaves,
         cycle,
     } = sites;
-    let OfSlaves { halves, told: room } = room;
+    let OfSlaves {
+        halves,
+        reported: room,
+    } = room;
     drop(halves);
     if let Some(cycle) = cycle {
-        drop(told_of(cycle, &mut device));
+        drop(reported_of(cycle, &mut device));
     }
-    DeskTold {
-        line: told,
-        disk: told_of(disk, &mut device),
-        slaves: told_of_slaves(slaves, &mut device, room),
+    DeskLog {
+        line: reported,
+        disk: reported_of(disk, &mut device),
+        slaves: reported_of_slaves(slaves, &mut device, room),
     }
 }
 
@@ -181,58 +184,61 @@ pub(crate) fn told_unserved<D: Lends>(
 fn half_at<D: Lends>(
     slave: usize,
     end: End<ShadowSite<D>, SlaveLog>,
-    whole: &mut D,
-) -> (Result<Option<RomHalf>, Fault>, PartTold<D::Told>)
+    entire: &mut D,
+) -> (Result<Option<RomHalf>, Fault>, PartLog<D::Logged>)
     ensures half { IfOk result.0 (λ half. EndsWith slave end (half_of half)) }
-    ensures told { IsWorkFollowed (Telling D.follows D.well D.tells result.1) end }
+    ensures reported { IsWorkFollowed (Telling D.follows D.well D.tells result.1) end }
     ensures followed { IsWorkFollowed D.follows end }
 {
-    let (mut parts, told) = parts_at(end, whole);
+    let (mut parts, reported) = parts_at(end, entire);
     if slave >= parts.halves.len() {
         drop(parts);
-        return (Err(Fault::Unserved), told);
+        return (Err(Fault::Unserved), reported);
     }
     let half = parts.halves.swap_remove(slave);
     drop(parts);
-    (Ok(half), told)
+    (Ok(half), reported)
 }
 
 /// The same lists with the next slave in them, as its worker left it.
 fn with_slave<D: Lends>(
-    left: OfSlaves<D::Told>,
+    left: OfSlaves<D::Logged>,
     end: End<ShadowSite<D>, SlaveLog>,
-    whole: &mut D,
-) -> OfSlaves<D::Told>
-    requires { length left.told.items < vec_capacity left.told }
+    entire: &mut D,
+) -> OfSlaves<D::Logged>
+    requires { length left.reported.items < vec_capacity left.reported }
     ensures left { (workers : List (Stay SiteValue SlaveLog)) → AreLeftBy D.follows D.well D.tells workers left
         → AreLeftBy D.follows D.well D.tells (workers ++ end ∷ []) result }
     ensures followed { IsWorkFollowed D.follows end }
-    ensures count { length result.told.items ≡ length left.told.items + 1 }
-    ensures reserved { vec_capacity result.told ≡ vec_capacity left.told }
+    ensures count { length result.reported.items ≡ length left.reported.items + 1 }
+    ensures reserved { vec_capacity result.reported ≡ vec_capacity left.reported }
 {
-    let OfSlaves { halves, mut told } = left;
-    let (half, part) = half_at(told.len(), end, whole);
-    told.push_reserved(part);
+    let OfSlaves {
+        halves,
+        mut reported,
+    } = left;
+    let (half, part) = half_at(reported.len(), end, entire);
+    reported.push_reserved(part);
     OfSlaves {
         halves: with_half(halves, half),
-        told,
+        reported,
     }
 }
 
 /// The EEPROM halves of all slaves, in order, as their workers left them, and what is told of their devices.
 fn slaves_at<D: Lends>(
-    room: OfSlaves<D::Told>,
+    room: OfSlaves<D::Logged>,
     workers: Vec<End<ShadowSite<D>, SlaveLog>>,
-    whole: &mut D,
-) -> OfSlaves<D::Told>
+    entire: &mut D,
+) -> OfSlaves<D::Logged>
     requires room { IsRoom room }
-    requires reserved { length workers.items ≤ vec_capacity room.told }
+    requires reserved { length workers.items ≤ vec_capacity room.reported }
     ensures left { AreLeftBy D.follows D.well D.tells workers.items result }
     ensures followed { AllByRecursion (IsWorkFollowed D.follows) workers.items }
 {
     let mut left = room;
     for end in workers {
-        left = with_slave(left, end, whole);
+        left = with_slave(left, end, entire);
     }
     left
 }
@@ -245,11 +251,11 @@ fn is_line_of<D: Device>(site: &ShadowSite<D>, slaves: usize) -> bool
 }
 
 /// The device of the line takes back that of the process data, if a thread exchanged them.
-fn end_cycle<D: Lends>(cycle: Option<End<ShadowSite<D>, CycleLog>>, whole: &mut D) {
+fn end_cycle<D: Lends>(cycle: Option<End<ShadowSite<D>, CycleLog>>, entire: &mut D) {
     if let Some(end) = cycle {
-        let (parts, told) = parts_at(end, whole);
+        let (parts, reported) = parts_at(end, entire);
         drop(parts);
-        drop(told);
+        drop(reported);
     }
 }
 
@@ -257,11 +263,11 @@ fn end_cycle<D: Lends>(cycle: Option<End<ShadowSite<D>, CycleLog>>, whole: &mut 
 /// and of the process data.
 fn split<D: Lends>(
     ends: Ends<ShadowSite<D>>,
-    whole: &mut D,
-) -> (Parts, PartTold<D::Told>, Vec<End<ShadowSite<D>, SlaveLog>>)
+    entire: &mut D,
+) -> (Parts, PartLog<D::Logged>, Vec<End<ShadowSite<D>, SlaveLog>>)
     ensures disk { IfSome result.0.disk (λ bytes. bytes.items ≡ ends.flusher.site.seen.state.disk.bytes) }
     ensures flushed { IsFlushed ends.flusher.log ends.flusher.start.seen ends.flusher.site.seen }
-    ensures told { IsFollowed (Telling D.follows D.well D.tells result.1) ends.flusher.site.seen }
+    ensures reported { IsFollowed (Telling D.follows D.well D.tells result.1) ends.flusher.site.seen }
     ensures workers { result.2 ≡ ends.workers }
 {
     let Ends {
@@ -269,9 +275,9 @@ fn split<D: Lends>(
         workers,
         cycle,
     } = ends;
-    end_cycle(cycle, whole);
-    let (parts, told) = parts_at(flusher, whole);
-    (parts, told, workers)
+    end_cycle(cycle, entire);
+    let (parts, reported) = parts_at(flusher, entire);
+    (parts, reported, workers)
 }
 
 /// The line with the disk of these parts and these EEPROM halves.
@@ -303,8 +309,8 @@ fn line_of<D: Device + Drop>(
 }
 
 /// The site, if it is a line of `slaves` slaves with its disk; otherwise `Unserved`.
-fn whole_line<D: Device + Drop>(site: ShadowSite<D>, slaves: usize) -> Result<ShadowSite<D>, Fault>
-    ensures { IfOk result (λ whole. (whole ≡ site) × IsLineOf slaves whole.line) }
+fn entire_line<D: Device + Drop>(site: ShadowSite<D>, slaves: usize) -> Result<ShadowSite<D>, Fault>
+    ensures { IfOk result (λ entire. (entire ≡ site) × IsLineOf slaves entire.line) }
 {
     if is_line_of(&site, slaves) {
         Ok(site)
@@ -329,7 +335,7 @@ fn joined<D: Device + Drop>(
     match halves {
         Ok(halves) => {
             let made = line_of(alloc, line, device, halves)?;
-            whole_line(made, slaves)
+            entire_line(made, slaves)
         }
         Err(fault) => {
             drop(line);
@@ -347,33 +353,33 @@ fn joined<D: Device + Drop>(
 /// `Unserved` where these are not the ends of one line of `slaves` slaves; `Memory`. What is told of the devices is told all the same.
 pub(crate) fn put_together<D: Lends>(
     alloc: Global,
-    whole: Whole<D, D::Told>,
+    entire: Complete<D, D::Logged>,
     slaves: usize,
     ends: Ends<ShadowSite<D>>,
-) -> (Result<ShadowSite<D>, Fault>, DeskTold<D::Told>)
-    requires room { IsRoom whole.room }
-    requires reserved { length ends.workers.items ≤ vec_capacity whole.room.told }
+) -> (Result<ShadowSite<D>, Fault>, DeskLog<D::Logged>)
+    requires room { IsRoom entire.room }
+    requires reserved { length ends.workers.items ≤ vec_capacity entire.room.reported }
     ensures together { IfOk result.0 (λ site. IsTogether ends site × IsLineOf slaves site.line) }
-    ensures told { (opened : Seen) → IsFollowed (Telling D.follows D.well D.tells whole.told) opened
-        → IsDeskTold D.follows D.well D.tells opened result.1 ends }
+    ensures reported { (opened : Seen) → IsFollowed (Telling D.follows D.well D.tells entire.reported) opened
+        → IsDeskReported D.follows D.well D.tells opened result.1 ends }
     ensures followed { AreFollowed D.follows ends }
 {
-    let Whole {
+    let Complete {
         mut device,
-        told,
+        reported,
         room,
-    } = whole;
+    } = entire;
     let (parts, disk, workers) = split(ends, &mut device);
     let left = slaves_at(room, workers, &mut device);
     let OfSlaves {
         halves,
-        told: of_slaves,
+        reported: of_slaves,
     } = left;
     let site = joined(alloc, parts, device, halves, slaves);
-    let told = DeskTold {
-        line: told,
+    let reported = DeskLog {
+        line: reported,
         disk,
         slaves: of_slaves,
     };
-    (site, told)
+    (site, reported)
 }

@@ -42,9 +42,9 @@ front_spelt (suc count) (low ∷ high ∷ bytes) within all =
     rw (two, first, second, rest) refl
 
 all_spelt : (bytes : List ℕ) → length bytes % 2 ≡ 0 → AreBytes bytes → bytes ≡ bytes_of (words_in bytes)
-all_spelt [] whole all = refl
-all_spelt (low ∷ []) whole all = absurd (omega arith)
-all_spelt (low ∷ high ∷ bytes) whole all =
+all_spelt [] entire all = refl
+all_spelt (low ∷ []) entire all = absurd (omega arith)
+all_spelt (low ∷ high ∷ bytes) entire all =
     let small : low < 256 = all 0 in
     let first : (low + 256 * high) % 256 ≡ low = omega arith in
     let second : (low + 256 * high) / 256 ≡ high = omega arith in
@@ -128,11 +128,11 @@ module _ (bytes : List ℕ) (read : AreWords IsImageSize bytes) (all : AreBytes 
 
     pub set_in_place : check < 256 → check ≡ check_byte_of (words_in named) → set named 14 check ≡ bytes_of (with_alias (words_in bytes) value)
     set_in_place check_fits is =
-        let whole : length (set named 14 check) % 2 ≡ 0 = omega (arith, read.0, named_long, length-set named 14 check) in
+        let entire : length (set named 14 check) % 2 ≡ 0 = omega (arith, read.0, named_long, length-set named 14 check) in
         let fit : AreBytes (set named 14 check) = bytes_with_one named 14 check (omega (arith, long, named_long)) check_fits named_bytes in
         let last : words_in (set named 14 check) ≡ set (words_in named) 7 (with_low_byte (get_or (words_in named) 7 0) check)
         = low_set 7 named check (omega (arith, long, named_long)) named_bytes in
         let seven : get_or (words_in named) 7 0 ≡ get_or (words_in bytes) 7 0
         = ap (λ (words : List ℕ). get_or words 7 0) named_words ∙ get_or-set_other (words_in bytes) 4 7 value 0 (omega arith) in
         let right : check ≡ check_byte_of (set (words_in bytes) 4 value) = is ∙ ap check_byte_of named_words in
-        all_spelt (set named 14 check) whole fit ∙ ap bytes_of (last ∙ rw (seven, named_words, ← right) refl)
+        all_spelt (set named 14 check) entire fit ∙ ap bytes_of (last ∙ rw (seven, named_words, ← right) refl)

@@ -17,16 +17,16 @@ spelt_by words bytes spelt = sym (words_in-bytes_of words) ∙ ap words_in spelt
 
 -- there are two bytes for each word
 pub length-words_in : (bytes : List ℕ) → length bytes % 2 ≡ 0 → length bytes ≡ 2 * length (words_in bytes)
-length-words_in [] whole = refl
-length-words_in (low ∷ []) whole = absurd (omega arith)
-length-words_in (low ∷ high ∷ bytes) whole =
+length-words_in [] entire = refl
+length-words_in (low ∷ []) entire = absurd (omega arith)
+length-words_in (low ∷ high ∷ bytes) entire =
     let rest : length bytes % 2 ≡ 0 = omega arith in
     let count = length-words_in bytes rest in
     omega arith
 
 -- bytes that were read are whole words
-pub read_whole : (Size : ℕ → Type 0) (words bytes : List ℕ) → bytes_of words ≡ bytes → length words ≡ length bytes / 2 → Size (length words) → AreWords Size bytes
-read_whole Size words bytes spelt count size =
+pub read_entire : (Size : ℕ → Type 0) (words bytes : List ℕ) → bytes_of words ≡ bytes → length words ≡ length bytes / 2 → Size (length words) → AreWords Size bytes
+read_entire Size words bytes spelt count size =
     let all : length bytes ≡ 2 * length words = sym (ap length spelt) ∙ length-bytes_of words in
-    let whole : length bytes % 2 ≡ 0 = omega arith in
-    (whole, subst Size count size)
+    let entire : length bytes % 2 ≡ 0 = omega arith in
+    (entire, subst Size count size)

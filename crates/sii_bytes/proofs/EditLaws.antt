@@ -43,5 +43,5 @@ edited_so plant new words runs edit bytes line is accepted spelt =
 
 pub refused_so : (plant : List (List ℕ)) (words : List ℕ) (edit : Edit) (refusal : Refusal) (code : ℕ) → plant ≡ words ∷ []
     → IsRefusalOf (outcome plant (One edit)) refusal → code ≡ code_of_cause refusal.cause → RefusesEdit words edit code
-refused_so plant words edit refusal code line (inl judged) is = cause refusal is (subst (λ (p : List (List ℕ)). outcome p (One edit) ≡ Err refusal) line judged)
+refused_so plant words edit refusal code line (inl validated) is = cause refusal is (subst (λ (p : List (List ℕ)). outcome p (One edit) ≡ Err refusal) line validated)
 refused_so plant words edit refusal code line (inr none_left) is = memory (is ∙ ap (λ (r : Refusal). code_of_cause r.cause) none_left)

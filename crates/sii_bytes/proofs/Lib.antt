@@ -1,6 +1,6 @@
 pub mod BytesLaws
 pub mod EditLaws
-pub mod Judged
+pub mod Validated
 pub mod AliasInPlace
 pub mod EditRefusals
 pub mod LineRead

@@ -1,7 +1,7 @@
 pub mod Codes
 pub mod Bytes
 pub mod Head
-pub mod Judging
+pub mod Validating
 pub mod Category
 pub mod Editing
 pub mod Line

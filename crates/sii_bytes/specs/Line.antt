@@ -16,7 +16,7 @@ pieces (count ∷ lengths) bytes = take count bytes ∷ pieces lengths (drop cou
 pub record IsLine (lengths bytes : List ℕ) : Type 0 where
   pub some : 1 ≤ length lengths
   pub most : length lengths ≤ 64
-  pub whole : sum lengths ≡ length bytes
+  pub entire : sum lengths ≡ length bytes
 
 -- The first slave that isn't read is refused with this code; those before it are devices.
 abbrev pub FirstRefused : List (List ℕ) → ℕ → Type 0

@@ -16,7 +16,7 @@ use std::alloc::Global;
 pub struct CategoryPlace {
     /// Its type.
     pub kind: u32,
-    /// The number of its type word. The content begins two words behind it.
+    /// The number of its type word. The content begins two words after it.
     pub at: u32,
     /// The number of words of its content.
     pub count: u32,

@@ -46,7 +46,7 @@ pub struct ImageSizes {
 }
 
 /// What is left of this many bytes behind pieces of these lengths, or `None` if they are longer.
-fn left_behind(bytes: usize, lengths: &[usize]) -> Option<usize>
+fn left_after(bytes: usize, lengths: &[usize]) -> Option<usize>
     ensures { MatchOption result (bytes < sum lengths.now) (λ left. left + sum lengths.now ≡ bytes) }
 {
     let mut left = bytes;
@@ -63,7 +63,7 @@ fn left_behind(bytes: usize, lengths: &[usize]) -> Option<usize>
 fn are_lengths_of(bytes: usize, lengths: &[usize]) -> bool
     ensures { IsTrue result ↔ (sum lengths.now ≡ bytes) }
 {
-    match left_behind(bytes, lengths) {
+    match left_after(bytes, lengths) {
         Some(left) => left == 0,
         None => false,
     }
@@ -78,7 +78,7 @@ fn read_each(alloc: Global, bytes: &[u8], lengths: &[usize]) -> Result<Vec<Words
     let mut slaves = Vec::new(alloc);
     let mut left = bytes;
     for count in lengths {
-        let (first, behind) = left.split_at(*count);
+        let (first, after) = left.split_at(*count);
         let words = match read_device(alloc, first) {
             Ok(words) => words,
             Err(code) => return Err(code),
@@ -87,7 +87,7 @@ fn read_each(alloc: Global, bytes: &[u8], lengths: &[usize]) -> Result<Vec<Words
             Ok(()) => {}
             Err(_) => return Err(MEMORY),
         }
-        left = behind;
+        left = after;
     }
     Ok(slaves)
 }

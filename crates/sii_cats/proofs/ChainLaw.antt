@@ -63,9 +63,9 @@ member_takes (kind ∷ count ∷ words) x rest good e =
     let made : Member = record { kind = kind; content = take count words } in
     let spelt : kind ∷ count ∷ words ≡ member_words made ++ drop count words =
     sym (ap (λ (n : ℕ). kind ∷ n ∷ (take count words ++ drop count words)) len ∙ ap (λ (t : List ℕ). kind ∷ count ∷ t) (take-append-drop count words)) in
-    let whole : kind ∷ count ∷ words ≡ member_words x ++ rest = spelt ∙ ap (λ (m : Member). member_words m ++ drop count words) i.1 ∙ ap (λ (r : List ℕ). member_words x ++ r) i.2 in
+    let entire : kind ∷ count ∷ words ≡ member_words x ++ rest = spelt ∙ ap (λ (m : Member). member_words m ++ drop count words) i.1 ∙ ap (λ (r : List ℕ). member_words x ++ r) i.2 in
     let same : kind ≡ x.kind = ap (λ (m : Member). m.kind) i.1 in
-    ((λ mark. eqb-false kind 0xFFFF w.0 (same ∙ mark), whole), tt)
+    ((λ mark. eqb-false kind 0xFFFF w.0 (same ∙ mark), entire), tt)
 
 member_again : (cells : List ℕ) (x : Member) (rest : List ℕ) → Begins cells x rest → member_at cells ≡ Item x rest
 member_again cells x rest h =

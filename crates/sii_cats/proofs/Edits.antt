@@ -52,19 +52,19 @@ stands_at at (m ∷ ms) (suc i) c e =
     let found = stands_at (at + length (member_words m)) ms i c e in
     (found.0, ap (λ (xs : List Member). m ∷ xs) found.1, omega (arith, found.2, length-append (member_words m) (chain_words (take i ms))), found.3)
 
--- the categories before and behind the place that is edited
+-- the categories before and after the place that is edited
 abbrev pub before : Option ℕ → List Member → List Member
 before None ms = ms
 before (Some i) ms = take i ms
 
-abbrev pub behind : Option ℕ → List Member → List Member
-behind None ms = []
-behind (Some i) ms = drop (suc i) ms
+abbrev pub after : Option ℕ → List Member → List Member
+after None ms = []
+after (Some i) ms = drop (suc i) ms
 
 -- What stands before and behind the gap.
 pub record IsGap (words : List ℕ) (end : ℕ) (member : Option ℕ) (ms : List Member) (gap : ℕ × ℕ) : Type 0 where
   pub front : take gap.0 words ≡ take 64 words ++ chain_words (before member ms)
-  pub kept : take (end - gap.1) (drop gap.1 words) ≡ chain_words (behind member ms)
+  pub kept : take (end - gap.1) (drop gap.1 words) ≡ chain_words (after member ms)
   pub first : gap.0 ≤ gap.1
   pub last : gap.1 ≤ end
 
@@ -96,13 +96,13 @@ gap_inside words rest end i ms c long parts e found =
     let b = chain_words (drop (suc i) ms) in
     let mw = member_words m in
     let head_len : length (take 64 words) ≡ 64 = length-take-le 64 words long in
-    let whole : chain_words ms ≡ a ++ (mw ++ b) = ap chain_words s.1 ∙ flat_map-append member_words (take i ms) (m ∷ drop (suc i) ms) in
-    let split : words ≡ head ++ ((a ++ (mw ++ b)) ++ rest) = parts ∙ ap (λ (t : List ℕ). take 64 words ++ (t ++ rest)) whole in
+    let entire : chain_words ms ≡ a ++ (mw ++ b) = ap chain_words s.1 ∙ flat_map-append member_words (take i ms) (m ∷ drop (suc i) ms) in
+    let split : words ≡ head ++ ((a ++ (mw ++ b)) ++ rest) = parts ∙ ap (λ (t : List ℕ). take 64 words ++ (t ++ rest)) entire in
     let one : words ≡ (head ++ a) ++ ((mw ++ b) ++ rest) = split ∙ regroup_first head a (mw ++ b) rest in
     let two : words ≡ ((head ++ a) ++ mw) ++ (b ++ rest) = one ∙ regroup_second (head ++ a) mw b rest in
     let len_a : length (head ++ a) ≡ c.at = omega (arith, length-append head a, head_len, s.2) in
     let len_m : length ((head ++ a) ++ mw) ≡ end_of c = omega (arith, length-append (head ++ a) mw, len_a, s.3) in
-    let len_all : length (chain_words ms) ≡ length a + (length mw + length b) = ap length whole ∙ length-append a (mw ++ b) ∙ ap (λ (n : ℕ). length a + n) (length-append mw b) in
+    let len_all : length (chain_words ms) ≡ length a + (length mw + length b) = ap length entire ∙ length-append a (mw ++ b) ∙ ap (λ (n : ℕ). length a + n) (length-append mw b) in
     let left : length b ≡ end - end_of c = omega (arith, len_all, len_m, length-append head a, length-append (head ++ a) mw, head_len, e) in
     record {
       front = ap (take c.at) one ∙ take_at (head ++ a) ((mw ++ b) ++ rest) c.at len_a;
@@ -127,7 +127,7 @@ gap_is words end member ms gap long chain e h =
 
 -- its words
 pub edited_words : (member : Option ℕ) (kind : ℕ) (content : List ℕ) (ms : List Member) → IfSome member (λ i. i < length ms) → (member ≡ None → content ≢ [])
-    → chain_words (spliced member kind content ms) ≡ (chain_words (before member ms) ++ new_words kind content) ++ chain_words (behind member ms)
+    → chain_words (spliced member kind content ms) ≡ (chain_words (before member ms) ++ new_words kind content) ++ chain_words (after member ms)
 edited_words None kind [] ms inside some = absurd (some refl refl)
 edited_words None kind (word ∷ words) ms inside some =
     let m : Member = record { kind = kind; content = word ∷ words } in
@@ -162,9 +162,9 @@ pub drop-closing : (words : List ℕ) → drop 1 (closing words) ≡ drop 1 word
 drop-closing [] = refl
 drop-closing (word ∷ words) = refl
 
-pub slice_get_behind : (front words : List ℕ) → slice_get (front ++ words) (length front) ≡ slice_get words 0
-slice_get_behind [] words = refl
-slice_get_behind (word ∷ front) words = slice_get_behind front words
+pub slice_get_after : (front words : List ℕ) → slice_get (front ++ words) (length front) ≡ slice_get words 0
+slice_get_after [] words = refl
+slice_get_after (word ∷ front) words = slice_get_after front words
 
 pub edit_is : (old new : List ℕ) (ms : List Member) → 64 ≤ length old → chain_end ms ≤ length old → AreTyped ms → new ≡ with_chain old ms → IsEdit old new ms
 edit_is old new ms long room typed made =
@@ -180,9 +180,9 @@ edit_is old new ms long room typed made =
       before = ap (take 64) regrouped ∙ take_at (take 64 old) (chain_words ms ++ closing left) 64 head;
       chain = subst (λ (cells : List ℕ). AreItems Begins IsEnd cells ms) (sym (ap (drop 64) regrouped ∙ drop_at (take 64 old) (chain_words ms ++ closing left) 64 head))
           (chain_of_parts ms (closing left) typed (closing_ends left));
-      mark = λ h. ap (slice_get new) (sym len) ∙ ap (λ (ws : List ℕ). slice_get ws (length front)) made ∙ slice_get_behind front (closing left)
+      mark = λ h. ap (slice_get new) (sym len) ∙ ap (λ (ws : List ℕ). slice_get ws (length front)) made ∙ slice_get_after front (closing left)
           ∙ closing_mark left (omega (arith, left_len, len, h));
-      behind =
+      after =
           let next : suc (chain_end ms) ≡ length front + 1 = omega (arith, len) in
           ap (λ (n : ℕ). drop n new) next ∙ sym (drop-drop 1 (length front) new) ∙ ap (drop 1) tail ∙ drop-closing left ∙ drop-drop 1 (length front) old ∙ ap (λ (n : ℕ). drop n old) (sym next);
     }
@@ -206,7 +206,7 @@ front_is words end member ms gap kind content g inside some =
     let new = new_words kind content in
     ap (λ (t : List ℕ). t ++ new ++ take (end - gap.1) (drop gap.1 words)) g.front
     ∙ ap (λ (t : List ℕ). (take 64 words ++ chain_words (before member ms)) ++ new ++ t) g.kept
-    ∙ regroup_front (take 64 words) (chain_words (before member ms)) new (chain_words (behind member ms))
+    ∙ regroup_front (take 64 words) (chain_words (before member ms)) new (chain_words (after member ms))
     ∙ ap (λ (t : List ℕ). take 64 words ++ t) (sym (edited_words member kind content ms inside some))
 
 length_front : (words : List ℕ) (ds : List Member) (front : List ℕ) → 64 ≤ length words → front ≡ take 64 words ++ chain_words ds → length front ≡ chain_end ds

@@ -14,19 +14,19 @@ use Rattle.sii_cats.proofs.Items.{Shrinks, ok_is, bind_ok, IsFront, IsReader, it
 use Rattle.sii_cats.proofs.WordBytes.{IsBytes, IsBytes-rest, number-low, number-high, number_again}
 
 manager_shorter : (cells : List ℕ) (x : Manager) (rest : List ℕ) → manager_at cells ≡ Item x rest → length rest < length cells
-manager_shorter (s0 ∷ s1 ∷ l0 ∷ l1 ∷ control ∷ status ∷ enable ∷ kind ∷ behind) x rest e =
-    let same : behind ≡ rest = cc in omega (arith, ap length same)
+manager_shorter (s0 ∷ s1 ∷ l0 ∷ l1 ∷ control ∷ status ∷ enable ∷ kind ∷ after) x rest e =
+    let same : after ≡ rest = cc in omega (arith, ap length same)
 manager_shorter short x rest e = absurd cc
 
 pub manager_shrinks : Shrinks manager_at
 manager_shrinks = record { shorter = manager_shorter }
 
--- an entry's bytes are at least as many as those behind it
+-- an entry's bytes are at least as many as those after it
 entry_shorter : (cells : List ℕ) (x : PdoEntry × List ℕ) → entry_at cells ≡ Ok x → length x.1 ≤ length cells
-entry_shorter (i0 ∷ i1 ∷ subindex ∷ name ∷ data_type ∷ bit_length ∷ f0 ∷ f1 ∷ behind) x e =
-    let made : PdoEntry × List ℕ = (record { index = number i0 i1; subindex = subindex; name = name; data_type = data_type; bit_length = bit_length; flags = number f0 f1 }, behind) in
+entry_shorter (i0 ∷ i1 ∷ subindex ∷ name ∷ data_type ∷ bit_length ∷ f0 ∷ f1 ∷ after) x e =
+    let made : PdoEntry × List ℕ = (record { index = number i0 i1; subindex = subindex; name = name; data_type = data_type; bit_length = bit_length; flags = number f0 f1 }, after) in
     let same : made ≡ x = ok_is made x e in
-    let rest : behind ≡ x.1 = ap (λ (y : PdoEntry × List ℕ). y.1) same in
+    let rest : after ≡ x.1 = ap (λ (y : PdoEntry × List ℕ). y.1) same in
     omega (arith, ap length rest)
 entry_shorter short x e = absurd cc
 
@@ -49,9 +49,9 @@ with_entries_is pdo (Ok y) x rest e = (y, refl, cc, cc)
 with_entries_is pdo (Err bad) x rest e = absurd cc
 
 pdo_shorter : (cells : List ℕ) (x : Mapping) (rest : List ℕ) → pdo_at cells ≡ Item x rest → length rest < length cells
-pdo_shorter (i0 ∷ i1 ∷ count ∷ manager ∷ synchronization ∷ name ∷ f0 ∷ f1 ∷ behind) x rest e =
-    let read = with_entries_is (λ entries. record { index = number i0 i1; entries = entries; manager = manager; synchronization = synchronization; name = name; flags = number f0 f1 }) (counted entry_at count behind) x rest e in
-    omega (arith, ap length read.3, entries_shorter count behind read.0 read.1)
+pdo_shorter (i0 ∷ i1 ∷ count ∷ manager ∷ synchronization ∷ name ∷ f0 ∷ f1 ∷ after) x rest e =
+    let read = with_entries_is (λ entries. record { index = number i0 i1; entries = entries; manager = manager; synchronization = synchronization; name = name; flags = number f0 f1 }) (counted entry_at count after) x rest e in
+    omega (arith, ap length read.3, entries_shorter count after read.0 read.1)
 pdo_shorter short x rest e = absurd cc
 
 pub pdo_shrinks : Shrinks pdo_at
@@ -60,22 +60,22 @@ pdo_shrinks = record { shorter = pdo_shorter }
 -- ---- sync managers
 
 manager_ended : (cells : List ℕ) → manager_at cells ≡ Ended → length cells < 8
-manager_ended (s0 ∷ s1 ∷ l0 ∷ l1 ∷ control ∷ status ∷ enable ∷ kind ∷ behind) e = absurd cc
+manager_ended (s0 ∷ s1 ∷ l0 ∷ l1 ∷ control ∷ status ∷ enable ∷ kind ∷ after) e = absurd cc
 manager_ended short e = omega arith
 
 pub manager_at_end : (cells : List ℕ) → length cells < 8 → manager_at cells ≡ Ended
-manager_at_end (s0 ∷ s1 ∷ l0 ∷ l1 ∷ control ∷ status ∷ enable ∷ kind ∷ behind) h = absurd (omega arith)
+manager_at_end (s0 ∷ s1 ∷ l0 ∷ l1 ∷ control ∷ status ∷ enable ∷ kind ∷ after) h = absurd (omega arith)
 manager_at_end short h = refl
 
 manager_takes : (cells : List ℕ) (x : Manager) (rest : List ℕ) → IsBytes cells → manager_at cells ≡ Item x rest → (cells ≡ manager_bytes x ++ rest) × IsBytes rest
-manager_takes (s0 ∷ s1 ∷ l0 ∷ l1 ∷ control ∷ status ∷ enable ∷ kind ∷ behind) x rest fits e =
+manager_takes (s0 ∷ s1 ∷ l0 ∷ l1 ∷ control ∷ status ∷ enable ∷ kind ∷ after) x rest fits e =
     let made : Manager = record { start = number s0 s1; length = number l0 l1; control = control; status = status; enable = enable; kind = kind } in
     let same : made ≡ x = cc in
-    let behind-is : behind ≡ rest = cc in
-    let spelt : s0 ∷ s1 ∷ l0 ∷ l1 ∷ control ∷ status ∷ enable ∷ kind ∷ behind ≡ manager_bytes made ++ behind =
+    let after-is : after ≡ rest = cc in
+    let spelt : s0 ∷ s1 ∷ l0 ∷ l1 ∷ control ∷ status ∷ enable ∷ kind ∷ after ≡ manager_bytes made ++ after =
     rw (number-low s0 s1 (fits 0), number-high s0 s1 (fits 0), number-low l0 l1 (fits 2), number-high l0 l1 (fits 2)) refl in
-    let whole : s0 ∷ s1 ∷ l0 ∷ l1 ∷ control ∷ status ∷ enable ∷ kind ∷ behind ≡ manager_bytes x ++ rest = spelt ∙ ap (λ m. manager_bytes m ++ behind) same ∙ ap (λ (r : List ℕ). manager_bytes x ++ r) behind-is in
-    (whole, IsBytes-rest (manager_bytes x) rest (subst IsBytes whole fits))
+    let entire : s0 ∷ s1 ∷ l0 ∷ l1 ∷ control ∷ status ∷ enable ∷ kind ∷ after ≡ manager_bytes x ++ rest = spelt ∙ ap (λ m. manager_bytes m ++ after) same ∙ ap (λ (r : List ℕ). manager_bytes x ++ r) after-is in
+    (entire, IsBytes-rest (manager_bytes x) rest (subst IsBytes entire fits))
 manager_takes short x rest fits e = absurd cc
 
 manager_numbers : (x : Manager) → record { start = number (x.start % 256) (x.start / 256); length = number (x.length % 256) (x.length / 256); control = x.control; status = x.status; enable = x.enable; kind = x.kind } ≡ x
@@ -90,12 +90,12 @@ manager_front = record { ended = manager_ended; at_end = manager_at_end; takes =
 -- ---- PDOs
 
 entry_takes : (cells : List ℕ) (x : PdoEntry × List ℕ) → IsBytes cells → entry_at cells ≡ Ok x → (cells ≡ entry_bytes x.0 ++ x.1) × IsBytes x.1
-entry_takes (i0 ∷ i1 ∷ subindex ∷ name ∷ data_type ∷ bit_length ∷ f0 ∷ f1 ∷ behind) x fits e =
+entry_takes (i0 ∷ i1 ∷ subindex ∷ name ∷ data_type ∷ bit_length ∷ f0 ∷ f1 ∷ after) x fits e =
     let made : PdoEntry = record { index = number i0 i1; subindex = subindex; name = name; data_type = data_type; bit_length = bit_length; flags = number f0 f1 } in
-    let spelt : i0 ∷ i1 ∷ subindex ∷ name ∷ data_type ∷ bit_length ∷ f0 ∷ f1 ∷ behind ≡ entry_bytes made ++ behind =
+    let spelt : i0 ∷ i1 ∷ subindex ∷ name ∷ data_type ∷ bit_length ∷ f0 ∷ f1 ∷ after ≡ entry_bytes made ++ after =
     rw (number-low i0 i1 (fits 0), number-high i0 i1 (fits 0), number-low f0 f1 (fits 6), number-high f0 f1 (fits 6)) refl in
-    subst (λ (y : PdoEntry × List ℕ). (i0 ∷ i1 ∷ subindex ∷ name ∷ data_type ∷ bit_length ∷ f0 ∷ f1 ∷ behind ≡ entry_bytes y.0 ++ y.1) × IsBytes y.1)
-    (ok_is (made, behind) x e) (spelt, IsBytes-rest (entry_bytes made) behind (subst IsBytes spelt fits))
+    subst (λ (y : PdoEntry × List ℕ). (i0 ∷ i1 ∷ subindex ∷ name ∷ data_type ∷ bit_length ∷ f0 ∷ f1 ∷ after ≡ entry_bytes y.0 ++ y.1) × IsBytes y.1)
+    (ok_is (made, after) x e) (spelt, IsBytes-rest (entry_bytes made) after (subst IsBytes spelt fits))
 entry_takes short x fits e = absurd cc
 
 entry_numbers : (x : PdoEntry) → record { index = number (x.index % 256) (x.index / 256); subindex = x.subindex; name = x.name; data_type = x.data_type; bit_length = x.bit_length; flags = number (x.flags % 256) (x.flags / 256) } ≡ x
@@ -112,29 +112,29 @@ never_ended pdo (Ok y) e = cc
 never_ended pdo (Err bad) e = cc
 
 pdo_ended : (cells : List ℕ) → pdo_at cells ≡ Ended → length cells < 8
-pdo_ended (i0 ∷ i1 ∷ count ∷ manager ∷ synchronization ∷ name ∷ f0 ∷ f1 ∷ behind) e =
-    absurd (never_ended (λ entries. record { index = number i0 i1; entries = entries; manager = manager; synchronization = synchronization; name = name; flags = number f0 f1 }) (counted entry_at count behind) e)
+pdo_ended (i0 ∷ i1 ∷ count ∷ manager ∷ synchronization ∷ name ∷ f0 ∷ f1 ∷ after) e =
+    absurd (never_ended (λ entries. record { index = number i0 i1; entries = entries; manager = manager; synchronization = synchronization; name = name; flags = number f0 f1 }) (counted entry_at count after) e)
 pdo_ended short e = omega arith
 
 pub pdo_at_end : (cells : List ℕ) → length cells < 8 → pdo_at cells ≡ Ended
-pdo_at_end (i0 ∷ i1 ∷ count ∷ manager ∷ synchronization ∷ name ∷ f0 ∷ f1 ∷ behind) h = absurd (omega arith)
+pdo_at_end (i0 ∷ i1 ∷ count ∷ manager ∷ synchronization ∷ name ∷ f0 ∷ f1 ∷ after) h = absurd (omega arith)
 pdo_at_end short h = refl
 
 pdo_takes : (cells : List ℕ) (x : Mapping) (rest : List ℕ) → IsBytes cells → pdo_at cells ≡ Item x rest → (cells ≡ pdo_bytes x ++ rest) × IsBytes rest
-pdo_takes (i0 ∷ i1 ∷ count ∷ manager ∷ synchronization ∷ name ∷ f0 ∷ f1 ∷ behind) x rest fits e =
+pdo_takes (i0 ∷ i1 ∷ count ∷ manager ∷ synchronization ∷ name ∷ f0 ∷ f1 ∷ after) x rest fits e =
     let pdo : List PdoEntry → Mapping = λ entries. record { index = number i0 i1; entries = entries; manager = manager; synchronization = synchronization; name = name; flags = number f0 f1 } in
-    let cells : List ℕ = i0 ∷ i1 ∷ count ∷ manager ∷ synchronization ∷ name ∷ f0 ∷ f1 ∷ behind in
-    let read = with_entries_is pdo (counted entry_at count behind) x rest e in
-    let behind_fits : IsBytes behind = λ i. fits (suc (suc (suc (suc (suc (suc (suc (suc i)))))))) in
-    let entries = counted_takes IsBytes entry_at entry_bytes entry_reader count behind read.0 behind_fits read.1 in
+    let cells : List ℕ = i0 ∷ i1 ∷ count ∷ manager ∷ synchronization ∷ name ∷ f0 ∷ f1 ∷ after in
+    let read = with_entries_is pdo (counted entry_at count after) x rest e in
+    let after_fits : IsBytes after = λ i. fits (suc (suc (suc (suc (suc (suc (suc (suc i)))))))) in
+    let entries = counted_takes IsBytes entry_at entry_bytes entry_reader count after read.0 after_fits read.1 in
     let head : i0 ∷ i1 ∷ count ∷ manager ∷ synchronization ∷ name ∷ f0 ∷ f1 ∷ [] ≡ head_bytes (pdo read.0.0) =
     rw (number-low i0 i1 (fits 0), number-high i0 i1 (fits 0), number-low f0 f1 (fits 6), number-high f0 f1 (fits 6), entries.1) refl in
     let spelt : cells ≡ pdo_bytes (pdo read.0.0) ++ read.0.1 =
     ap (λ (t : List ℕ). i0 ∷ i1 ∷ count ∷ manager ∷ synchronization ∷ name ∷ f0 ∷ f1 ∷ t) entries.0
     ∙ ap (λ (h : List ℕ). h ++ (flat_map entry_bytes read.0.0 ++ read.0.1)) head
     ∙ sym (append_assoc (head_bytes (pdo read.0.0)) (flat_map entry_bytes read.0.0) read.0.1) in
-    let whole : cells ≡ pdo_bytes x ++ rest = spelt ∙ ap (λ (p : Mapping). pdo_bytes p ++ read.0.1) read.2 ∙ ap (λ (r : List ℕ). pdo_bytes x ++ r) read.3 in
-    (whole, subst IsBytes read.3 entries.2)
+    let entire : cells ≡ pdo_bytes x ++ rest = spelt ∙ ap (λ (p : Mapping). pdo_bytes p ++ read.0.1) read.2 ∙ ap (λ (r : List ℕ). pdo_bytes x ++ r) read.3 in
+    (entire, subst IsBytes read.3 entries.2)
 pdo_takes short x rest fits e = absurd cc
 
 pdo_numbers : (x : Mapping) → record { index = number (x.index % 256) (x.index / 256); entries = x.entries; manager = x.manager; synchronization = x.synchronization; name = x.name; flags = number (x.flags % 256) (x.flags / 256) } ≡ x

@@ -4,7 +4,7 @@ use Rattle.std.specs.Prelude.{IsErr}
 use Rattle.std.specs.List.{flat_map}
 use Rattle.std.proofs.lemmas.List.{append-nil}
 use Rattle.sii_cats.specs.Items.{AreItems}
-use Rattle.sii_cats.specs.steps.Items.{Front, ◌>>=◌, items_behind, items_below, items_of, counted}
+use Rattle.sii_cats.specs.steps.Items.{Front, ◌>>=◌, items_after, items_below, items_of, counted}
 use Rattle.sii_cats.specs.steps.Items.Front.{Ended, Item, Broken}
 
 abbrev done : {A : Type 0} → A → Result A (List ℕ)
@@ -22,11 +22,11 @@ bind_ok (Err d) f y e = absurd cc
 pub record Shrinks {X : Type 0} (front : List ℕ → Front X) : Type 0 where
   pub shorter : (cells : List ℕ) (x : X) (rest : List ℕ) → front cells ≡ Item x rest → length rest < length cells
 
-same_behind : {X : Type 0} (cells : List ℕ) (f g : List ℕ → Result (List X) (List ℕ)) (a : Front X)
-    → ((x : X) (rest : List ℕ) → a ≡ Item x rest → f rest ≡ g rest) → items_behind cells a f ≡ items_behind cells a g
-same_behind cells f g Ended h = refl
-same_behind cells f g (Item x rest) h = ap (λ r. r >>= λ xs. Ok (x ∷ xs)) (h x rest refl)
-same_behind cells f g Broken h = refl
+same_after : {X : Type 0} (cells : List ℕ) (f g : List ℕ → Result (List X) (List ℕ)) (a : Front X)
+    → ((x : X) (rest : List ℕ) → a ≡ Item x rest → f rest ≡ g rest) → items_after cells a f ≡ items_after cells a g
+same_after cells f g Ended h = refl
+same_after cells f g (Item x rest) h = ap (λ r. r >>= λ xs. Ok (x ∷ xs)) (h x rest refl)
+same_after cells f g Broken h = refl
 
 -- any bound above the number of cells gives the same items
 enough : {X : Type 0} (front : List ℕ → Front X) → Shrinks front → (m n : ℕ) (cells : List ℕ) → length cells < m → length cells < n
@@ -35,7 +35,7 @@ unfolding items_below
 enough front s zero n cells h k = absurd (omega arith)
 enough front s (suc m) zero cells h k = absurd (omega arith)
 enough front s (suc m) (suc n) cells h k =
-    same_behind cells (items_below front m) (items_below front n) (front cells)
+    same_after cells (items_below front m) (items_below front n) (front cells)
     (λ x rest e. let lt : length rest < length cells = s.shorter cells x rest e in enough front s m n rest (omega arith) (omega arith))
 
 pub items_of-item : {X : Type 0} (front : List ℕ → Front X) → Shrinks front → (cells : List ℕ) (x : X) (rest : List ℕ)
@@ -43,16 +43,16 @@ pub items_of-item : {X : Type 0} (front : List ℕ → Front X) → Shrinks fron
 unfolding items_of items_below
 items_of-item front s cells x rest e =
     let lt : length rest < length cells = s.shorter cells x rest e in
-    ap (λ a. items_behind cells a (items_below front (length cells))) e
+    ap (λ a. items_after cells a (items_below front (length cells))) e
     ∙ ap (λ r. r >>= λ xs. Ok (x ∷ xs)) (enough front s (length cells) (suc (length rest)) rest (omega arith) (omega arith))
 
 pub items_of-ended : {X : Type 0} (front : List ℕ → Front X) (cells : List ℕ) → front cells ≡ Ended → items_of front cells ≡ Ok []
 unfolding items_of items_below
-items_of-ended front cells e = ap (λ a. items_behind cells a (items_below front (length cells))) e
+items_of-ended front cells e = ap (λ a. items_after cells a (items_below front (length cells))) e
 
 pub items_of-broken : {X : Type 0} (front : List ℕ → Front X) (cells : List ℕ) → front cells ≡ Broken → items_of front cells ≡ Err cells
 unfolding items_of items_below
-items_of-broken front cells e = ap (λ a. items_behind cells a (items_below front (length cells))) e
+items_of-broken front cells e = ap (λ a. items_after cells a (items_below front (length cells))) e
 
 -- ---- a loop over the items: those read before, and those of the rest
 
@@ -134,23 +134,23 @@ pub record IsFront {X : Type 0} (Good : List ℕ → Type 0) (front : List ℕ �
   pub takes : (cells : List ℕ) (x : X) (rest : List ℕ) → Good cells → front cells ≡ Item x rest → Begins cells x rest × Good rest
   pub again : (cells : List ℕ) (x : X) (rest : List ℕ) → Begins cells x rest → front cells ≡ Item x rest
 
-behind_are : {X : Type 0} (Good : List ℕ → Type 0) (front : List ℕ → Front X) (Begins : List ℕ → X → List ℕ → Type 0) (Ends : List ℕ → Type 0) → IsFront Good front Begins Ends
+after_are : {X : Type 0} (Good : List ℕ → Type 0) (front : List ℕ → Front X) (Begins : List ℕ → X → List ℕ → Type 0) (Ends : List ℕ → Type 0) → IsFront Good front Begins Ends
     → (others : List ℕ → Result (List X) (List ℕ)) → ((rest : List ℕ) (ys : List X) → Good rest → others rest ≡ Ok ys → AreItems Begins Ends rest ys)
-    → (cells : List ℕ) (xs : List X) (a : Front X) → Good cells → front cells ≡ a → items_behind cells a others ≡ Ok xs → AreItems Begins Ends cells xs
-behind_are Good front Begins Ends law others more cells xs Ended good e h =
+    → (cells : List ℕ) (xs : List X) (a : Front X) → Good cells → front cells ≡ a → items_after cells a others ≡ Ok xs → AreItems Begins Ends cells xs
+after_are Good front Begins Ends law others more cells xs Ended good e h =
     subst (AreItems Begins Ends cells) (ok_is [] xs h) (law.ended cells e)
-behind_are Good front Begins Ends law others more cells xs (Item x rest) good e h =
+after_are Good front Begins Ends law others more cells xs (Item x rest) good e h =
     let read = bind_ok (others rest) (λ ys. Ok (x ∷ ys)) xs h in
     let first = law.takes cells x rest good e in
     subst (AreItems Begins Ends cells) (ok_is (x ∷ read.0) xs read.2) (rest, first.0, more rest read.0 first.1 read.1)
-behind_are Good front Begins Ends law others more cells xs Broken good e h = absurd cc
+after_are Good front Begins Ends law others more cells xs Broken good e h = absurd cc
 
 items_below_are : {X : Type 0} (Good : List ℕ → Type 0) (front : List ℕ → Front X) (Begins : List ℕ → X → List ℕ → Type 0) (Ends : List ℕ → Type 0) → IsFront Good front Begins Ends
     → (n : ℕ) (cells : List ℕ) (xs : List X) → Good cells → items_below front n cells ≡ Ok xs → AreItems Begins Ends cells xs
 unfolding items_below
 items_below_are Good front Begins Ends law zero cells xs good h = absurd cc
 items_below_are Good front Begins Ends law (suc n) cells xs good h =
-    behind_are Good front Begins Ends law (items_below front n) (λ rest ys g e. items_below_are Good front Begins Ends law n rest ys g e) cells xs (front cells) good refl h
+    after_are Good front Begins Ends law (items_below front n) (λ rest ys g e. items_below_are Good front Begins Ends law n rest ys g e) cells xs (front cells) good refl h
 
 pub items_are : {X : Type 0} (Good : List ℕ → Type 0) (front : List ℕ → Front X) (Begins : List ℕ → X → List ℕ → Type 0) (Ends : List ℕ → Type 0) → IsFront Good front Begins Ends
     → (cells : List ℕ) (xs : List X) → Good cells → items_of front cells ≡ Ok xs → AreItems Begins Ends cells xs
@@ -174,23 +174,23 @@ bind_err (Err d) f e h = cc
 abbrev pub BreaksAt : {X : Type 0} → (List ℕ → Front X) → List ℕ → List ℕ → Type 0
 BreaksAt front broken rest = (rest ≡ broken) × (front rest ≡ Broken)
 
-behind_break : {X : Type 0} (Good : List ℕ → Type 0) (front : List ℕ → Front X) (Begins : List ℕ → X → List ℕ → Type 0) (Ends : List ℕ → Type 0) → IsFront Good front Begins Ends
+after_break : {X : Type 0} (Good : List ℕ → Type 0) (front : List ℕ → Front X) (Begins : List ℕ → X → List ℕ → Type 0) (Ends : List ℕ → Type 0) → IsFront Good front Begins Ends
     → Shrinks front → (others : List ℕ → Result (List X) (List ℕ)) (broken cells : List ℕ)
     → ((rest : List ℕ) → length rest < length cells → Good rest → others rest ≡ Err broken → (ys : List X) × AreItems Begins (BreaksAt front broken) rest ys)
-    → (a : Front X) → Good cells → front cells ≡ a → items_behind cells a others ≡ Err broken → (xs : List X) × AreItems Begins (BreaksAt front broken) cells xs
-behind_break Good front Begins Ends law s others broken cells more Ended good e h = absurd cc
-behind_break Good front Begins Ends law s others broken cells more (Item x rest) good e h =
+    → (a : Front X) → Good cells → front cells ≡ a → items_after cells a others ≡ Err broken → (xs : List X) × AreItems Begins (BreaksAt front broken) cells xs
+after_break Good front Begins Ends law s others broken cells more Ended good e h = absurd cc
+after_break Good front Begins Ends law s others broken cells more (Item x rest) good e h =
     let first = law.takes cells x rest good e in
     let later = more rest (s.shorter cells x rest e) first.1 (bind_err (others rest) (λ ys. x ∷ ys) broken h) in
     (x ∷ later.0, (rest, first.0, later.1))
-behind_break Good front Begins Ends law s others broken cells more Broken good e h = ([], (cc, e))
+after_break Good front Begins Ends law s others broken cells more Broken good e h = ([], (cc, e))
 
 items_below_break : {X : Type 0} (Good : List ℕ → Type 0) (front : List ℕ → Front X) (Begins : List ℕ → X → List ℕ → Type 0) (Ends : List ℕ → Type 0) → IsFront Good front Begins Ends
     → Shrinks front → (n : ℕ) (broken cells : List ℕ) → length cells < n → Good cells → items_below front n cells ≡ Err broken → (xs : List X) × AreItems Begins (BreaksAt front broken) cells xs
 unfolding items_below
 items_below_break Good front Begins Ends law s zero broken cells lt good h = absurd (omega arith)
 items_below_break Good front Begins Ends law s (suc n) broken cells lt good h =
-    behind_break Good front Begins Ends law s (items_below front n) broken cells
+    after_break Good front Begins Ends law s (items_below front n) broken cells
     (λ rest shorter g e. items_below_break Good front Begins Ends law s n broken rest (omega arith) g e) (front cells) good refl h
 
 pub items_break : {X : Type 0} (Good : List ℕ → Type 0) (front : List ℕ → Front X) (Begins : List ℕ → X → List ℕ → Type 0) (Ends : List ℕ → Type 0) → IsFront Good front Begins Ends
@@ -198,7 +198,7 @@ pub items_break : {X : Type 0} (Good : List ℕ → Type 0) (front : List ℕ �
 unfolding items_of
 items_break Good front Begins Ends law s broken cells good h = items_below_break Good front Begins Ends law s (suc (length cells)) broken cells (omega arith) good h
 
--- where one can't be read behind the items, they can't be read
+-- where one can't be read after the items, they can't be read
 pub items_break_again : {X : Type 0} (Good : List ℕ → Type 0) (front : List ℕ → Front X) (Begins : List ℕ → X → List ℕ → Type 0) (Ends : List ℕ → Type 0) → IsFront Good front Begins Ends
     → Shrinks front → (broken cells : List ℕ) (xs : List X) → AreItems Begins (BreaksAt front broken) cells xs → items_of front cells ≡ Err broken
 items_break_again Good front Begins Ends law s broken cells [] h = items_of-broken front cells h.1 ∙ ap (λ rest. Err rest) h.0
@@ -229,10 +229,10 @@ counted_takes {X} Good one spell law (suc n) cells x good e =
     let a = law.takes cells first.0 good first.1 in
     let b = counted_takes Good one spell law n first.0.1 others.0 a.1 others.1 in
     let made : List X × List ℕ = (first.0.0 ∷ others.0.0, others.0.1) in
-    let whole : cells ≡ (spell first.0.0 ++ flat_map spell others.0.0) ++ others.0.1 =
+    let entire : cells ≡ (spell first.0.0 ++ flat_map spell others.0.0) ++ others.0.1 =
     a.0 ∙ ap (λ (t : List ℕ). spell first.0.0 ++ t) b.0 ∙ sym (append_assoc (spell first.0.0) (flat_map spell others.0.0) others.0.1) in
     let len : suc (length others.0.0) ≡ suc n = ap suc b.1 in
-    subst (λ (y : List X × List ℕ). (cells ≡ flat_map spell y.0 ++ y.1) × (length y.0 ≡ suc n) × Good y.1) (ok_is made x others.2) (whole, len, b.2)
+    subst (λ (y : List X × List ℕ). (cells ≡ flat_map spell y.0 ++ y.1) × (length y.0 ≡ suc n) × Good y.1) (ok_is made x others.2) (entire, len, b.2)
 
 pub counted_again : {X : Type 0} (Good : List ℕ → Type 0) (one : List ℕ → Result (X × List ℕ) (List ℕ)) (spell : X → List ℕ) → IsReader Good one spell
     → (xs : List X) (rest : List ℕ) → counted one (length xs) (flat_map spell xs ++ rest) ≡ Ok (xs, rest)

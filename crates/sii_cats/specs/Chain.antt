@@ -43,7 +43,7 @@ IsChain words ms = AreItems Begins IsEnd (drop 64 words) ms
 abbrev pub IsCutAt : List ℕ → ℕ → Type 0
 IsCutAt words at = (ms : List Member) × AreItems Begins (λ rest. IsCut rest × (rest ≡ drop at words) × (at ≤ length words)) (drop 64 words) ms
 
--- the number of the word behind a category
+-- the number of the word after a category
 abbrev pub end_of : Category → ℕ
 end_of c = c.at + 2 + c.count
 
@@ -55,12 +55,12 @@ content_of words c = take c.count (drop (c.at + 2) words)
 abbrev pub member_of : List ℕ → Category → Member
 member_of words c = record { kind = c.kind; content = content_of words c }
 
--- the places of these categories one behind the other, the first with its header at this word
+-- the places of these categories one after the other, the first with its header at this word
 abbrev pub categories_from : ℕ → List Member → List Category
 categories_from at [] = []
 categories_from at (m ∷ ms) = record { kind = m.kind; at = at; count = length m.content } ∷ categories_from (at + length (member_words m)) ms
 
--- The categories lie inside the words, one behind the other from word 0x40 on.
+-- The categories lie inside the words, one after the other from word 0x40 on.
 pub record ArePlaced (words : List ℕ) (categories : List Category) : Type 0 where
   pub inside : All (λ c. end_of c ≤ length words) categories
   pub placed : categories ≡ categories_from 64 (map (member_of words) categories)

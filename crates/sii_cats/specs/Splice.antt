@@ -13,11 +13,11 @@ spliced None kind content ms = ms ++ record { kind = kind; content = content } �
 spliced (Some i) kind [] ms = remove ms i
 spliced (Some i) kind (word ∷ words) ms = slice_set ms i (record { kind = kind; content = word ∷ words })
 
--- the number of the word behind a chain
+-- the number of the word after a chain
 abbrev pub chain_end : List Member → ℕ
 chain_end ms = 64 + length (chain_words ms)
 
--- the words behind a chain: the first becomes the end mark, if there is one, and the others stay
+-- the words after a chain: the first becomes the end mark, if there is one, and the others stay
 abbrev pub closing : List ℕ → List ℕ
 closing [] = []
 closing (word ∷ words) = 0xFFFF ∷ words
@@ -32,7 +32,7 @@ pub record IsEdit (old new : List ℕ) (ms : List Member) : Type 0 where
   pub before : take 64 new ≡ take 64 old
   pub chain : IsChain new ms
   pub mark : chain_end ms < length old → slice_get new (chain_end ms) ≡ Some 0xFFFF
-  pub behind : drop (suc (chain_end ms)) new ≡ drop (suc (chain_end ms)) old
+  pub after : drop (suc (chain_end ms)) new ≡ drop (suc (chain_end ms)) old
 
 -- The old words have a chain, and the new words are this edit of it.
 abbrev pub IsCategoryEdit : List ℕ → List ℕ → Option ℕ → ℕ → List ℕ → Type 0

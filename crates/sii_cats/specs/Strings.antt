@@ -11,7 +11,7 @@ texts strings = map (λ string. string.items) strings
 abbrev pub string_bytes : List ℕ → List ℕ
 string_bytes string = length string ∷ string
 
--- The bytes are the number of strings, and these strings; bytes behind the last string are ignored, and no bytes are no
+-- The bytes are the number of strings, and these strings; bytes after the last string are ignored, and no bytes are no
 -- strings.
 abbrev pub AreStrings : List ℕ → List (List ℕ) → Type 0
 AreStrings [] strings = strings ≡ []

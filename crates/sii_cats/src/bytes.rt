@@ -26,7 +26,7 @@ pub(crate) fn push_four(words: &mut Vec<u16>, four: [u16; 4]) -> Result<(), Allo
     words.extend_from_slice(&four)
 }
 
-/// The word that begins the bytes, and the bytes behind it; `None` if there are no bytes. A single byte is a word with the high
+/// The word that begins the bytes, and the bytes after it; `None` if there are no bytes. A single byte is a word with the high
 /// byte 0.
 fn word_of(bytes: &[u8]) -> Option<(u16, &[u8])>
     ensures { MatchOption result (bytes.now ≡ [])

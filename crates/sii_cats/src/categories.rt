@@ -24,7 +24,7 @@ pub struct Category {
 }
 
 impl Category {
-    /// The number of the word behind the content. It must fit 64 bits.
+    /// The number of the word after the content. It must fit 64 bits.
     pub fn end(self) -> usize
         requires { end_of self < 2 ^ 64 }
         ensures { result ≡ end_of self }
@@ -37,8 +37,8 @@ impl Category {
         requires { end_of self ≤ length words.now }
         ensures { result.now ≡ content_of words.now self }
     {
-        let (_, behind) = words.split_at(self.at + 2);
-        let (content, _) = behind.split_at(self.count);
+        let (_, after) = words.split_at(self.at + 2);
+        let (content, _) = after.split_at(self.count);
         content
     }
 }
@@ -59,7 +59,7 @@ fn header_at(words: &[u16], at: usize) -> Result<Option<Category>, ChainFault>
     }
 }
 
-/// Reads the chain of categories: the categories, and the number of the word behind the last one. There must be at least 64
+/// Reads the chain of categories: the categories, and the number of the word after the last one. There must be at least 64
 /// words.
 ///
 /// # Errors

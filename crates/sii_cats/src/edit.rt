@@ -25,7 +25,7 @@ impl From<ChainFault> for CatFault {
     }
 }
 
-/// The words that an edit replaces, as the first of them and the one behind the last: those of category `member`, or none at
+/// The words that an edit replaces, as the first of them and the one after the last: those of category `member`, or none at
 /// the end of the chain.
 fn gap(categories: &[Category], end: usize, member: Option<usize>) -> (usize, usize)
     requires inside { IfSome member (λ i. i < length categories.now) }
@@ -54,7 +54,7 @@ fn push_member(words: &mut Vec<u16>, kind: u16, content: &[u16]) -> Result<(), A
     words.extend_from_slice(content)
 }
 
-/// Adds the end mark if a word is left for it, and the old words behind it.
+/// Adds the end mark if a word is left for it, and the old words after it.
 fn close(words: &mut Vec<u16>, old: &[u16]) -> Result<(), AllocError>
     requires { length words.old.items ≤ length old.now }
     ensures { OnOk result (words.new.items
@@ -80,8 +80,8 @@ fn spelled_len(content: &[u16]) -> usize
     }
 }
 
-/// Adds this category, the categories `kept`, the end mark, and the old words behind it.
-fn push_behind(
+/// Adds this category, the categories `kept`, the end mark, and the old words after it.
+fn push_after(
     out: &mut Vec<u16>,
     words: &[u16],
     kept: &[u16],
@@ -98,7 +98,7 @@ fn push_behind(
     close(out, words)
 }
 
-/// The words before word `first`, this category, the categories `kept`, the end mark, and the old words behind it.
+/// The words before word `first`, this category, the categories `kept`, the end mark, and the old words after it.
 fn rebuilt(
     alloc: Global,
     words: &[u16],
@@ -117,14 +117,14 @@ fn rebuilt(
         return Err(CatFault::NoRoom);
     }
     let mut out = Vec::from_slice(alloc, &words[..first])?;
-    push_behind(&mut out, words, kept, kind, content)?;
+    push_after(&mut out, words, kept, kind, content)?;
     Ok(out)
 }
 
 /// The words of a device with one category replaced, removed or added.
 ///
 /// Category number `member` of the chain, from 0, is replaced, or removed if `content` is empty. With `None` the category is
-/// added last. The word behind the new chain becomes the end mark, if one is left, and all words behind that keep their values.
+/// added last. The word after the new chain becomes the end mark, if one is left, and all words after that keep their values.
 ///
 /// A device has 64 to 4,096 words. If its chain can be read, `member` must be in it. An added category must have a content, and
 /// a category that is added or replaced must not have the end mark's type.
@@ -149,6 +149,6 @@ pub fn splice(
     ensures exact { GivesSplice (λ v. v.items) words.now member kind content.now result }
 {
     let (categories, end) = walk(alloc, words)?;
-    let (first, behind) = gap(&categories, end, member);
-    rebuilt(alloc, words, first, &words[behind..end], kind, content)
+    let (first, after) = gap(&categories, end, member);
+    rebuilt(alloc, words, first, &words[after..end], kind, content)
 }

@@ -1,4 +1,4 @@
-//! The categories of an EEPROM behind its first 64 words (ETG.1000.6 and ETG.2010, slave information
+//! The categories of an EEPROM after its first 64 words (ETG.1000.6 and ETG.2010, slave information
 //! interface): the chain of categories, and the contents of the STRINGS, FMMU, SyncM, TXPDO and RXPDO
 //! categories.
 #![tactic(auto)]

@@ -27,7 +27,7 @@ pub struct Manager {
     pub kind: u8,
 }
 
-/// The sync manager in front of the words, and the words behind it; `None` if fewer than four words are left.
+/// The sync manager in front of the words, and the words after it; `None` if fewer than four words are left.
 fn manager_of(words: &[u16]) -> Option<(Manager, &[u16])>
     ensures { MatchOption result (manager_at (bytes_of words.now) ≡ Ended)
         (λ x. manager_at (bytes_of words.now) ≡ Item x.0 (bytes_of x.1.now)) }
@@ -50,7 +50,7 @@ fn manager_of(words: &[u16]) -> Option<(Manager, &[u16])>
     }
 }
 
-/// Reads the content of a SyncM category: its sync managers, in order. Up to three words behind the last whole one are ignored,
+/// Reads the content of a SyncM category: its sync managers, in order. Up to three words after the last whole one are ignored,
 /// and any content can be read.
 ///
 /// # Errors

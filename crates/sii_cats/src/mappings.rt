@@ -61,7 +61,7 @@ pub struct PdoHead {
     pub flags: u16,
 }
 
-/// The entry in front of the words of a PDO's entries, four words each, and the words behind it. `None` if fewer than four words
+/// The entry in front of the words of a PDO's entries, four words each, and the words after it. `None` if fewer than four words
 /// are left.
 pub fn front_entry(words: &[u16]) -> Option<(PdoEntry, &[u16])>
     ensures { MatchOption result (entries_in words.now ≡ [])
@@ -98,7 +98,7 @@ fn entries_of(alloc: Global, words: &[u16]) -> Result<Vec<PdoEntry>, AllocError>
 }
 
 /// The PDO in front of a content of type `kind`, TXPDO or RXPDO, where it lies: its head, the words of its entries, and the
-/// words behind it. `None` if fewer than four words are left.
+/// words after it. `None` if fewer than four words are left.
 ///
 /// # Errors
 ///
@@ -115,7 +115,7 @@ pub fn front_pdo(kind: u16, words: &[u16]) -> Result<Option<(PdoHead, &[u16], &[
             if size > rest.len() {
                 return Err(CatFault::BadCategory { kind });
             }
-            let (entries, behind) = rest.split_at(size);
+            let (entries, after) = rest.split_at(size);
             let head = PdoHead {
                 index: *index,
                 manager,
@@ -123,7 +123,7 @@ pub fn front_pdo(kind: u16, words: &[u16]) -> Result<Option<(PdoHead, &[u16], &[
                 name,
                 flags: *flags,
             };
-            Ok(Some((head, entries, behind)))
+            Ok(Some((head, entries, after)))
         }
         _ => Ok(None),
     }
@@ -146,7 +146,7 @@ fn pdo_of(alloc: Global, kind: u16, words: &[u16]) -> Result<Option<(Pdo, &[u16]
     Ok(Some((pdo, rest)))
 }
 
-/// Reads the content of a category of type `kind`, TXPDO or RXPDO: its PDOs, in order. Fewer than four words behind the last
+/// Reads the content of a category of type `kind`, TXPDO or RXPDO: its PDOs, in order. Fewer than four words after the last
 /// whole PDO are ignored.
 ///
 /// # Errors

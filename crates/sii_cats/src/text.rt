@@ -56,7 +56,7 @@ fn all_strings(alloc: Global, bytes: &[u8]) -> Result<Vec<Vec<u8>>, CatFault>
 }
 
 /// Reads the content of a STRINGS category (ETG.1000.6 and ETG.2010): its strings, string 1 first. Empty content has no
-/// strings, and bytes behind the last string are ignored.
+/// strings, and bytes after the last string are ignored.
 ///
 /// # Errors
 ///

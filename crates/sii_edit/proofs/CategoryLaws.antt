@@ -18,7 +18,7 @@ use Rattle.sii_edit.specs.Category.{has_kind, count_of, is_absent, is_repeated, 
 use Rattle.sii_edit.specs.Command.{category_causes}
 use Rattle.sii_edit.specs.Guard.{is_other}
 use Rattle.sii_edit.specs.Image.{with_front}
-use Rattle.sii_edit.specs.Refusal.{unless, cause_of_category, IsCauseOf, IsAnswer, IsJudgement}
+use Rattle.sii_edit.specs.Refusal.{unless, cause_of_category, IsCauseOf, IsAnswer, IsVerdict}
 use Rattle.sii_edit.proofs.ShapeLaws.{length-with_chain, within}
 use Rattle.sii_edit.proofs.UnlessLaws.{unless-stop, unless-pass}
 
@@ -84,9 +84,9 @@ not_repeated kind count ms few same = le-ltb 1 (count_of kind ms) (omega arith)
 abbrev pub left_causes : List ℕ → ℕ → List ℕ → List Member → List (Bool × Cause)
 left_causes words kind content ms = (is_unfit kind content, BadCategory kind) ∷ (is_too_long words kind content ms, NoRoom) ∷ []
 
-pub judged_left : (words : List ℕ) (kind : ℕ) (content : List ℕ) (ms : List Member) → members_of words ≡ Ok ms → is_absent kind content ms ≡ false → is_repeated kind ms ≡ false
+pub validated_left : (words : List ℕ) (kind : ℕ) (content : List ℕ) (ms : List Member) → members_of words ≡ Ok ms → is_absent kind content ms ≡ false → is_repeated kind ms ≡ false
     → unless (category_causes None words kind content) (with_category words kind content) ≡ unless (left_causes words kind content ms) (with_chain words (exchanged kind content ms))
-judged_left words kind content ms read there once =
+validated_left words kind content ms read there once =
     let new : List ℕ = with_chain words (exchanged kind content ms) in
     ap (λ (r : Result (List Member) (List ℕ)). unless (
     (if_read r (is_absent kind content), NoSuchCategory)
@@ -107,49 +107,49 @@ pub first_passed : {A : Type 0} (test : Bool) (first : Cause) (given new : A) �
 first_passed true first given new is = cc
 first_passed false first given new is = refl
 
-pub answered : {A : Type 0} (judged result : Result A Cause) (cause : Cause) → IsErrAnd result (λ error. error ≡ cause) → IsCauseOf judged cause → IsAnswer judged result
-answered judged (Ok given) cause gave is = absurd gave
-answered judged (Err error) cause gave is = rw gave is
+pub answered : {A : Type 0} (validated result : Result A Cause) (cause : Cause) → IsErrAnd result (λ error. error ≡ cause) → IsCauseOf validated cause → IsAnswer validated result
+answered validated (Ok given) cause gave is = absurd gave
+answered validated (Err error) cause gave is = rw gave is
 
 -- a content that is refused
-pub content_refused : (judged : Result (List ℕ) Cause) (words : List ℕ) (kind : ℕ) (content : List ℕ) (ms : List Member) (new : List ℕ) (cause : Cause)
-    → judged ≡ unless (left_causes words kind content ms) new → IsJudgement ((is_unfit kind content, BadCategory kind) ∷ []) (Err cause) → IsCauseOf judged cause
-content_refused judged words kind content ms new cause left (inl is) =
+pub content_refused : (validated : Result (List ℕ) Cause) (words : List ℕ) (kind : ℕ) (content : List ℕ) (ms : List Member) (new : List ℕ) (cause : Cause)
+    → validated ≡ unless (left_causes words kind content ms) new → IsVerdict ((is_unfit kind content, BadCategory kind) ∷ []) (Err cause) → IsCauseOf validated cause
+content_refused validated words kind content ms new cause left (inl is) =
     let nothing : Unit {0} = tt in inl (left ∙ first_found (is_unfit kind content) (BadCategory kind) cause ((is_too_long words kind content ms, NoRoom) ∷ []) nothing new is)
-content_refused judged words kind content ms new cause left (inr memory) = inr memory
+content_refused validated words kind content ms new cause left (inr memory) = inr memory
 
 -- a chain that doesn't fit
-pub splice_refused : (judged : Result (List ℕ) Cause) (words : List ℕ) (kind : ℕ) (content : List ℕ) (ms : List Member) (new : List ℕ) (place : Option ℕ) (why : CatFault)
-    → judged ≡ unless (left_causes words kind content ms) new → is_unfit kind content ≡ false → members_of words ≡ Ok ms → place ≡ position (has_kind kind) ms
-    → SpliceFails words place kind content why → IsCauseOf judged (cause_of_category why)
-splice_refused judged words kind content ms new place fault.Memory left fit read here fails = inr refl
-splice_refused judged words kind content ms new place (fault.RunsOut at) left fit read here fails = let no = fails.0 in cc
-splice_refused judged words kind content ms new place (fault.BadCategory k) left fit read here fails = absurd fails
-splice_refused judged words kind content ms new place fault.NoRoom left fit read here fails =
+pub splice_refused : (validated : Result (List ℕ) Cause) (words : List ℕ) (kind : ℕ) (content : List ℕ) (ms : List Member) (new : List ℕ) (place : Option ℕ) (why : CatFault)
+    → validated ≡ unless (left_causes words kind content ms) new → is_unfit kind content ≡ false → members_of words ≡ Ok ms → place ≡ position (has_kind kind) ms
+    → SpliceFails words place kind content why → IsCauseOf validated (cause_of_category why)
+splice_refused validated words kind content ms new place fault.Memory left fit read here fails = inr refl
+splice_refused validated words kind content ms new place (fault.RunsOut at) left fit read here fails = let no = fails.0 in cc
+splice_refused validated words kind content ms new place (fault.BadCategory k) left fit read here fails = absurd fails
+splice_refused validated words kind content ms new place fault.NoRoom left fit read here fails =
     let same : fails.0 ≡ ms = let other = fails.1 in cc in
     let long : length words < chain_end (exchanged kind content ms) = rw (same, here) at fails.2 in
     inl (left ∙ unless-pass (is_unfit kind content) (BadCategory kind) ((is_too_long words kind content ms, NoRoom) ∷ []) new fit
     ∙ unless-stop (is_too_long words kind content ms) NoRoom [] new (lt-ltb (length words) (chain_end (exchanged kind content ms)) long))
 
 -- the words with the new chain
-pub splice_accepted : (judged : Result (List ℕ) Cause) (words : List ℕ) (kind : ℕ) (content : List ℕ) (ms others : List Member) (place : Option ℕ) (new copy : List ℕ)
-    → judged ≡ unless (left_causes words kind content ms) (with_chain words (exchanged kind content ms)) → is_unfit kind content ≡ false → members_of words ≡ Ok ms → place ≡ position (has_kind kind) ms
+pub splice_accepted : (validated : Result (List ℕ) Cause) (words : List ℕ) (kind : ℕ) (content : List ℕ) (ms others : List Member) (place : Option ℕ) (new copy : List ℕ)
+    → validated ≡ unless (left_causes words kind content ms) (with_chain words (exchanged kind content ms)) → is_unfit kind content ≡ false → members_of words ≡ Ok ms → place ≡ position (has_kind kind) ms
     → members_of words ≡ Ok others → chain_end (spliced place kind content others) ≤ length words → new ≡ with_chain words (spliced place kind content others) → copy ≡ with_front words new
-    → judged ≡ Ok copy
-splice_accepted judged words kind content ms others place new copy left fit read here also room made copied =
+    → validated ≡ Ok copy
+splice_accepted validated words kind content ms others place new copy left fit read here also room made copied =
     let same : others ≡ ms = cc in
     let made' : new ≡ with_chain words (exchanged kind content ms) = rw (same, here) at made in
     let room' : chain_end (exchanged kind content ms) ≤ length words = rw (same, here) at room in
     let size : length new ≡ length words = ap length made' ∙ length-with_chain words (exchanged kind content ms) room' in
-    let whole : copy ≡ new = copied ∙ ap (λ (rest : List ℕ). new ++ rest) (drop_all (length new) words (omega arith)) ∙ append-nil new in
+    let entire : copy ≡ new = copied ∙ ap (λ (rest : List ℕ). new ++ rest) (drop_all (length new) words (omega arith)) ∙ append-nil new in
     left ∙ unless-pass (is_unfit kind content) (BadCategory kind) ((is_too_long words kind content ms, NoRoom) ∷ []) (with_chain words (exchanged kind content ms)) fit
     ∙ unless-pass (is_too_long words kind content ms) NoRoom [] (with_chain words (exchanged kind content ms)) (le-ltb (length words) (chain_end (exchanged kind content ms)) room')
-    ∙ ap (λ (w : List ℕ). Ok w) (sym (whole ∙ made'))
+    ∙ ap (λ (w : List ℕ). Ok w) (sym (entire ∙ made'))
 
 -- what is left of the causes where the chain can't be read
-pub judged_unread : (expect : Option Expect) (words : List ℕ) (kind : ℕ) (content rest : List ℕ) → members_of words ≡ Err rest → is_other expect words ≡ false
+pub validated_unread : (expect : Option Expect) (words : List ℕ) (kind : ℕ) (content rest : List ℕ) → members_of words ≡ Err rest → is_other expect words ≡ false
     → unless (category_causes expect words kind content) (with_category words kind content) ≡ unless ((is_unfit kind content, BadCategory kind) ∷ (true, BadChain) ∷ []) words
-judged_unread expect words kind content rest unread same =
+validated_unread expect words kind content rest unread same =
     ap (λ (r : Result (List Member) (List ℕ)). unless (
     (is_other expect words, WrongIdentity)
     ∷ (if_read r (is_absent kind content), NoSuchCategory)
@@ -162,8 +162,8 @@ judged_unread expect words kind content rest unread same =
 
 -- a content that is refused before the chain is
 pub content_unread : (expect : Option Expect) (words : List ℕ) (kind : ℕ) (content rest : List ℕ) (cause : Cause) → members_of words ≡ Err rest → is_other expect words ≡ false
-    → IsJudgement ((is_unfit kind content, BadCategory kind) ∷ []) (Err cause) → IsCauseOf (unless (category_causes expect words kind content) (with_category words kind content)) cause
+    → IsVerdict ((is_unfit kind content, BadCategory kind) ∷ []) (Err cause) → IsCauseOf (unless (category_causes expect words kind content) (with_category words kind content)) cause
 content_unread expect words kind content rest cause unread same (inl is) =
     let nothing : Unit {0} = tt in
-    inl (judged_unread expect words kind content rest unread same ∙ first_found (is_unfit kind content) (BadCategory kind) cause ((true, BadChain) ∷ []) nothing words is)
+    inl (validated_unread expect words kind content rest unread same ∙ first_found (is_unfit kind content) (BadCategory kind) cause ((true, BadChain) ∷ []) nothing words is)
 content_unread expect words kind content rest cause unread same (inr memory) = inr memory

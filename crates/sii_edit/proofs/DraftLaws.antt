@@ -93,9 +93,9 @@ rising-put : (least : ℕ) (draft : List Renewal) (slave : ℕ) (new : NewWords)
 rising-put least [] slave new h rise = (h, tt)
 rising-put least (first ∷ others) slave new h rise = elim (cases_lt first.slave slave) [
   | inl below ↦ rw (lt-ltb first.slave slave below) (rise.0, rising-put (suc first.slave) others slave new (omega (arith, below)) rise.1)
-  | inr behind ↦ elim (cases_eq first.slave slave) [
-    | inl same ↦ rw (le-ltb first.slave slave behind, eq-eqb first.slave slave same) rise
-    | inr other ↦ rw (le-ltb first.slave slave behind, ne_eqb first.slave slave other) (h, (omega (arith, behind, other), rise.1))
+  | inr after ↦ elim (cases_eq first.slave slave) [
+    | inl same ↦ rw (le-ltb first.slave slave after, eq-eqb first.slave slave same) rise
+    | inr other ↦ rw (le-ltb first.slave slave after, ne_eqb first.slave slave other) (h, (omega (arith, after, other), rise.1))
   ]
 ]
 
@@ -106,13 +106,13 @@ fits-put least plant (first ∷ others) slave new rise fits there size = elim (c
   | inl below ↦
       rw (lt-ltb first.slave slave below)
       (fits.0, fits.1, fits-put (suc first.slave) plant others slave new rise.1 fits.2 there (rw (ne_eqb first.slave slave (λ same. absurd (omega (arith, below, same)))) at size))
-  | inr behind ↦ elim (cases_eq first.slave slave) [
+  | inr after ↦ elim (cases_eq first.slave slave) [
     | inl same ↦
-        rw (le-ltb first.slave slave behind, eq-eqb first.slave slave same)
+        rw (le-ltb first.slave slave after, eq-eqb first.slave slave same)
         (fits.0, subst (λ (s : ℕ). FitsWords (words_of plant s) (over first.new new)) (sym same) (rw (eq-eqb first.slave slave same) at size), fits.2)
     | inr other ↦
-        rw (le-ltb first.slave slave behind, ne_eqb first.slave slave other)
-        (there, rw (ne_eqb first.slave slave other, new_for-before others slave (suc first.slave) (omega (arith, behind)) rise.1) at size, fits)
+        rw (le-ltb first.slave slave after, ne_eqb first.slave slave other)
+        (there, rw (ne_eqb first.slave slave other, new_for-before others slave (suc first.slave) (omega (arith, after)) rise.1) at size, fits)
   ]
 ]
 
@@ -127,13 +127,13 @@ drafted-put least plant (first ∷ others) slave new rise =
           rw (lt-ltb first.slave slave below, ne_eqb first.slave slave (λ same. absurd (omega (arith, below, same))))
           (ap (λ (p : List (List ℕ)). set p first.slave mine) (drafted-put (suc first.slave) plant others slave new rise.1)
           ∙ set_comm before slave first.slave (renewed (words_of plant slave) (on_top (new_for others slave) new)) mine (λ same. absurd (omega (arith, below, same))))
-      | inr behind ↦ elim (cases_eq first.slave slave) [
+      | inr after ↦ elim (cases_eq first.slave slave) [
         | inl same ↦
-            rw (le-ltb first.slave slave behind, eq-eqb first.slave slave same)
+            rw (le-ltb first.slave slave after, eq-eqb first.slave slave same)
             (sym (set-set before first.slave mine (renewed (words_of plant first.slave) (over first.new new)))
             ∙ ap (λ (s : ℕ). set (set before first.slave mine) s (renewed (words_of plant s) (over first.new new))) same)
         | inr other ↦
-            rw (le-ltb first.slave slave behind, ne_eqb first.slave slave other, new_for-before others slave (suc first.slave) (omega (arith, behind)) rise.1) refl
+            rw (le-ltb first.slave slave after, ne_eqb first.slave slave other, new_for-before others slave (suc first.slave) (omega (arith, after)) rise.1) refl
       ]
     ]
 
@@ -176,12 +176,12 @@ pub edited_step : (plant : List (List ℕ)) (draft put : List Renewal) (expect :
     → AreRising (renewed_slaves draft) → IsDraftOf plant draft → slave ≡ slave_of edit → slave < length plant → words ≡ words_of (drafted plant draft) slave
     → edited_words expect edit words ≡ Ok (renewed words new) → put ≡ with_renewal draft slave new
     → IsDraftOf plant put × (edited (drafted plant draft) expect edit ≡ Ok (drafted plant put))
-edited_step plant draft put expect edit slave words new rise fits is there read judged made =
+edited_step plant draft put expect edit slave words new rise fits is there read validated made =
     let here : words ≡ words_of (drafted plant draft) (slave_of edit) = read ∙ ap (words_of (drafted plant draft)) is in
-    let size : length (renewed words new) ≡ length (words_of plant slave) = length-edited_words expect edit words (renewed words new) judged ∙ ap length read ∙ size_drafted plant draft slave there fits in
+    let size : length (renewed words new) ≡ length (words_of plant slave) = length-edited_words expect edit words (renewed words new) validated ∙ ap length read ∙ size_drafted plant draft slave there fits in
     let step = put_step plant draft put slave words new rise fits there read size made in (
       step.fits,
-      edited-ok (drafted plant draft) expect edit (renewed words new) (omega (arith, length-drafted plant draft)) (ap (edited_words expect edit) (sym here) ∙ judged)
+      edited-ok (drafted plant draft) expect edit (renewed words new) (omega (arith, length-drafted plant draft)) (ap (edited_words expect edit) (sym here) ∙ validated)
           ∙ ap (λ (s : ℕ). Ok (slice_set (drafted plant draft) s (renewed words new))) (sym is) ∙ ap (λ (p : List (List ℕ)). Ok p) (sym step.is),
     )
 
@@ -190,10 +190,10 @@ pub swapped_names : (plant : List (List ℕ)) (a b : ℕ) (of_a of_b : List ℕ)
     → of_a ≡ words_of plant a → of_b ≡ words_of plant b → IsChecked of_a → IsChecked of_b
     → named of_a new_a ≡ with_alias of_a (alias_of of_b) → named of_b new_b ≡ with_alias of_b (alias_of of_a)
     → swapped plant a b ≡ Ok (set (set plant a (named (words_of plant a) new_a)) b (named (words_of plant b) new_b))
-swapped_names plant a b of_a of_b new_a new_b a_there b_there apart read_a read_b a_checked b_checked made_a made_b =
+swapped_names plant a b of_a of_b new_a new_b a_there b_there separate read_a read_b a_checked b_checked made_a made_b =
     let all_a = ap (λ (ws : List ℕ). named ws new_a) (sym read_a) ∙ made_a ∙ ap₂ with_alias read_a (ap alias_of read_b) in
     let all_b = ap (λ (ws : List ℕ). named ws new_b) (sym read_b) ∙ made_b ∙ ap₂ with_alias read_b (ap alias_of read_a) in
-    swapped-ok plant a b a_there b_there apart (rw read_a at a_checked) (rw read_b at b_checked)
+    swapped-ok plant a b a_there b_there separate (rw read_a at a_checked) (rw read_b at b_checked)
     ∙ ap₂ (λ (x y : List ℕ). Ok (set (set plant a x) b y)) (sym all_a) (sym all_b)
 
 -- a swap in a draft
@@ -202,7 +202,7 @@ pub swapped_step : (plant : List (List ℕ)) (draft once put : List Renewal) (a 
     → swapped (drafted plant draft) a b ≡ Ok (set (set (drafted plant draft) a (named (words_of (drafted plant draft) a) new_a)) b (named (words_of (drafted plant draft) b) new_b))
     → once ≡ with_renewal draft a (Renamed new_a) → put ≡ with_renewal once b (Renamed new_b)
     → IsDraftOf plant put × (swapped (drafted plant draft) a b ≡ Ok (drafted plant put))
-swapped_step plant draft once put a b new_a new_b rise fits a_there b_there apart judged put_a put_b =
+swapped_step plant draft once put a b new_a new_b rise fits a_there b_there separate validated put_a put_b =
     let all : List (List ℕ) = drafted plant draft in
     let of_a : List ℕ = words_of all a in
     let of_b : List ℕ = words_of all b in
@@ -210,10 +210,10 @@ swapped_step plant draft once put a b new_a new_b rise fits a_there b_there apar
     let size_b : length (named of_b new_b) ≡ length (words_of plant b) = length-named of_b new_b ∙ size_drafted plant draft b b_there fits in
     let first = put_step plant draft once a of_a (Renamed new_a) rise fits a_there refl size_a put_a in
     let still : of_b ≡ words_of (drafted plant once) b =
-    sym (get_or-set_other all a b (named of_a new_a) [] (λ same. apart (sym same))) ∙ ap (λ (p : List (List ℕ)). words_of p b) (sym first.is) in
+    sym (get_or-set_other all a b (named of_a new_a) [] (λ same. separate (sym same))) ∙ ap (λ (p : List (List ℕ)). words_of p b) (sym first.is) in
     let second = put_step plant once put b of_b (Renamed new_b) first.rising first.fits b_there still size_b put_b in
     let made = second.is ∙ ap (λ (p : List (List ℕ)). set p b (named of_b new_b)) first.is in
-    (second.fits, judged ∙ ap (λ (p : List (List ℕ)). Ok p) (sym made))
+    (second.fits, validated ∙ ap (λ (p : List (List ℕ)). Ok p) (sym made))
 
 -- ---- one renewal
 

@@ -17,7 +17,7 @@ use Rattle.sii_edit.specs.Refusal.{unless}
 use Rattle.sii_edit.proofs.CategoryLaws.{count-cons, count-None}
 use Rattle.sii_edit.proofs.ShapeLaws.{length-with_chain, within}
 use Rattle.sii_edit.proofs.UnlessLaws.{none_holds, unless-ok}
-use Rattle.sii_cats.proofs.Edits.{AreTyped, closing_ends, drop-closing, chain_of_parts, closing_mark, slice_get_behind}
+use Rattle.sii_cats.proofs.Edits.{AreTyped, closing_ends, drop-closing, chain_of_parts, closing_mark, slice_get_after}
 
 -- ---- the place of a category
 
@@ -98,8 +98,8 @@ edit_is old new ms room typed made =
       before = ap (take 64) parts ∙ take_at head (chain_words ms ++ closing left) 64 head_size;
       chain = subst (λ (cells : List ℕ). AreItems Begins IsEnd cells ms) (sym (ap (drop 64) parts ∙ drop_at head (chain_words ms ++ closing left) 64 head_size))
           (chain_of_parts ms (closing left) typed (closing_ends left));
-      mark = λ some. ap (slice_get new) (sym size) ∙ ap (λ (ws : List ℕ). slice_get ws (length front)) made ∙ slice_get_behind front (closing left) ∙ closing_mark left (omega arith);
-      behind = ap (λ (n : ℕ). drop n new) next ∙ sym (drop-drop 1 (length front) new) ∙ ap (drop 1) tail ∙ drop-closing left ∙ drop-drop 1 (length front) old ∙ ap (λ (n : ℕ). drop n old) (sym next);
+      mark = λ some. ap (slice_get new) (sym size) ∙ ap (λ (ws : List ℕ). slice_get ws (length front)) made ∙ slice_get_after front (closing left) ∙ closing_mark left (omega arith);
+      after = ap (λ (n : ℕ). drop n new) next ∙ sym (drop-drop 1 (length front) new) ∙ ap (drop 1) tail ∙ drop-closing left ∙ drop-drop 1 (length front) old ∙ ap (λ (n : ℕ). drop n old) (sym next);
     }
 
 -- what is accepted is the relation
@@ -135,7 +135,7 @@ read_changes laws kind content words new (Err rest) is readable once fit room ma
 
 pub category_changes : ReadingsAgree → (expect : Option Expect) (kind : ℕ) (content words new : List ℕ) → unless (category_causes expect words kind content) (with_category words kind content) ≡ Ok new
     → ChangesCategory words kind content new
-category_changes laws expect kind content words new judged =
-    let passed = none_holds (category_causes expect words kind content) (with_category words kind content) new judged in
+category_changes laws expect kind content words new validated =
+    let passed = none_holds (category_causes expect words kind content) (with_category words kind content) new validated in
     read_changes laws kind content words new (members_of words) refl passed.1.1.1.1.1.0 passed.1.1.0 passed.1.1.1.0 passed.1.1.1.1.0
-    (unless-ok (category_causes expect words kind content) (with_category words kind content) new judged)
+    (unless-ok (category_causes expect words kind content) (with_category words kind content) new validated)

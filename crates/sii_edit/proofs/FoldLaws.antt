@@ -21,7 +21,7 @@ contents-push base commands command = contents-append base commands (command ∷
 pub none-taken : (base : List (List ℕ)) (commands : List Command) (k : ℕ) → commands ≡ [] → contents_after base commands k ≡ base
 none-taken base commands k none = ap (λ (l : List Command). contents_after base l k) none ∙ ap (λ (l : List Command). contents base l) (take-nil {A = Command} k)
 
-after_shape : (plant : List (List ℕ)) (command : Command) (judged : Result (List (List ℕ)) Refusal) → outcome plant command ≡ judged → SameShape plant (after plant command)
+after_shape : (plant : List (List ℕ)) (command : Command) (validated : Result (List (List ℕ)) Refusal) → outcome plant command ≡ validated → SameShape plant (after plant command)
 after_shape plant command (Ok new) is = rw is (SameShape-outcome plant new command is)
 after_shape plant command (Err refusal) is = rw is (record { slaves = refl; words = λ slave. refl })
 
@@ -31,7 +31,7 @@ SameShape-contents base [] = record { slaves = refl; words = λ slave. refl }
 SameShape-contents base (command ∷ commands) =
     SameShape-trans base (after base command) (contents (after base command) commands) (after_shape base command (outcome base command) refl) (SameShape-contents (after base command) commands)
 
-after_image : (plant : List (List ℕ)) (command : Command) (judged : Result (List (List ℕ)) Refusal) → outcome plant command ≡ judged → IsSome (process_image plant) → IsSome (process_image (after plant command))
+after_image : (plant : List (List ℕ)) (command : Command) (validated : Result (List (List ℕ)) Refusal) → outcome plant command ≡ validated → IsSome (process_image plant) → IsSome (process_image (after plant command))
 after_image plant command (Ok new) is some = rw is (with_process_image_has (carried_out plant command) new is)
 after_image plant command (Err refusal) is some = rw is some
 

@@ -48,21 +48,21 @@ pub checked_from_named : (words : List ℕ) (name : Name) → 7 < length words �
 checked_from_named words name long checked = rw (seven_named words name long, check_byte_named words name) at checked
 
 -- the words behind word 7 stay
-behind_named : (words : List ℕ) (name : Name) (at : ℕ) → 7 < at → slice_index (named words name) at ≡ slice_index words at
-behind_named words name at behind =
+after_named : (words : List ℕ) (name : Name) (at : ℕ) → 7 < at → slice_index (named words name) at ≡ slice_index words at
+after_named words name at after =
     get_or-set_other (set words 4 name.alias) 7 at name.seven 0 (omega arith) ∙ get_or-set_other words 4 at name.alias 0 (omega arith)
 
 identity_named : (words : List ℕ) (name : Name) → identity_of (named words name) ≡ identity_of words
 identity_named words name =
     rw (
-      behind_named words name 8 (omega arith),
-      behind_named words name 9 (omega arith),
-      behind_named words name 10 (omega arith),
-      behind_named words name 11 (omega arith),
-      behind_named words name 12 (omega arith),
-      behind_named words name 13 (omega arith),
-      behind_named words name 14 (omega arith),
-      behind_named words name 15 (omega arith),
+      after_named words name 8 (omega arith),
+      after_named words name 9 (omega arith),
+      after_named words name 10 (omega arith),
+      after_named words name 11 (omega arith),
+      after_named words name 12 (omega arith),
+      after_named words name 13 (omega arith),
+      after_named words name 14 (omega arith),
+      after_named words name 15 (omega arith),
     ) refl
 
 -- a new alias doesn't change the identity of the slave

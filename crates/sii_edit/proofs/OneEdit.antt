@@ -26,10 +26,10 @@ one-place kind ms (Some i) (Some j) at also = ap Some (also.3 i at.0 at.1 at.2)
 -- ---- the words
 
 -- what stands behind a chain
-behind-chain : (cells : List ℕ) (ms : List Member) → AreItems Begins IsEnd cells ms → (rest : List ℕ) × (cells ≡ chain_words ms ++ rest) × IsEnd rest
-behind-chain cells [] ends = (cells, refl, ends)
-behind-chain cells (m ∷ ms) items =
-    let further = behind-chain items.0 ms items.2 in
+after-chain : (cells : List ℕ) (ms : List Member) → AreItems Begins IsEnd cells ms → (rest : List ℕ) × (cells ≡ chain_words ms ++ rest) × IsEnd rest
+after-chain cells [] ends = (cells, refl, ends)
+after-chain cells (m ∷ ms) items =
+    let further = after-chain items.0 ms items.2 in
     (further.0, items.1.1 ∙ ap (λ (l : List ℕ). member_words m ++ l) further.1 ∙ sym (append_assoc (member_words m) (chain_words ms) further.0), further.2)
 
 same-rest : (xs ys : List ℕ) → length xs ≡ length ys → IsEnd xs → IsEnd ys → drop 1 xs ≡ drop 1 ys → xs ≡ ys
@@ -38,7 +38,7 @@ same-rest [] (y ∷ ys) long ends also tails = absurd (omega arith)
 same-rest (x ∷ xs) [] long ends also tails = absurd (omega arith)
 same-rest (x ∷ xs) (y ∷ ys) long ends also tails = ap (λ (n : ℕ). n ∷ xs) (ends ∙ sym also) ∙ ap (λ (l : List ℕ). y ∷ l) tails
 
--- the words one behind the chain
+-- the words one after the chain
 tail-of : (words front rest : List ℕ) → drop 64 words ≡ front ++ rest → drop (suc (64 + length front)) words ≡ drop 1 rest
 tail-of words front rest is =
     let next : suc (64 + length front) ≡ 64 + (length front + 1) = omega arith in
@@ -47,13 +47,13 @@ tail-of words front rest is =
 
 one-edit : (old new other : List ℕ) (ms : List Member) → IsEdit old new ms → IsEdit old other ms → new ≡ other
 one-edit old new other ms edit also =
-    let ours = behind-chain (drop 64 new) ms edit.chain in
-    let theirs = behind-chain (drop 64 other) ms also.chain in
+    let ours = after-chain (drop 64 new) ms edit.chain in
+    let theirs = after-chain (drop 64 other) ms also.chain in
     let chain = chain_words ms in
     let long : length new ≡ length other = edit.size ∙ sym also.size in
     let lengths : length ours.0 ≡ length theirs.0 =
     omega (arith, ap length ours.1, ap length theirs.1, length-append chain ours.0, length-append chain theirs.0, length-drop 64 new, length-drop 64 other) in
-    let tails : drop 1 ours.0 ≡ drop 1 theirs.0 = sym (tail-of new chain ours.0 ours.1) ∙ edit.behind ∙ sym also.behind ∙ tail-of other chain theirs.0 theirs.1 in
+    let tails : drop 1 ours.0 ≡ drop 1 theirs.0 = sym (tail-of new chain ours.0 ours.1) ∙ edit.after ∙ sym also.after ∙ tail-of other chain theirs.0 theirs.1 in
     let rest : ours.0 ≡ theirs.0 = same-rest ours.0 theirs.0 lengths ours.2 theirs.2 tails in
     let back : drop 64 new ≡ drop 64 other = ours.1 ∙ ap (λ (l : List ℕ). chain ++ l) rest ∙ sym theirs.1 in
     sym (take-append-drop 64 new) ∙ ap (λ (l : List ℕ). l ++ drop 64 new) (edit.before ∙ sym also.before) ∙ ap (λ (l : List ℕ). take 64 other ++ l) back

@@ -12,7 +12,7 @@ pub place_most : (draft : List Renewal) (slave : ℕ) → place_of draft slave �
 place_most [] slave = omega arith
 place_most (first ∷ others) slave = elim (cases_lt first.slave slave) [
   | inl below ↦ rw (lt-ltb first.slave slave below) (omega (arith, place_most others slave))
-  | inr behind ↦ rw (le-ltb first.slave slave behind) (omega arith)
+  | inr after ↦ rw (le-ltb first.slave slave after) (omega arith)
 ]
 
 -- one renewal more is of a slave before this one
@@ -22,7 +22,7 @@ place_next draft slave k d h below = rw (drop_more draft k d h, lt-ltb (get_or d
 
 -- no more of them are
 pub place_here : (draft : List Renewal) (slave k : ℕ) (d : Renewal) → k < length draft → slave ≤ (get_or draft k d).slave → place_of (drop k draft) slave ≡ 0
-place_here draft slave k d h behind = rw (drop_more draft k d h, le-ltb (get_or draft k d).slave slave behind) refl
+place_here draft slave k d h after = rw (drop_more draft k d h, le-ltb (get_or draft k d).slave slave after) refl
 
 abbrev pub renewal_over : Renewal → NewWords → Renewal
 renewal_over old new = record { slave = old.slave; new = over old.new new }
@@ -35,9 +35,9 @@ put_over (first ∷ others) slave new d h is = elim (cases_lt first.slave slave)
   | inl below ↦
       (let size = rw (lt-ltb first.slave slave below) at h in
       rw (lt-ltb first.slave slave below) (ap (λ (rest : List Renewal). first ∷ rest) (put_over others slave new d (omega (arith, size)) (rw (lt-ltb first.slave slave below) at is))))
-  | inr behind ↦
-      (let same : first.slave ≡ slave = rw (le-ltb first.slave slave behind) at is in
-      rw (le-ltb first.slave slave behind, eq-eqb first.slave slave same) refl)
+  | inr after ↦
+      (let same : first.slave ≡ slave = rw (le-ltb first.slave slave after) at is in
+      rw (le-ltb first.slave slave after, eq-eqb first.slave slave same) refl)
 ]
 
 -- a slave that has none gets its place
@@ -48,7 +48,7 @@ put_new (first ∷ others) slave new d other = elim (cases_lt first.slave slave)
   | inl below ↦
       (let later = rw (lt-ltb first.slave slave below) at other in
       rw (lt-ltb first.slave slave below) (ap (λ (rest : List Renewal). first ∷ rest) (put_new others slave new d (λ h. later (omega (arith, h))))))
-  | inr behind ↦
-      (let mine = rw (le-ltb first.slave slave behind) at other in
-      rw (le-ltb first.slave slave behind, ne_eqb first.slave slave (mine (omega arith))) refl)
+  | inr after ↦
+      (let mine = rw (le-ltb first.slave slave after) at other in
+      rw (le-ltb first.slave slave after, ne_eqb first.slave slave (mine (omega arith))) refl)
 ]

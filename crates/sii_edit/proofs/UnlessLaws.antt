@@ -3,24 +3,24 @@ use Rattle.std.proofs.Common.{◌≡◌, ◌≢◌, ◌⊎◌, ℕ, Bool, true, 
 use Rattle.sii_edit.specs.declared.refusal.Cause.{Cause}
 use Rattle.sii_edit.specs.declared.refusal.Cause.TheVariants.{Memory}
 use Rattle.sii_edit.specs.declared.refusal.Refusal.{Refusal}
-use Rattle.sii_edit.specs.Refusal.{unless, whole, placed, of_whole, of_place, then_judged, IsCauseOf, IsRefusalOf}
+use Rattle.sii_edit.specs.Refusal.{unless, entire, placed, of_entire, of_place, then_validated, IsCauseOf, IsRefusalOf}
 
 -- where no cause applies, it is what there is
 pub unless-ok : {A : Type 0} (tests : List (Bool × Cause)) (given new : A) → unless tests given ≡ Ok new → new ≡ given
-unless-ok [] given new judged = cc
-unless-ok ((true, cause) ∷ tests) given new judged = cc
-unless-ok ((false, cause) ∷ tests) given new judged = unless-ok tests given new judged
+unless-ok [] given new validated = cc
+unless-ok ((true, cause) ∷ tests) given new validated = cc
+unless-ok ((false, cause) ∷ tests) given new validated = unless-ok tests given new validated
 
 -- the causes don't depend on what there is
 pub unless-change : {A B : Type 0} (tests : List (Bool × Cause)) (given new : A) (other : B) → unless tests given ≡ Ok new → unless tests other ≡ Ok other
-unless-change [] given new other judged = refl
-unless-change ((true, cause) ∷ tests) given new other judged = cc
-unless-change ((false, cause) ∷ tests) given new other judged = unless-change tests given new other judged
+unless-change [] given new other validated = refl
+unless-change ((true, cause) ∷ tests) given new other validated = cc
+unless-change ((false, cause) ∷ tests) given new other validated = unless-change tests given new other validated
 
 pub unless-err : {A B : Type 0} (tests : List (Bool × Cause)) (given : A) (other : B) (cause : Cause) → unless tests given ≡ Err cause → unless tests other ≡ Err cause
-unless-err [] given other cause judged = cc
-unless-err ((true, first) ∷ tests) given other cause judged = cc
-unless-err ((false, first) ∷ tests) given other cause judged = unless-err tests given other cause judged
+unless-err [] given other cause validated = cc
+unless-err ((true, first) ∷ tests) given other cause validated = cc
+unless-err ((false, first) ∷ tests) given other cause validated = unless-err tests given other cause validated
 
 -- the first test, one way and the other
 pub unless-stop : {A : Type 0} (test : Bool) (cause : Cause) (tests : List (Bool × Cause)) (given : A) → test ≡ true → unless ((test, cause) ∷ tests) given ≡ Err cause
@@ -37,9 +37,9 @@ NoneHolds [] = Unit {0}
 NoneHolds (test ∷ tests) = (test.0 ≡ false) × NoneHolds tests
 
 pub none_holds : {A : Type 0} (tests : List (Bool × Cause)) (given new : A) → unless tests given ≡ Ok new → NoneHolds tests
-none_holds [] given new judged = tt
-none_holds ((true, cause) ∷ tests) given new judged = cc
-none_holds ((false, cause) ∷ tests) given new judged = (refl, none_holds tests given new judged)
+none_holds [] given new validated = tt
+none_holds ((true, cause) ∷ tests) given new validated = cc
+none_holds ((false, cause) ∷ tests) given new validated = (refl, none_holds tests given new validated)
 
 -- `Memory` is none of the causes
 abbrev pub NamesNoMemory : List (Bool × Cause) → Type 0
@@ -53,15 +53,15 @@ unless-not_memory ((false, cause) ∷ tests) given named = unless-not_memory tes
 
 -- ---- refusals
 
-pub whole_ok : {A : Type 0} (judged : Result A Cause) (new : A) → of_whole judged ≡ Ok new → judged ≡ Ok new
-whole_ok (Ok given) new is = cc
-whole_ok (Err cause) new is = cc
+pub complete_ok : {A : Type 0} (validated : Result A Cause) (new : A) → of_entire validated ≡ Ok new → validated ≡ Ok new
+complete_ok (Ok given) new is = cc
+complete_ok (Err cause) new is = cc
 
-pub whole_err : {A : Type 0} (judged : Result A Cause) (refusal : Refusal) → of_whole judged ≡ Err refusal → judged ≡ Err refusal.cause
-whole_err (Ok given) refusal is = cc
-whole_err (Err cause) refusal is = let same : whole cause ≡ refusal = cc in ap (λ (r : Refusal). Err r.cause) same
+pub complete_err : {A : Type 0} (validated : Result A Cause) (refusal : Refusal) → of_entire validated ≡ Err refusal → validated ≡ Err refusal.cause
+complete_err (Ok given) refusal is = cc
+complete_err (Err cause) refusal is = let same : entire cause ≡ refusal = cc in ap (λ (r : Refusal). Err r.cause) same
 
-pub place_ok : {A : Type 0} (place : ℕ) (judged : Result A Cause) (new : A) → of_place place judged ≡ Ok new → judged ≡ Ok new
+pub place_ok : {A : Type 0} (place : ℕ) (validated : Result A Cause) (new : A) → of_place place validated ≡ Ok new → validated ≡ Ok new
 place_ok place (Ok given) new is = cc
 place_ok place (Err cause) new is = cc
 
@@ -73,31 +73,31 @@ placed-cause : (place : ℕ) (cause : Cause) → (placed place cause).cause ≡ 
 placed-cause place Memory = refl
 placed-cause place cause = refl
 
-pub place_err : {A : Type 0} (place : ℕ) (judged : Result A Cause) (refusal : Refusal) → of_place place judged ≡ Err refusal → judged ≡ Err refusal.cause
+pub place_err : {A : Type 0} (place : ℕ) (validated : Result A Cause) (refusal : Refusal) → of_place place validated ≡ Err refusal → validated ≡ Err refusal.cause
 place_err place (Ok given) refusal is = cc
 place_err place (Err cause) refusal is =
     let same : placed place cause ≡ refusal = cc in
     ap (λ (c : Cause). Err c) (sym (placed-cause place cause) ∙ ap (λ (r : Refusal). r.cause) same)
 
 -- what was judged before what comes next
-pub then_ok : {A B E : Type 0} (judged : Result A E) (next : A → Result B E) (new : B) → then_judged judged next ≡ Ok new → (mid : A) × (judged ≡ Ok mid) × (next mid ≡ Ok new)
+pub then_ok : {A B E : Type 0} (validated : Result A E) (next : A → Result B E) (new : B) → then_validated validated next ≡ Ok new → (mid : A) × (validated ≡ Ok mid) × (next mid ≡ Ok new)
 then_ok (Ok mid) next new is = (mid, refl, is)
 then_ok (Err refusal) next new is = cc
 
-pub then_err : {A B E : Type 0} (judged : Result A E) (next : A → Result B E) (refusal : E) → then_judged judged next ≡ Err refusal
-    → (judged ≡ Err refusal) ⊎ ((mid : A) × (judged ≡ Ok mid) × (next mid ≡ Err refusal))
+pub then_err : {A B E : Type 0} (validated : Result A E) (next : A → Result B E) (refusal : E) → then_validated validated next ≡ Err refusal
+    → (validated ≡ Err refusal) ⊎ ((mid : A) × (validated ≡ Ok mid) × (next mid ≡ Err refusal))
 then_err (Ok mid) next refusal is = inr (mid, refl, is)
 then_err (Err first) next refusal is = inl cc
 
 -- a refusal of what is judged, in a group and of a command as a whole
-pub refused_at : {A : Type 0} (place : ℕ) (judged : Result A Cause) (cause : Cause) → IsCauseOf judged cause → IsRefusalOf (of_place place judged) (placed place cause)
-refused_at place judged cause (inl is) = inl (ap (of_place place) is)
-refused_at place judged cause (inr memory) = inr (ap (placed place) memory)
+pub refused_at : {A : Type 0} (place : ℕ) (validated : Result A Cause) (cause : Cause) → IsCauseOf validated cause → IsRefusalOf (of_place place validated) (placed place cause)
+refused_at place validated cause (inl is) = inl (ap (of_place place) is)
+refused_at place validated cause (inr memory) = inr (ap (placed place) memory)
 
-pub refused_whole : {A : Type 0} (judged : Result A Cause) (cause : Cause) → IsCauseOf judged cause → IsRefusalOf (of_whole judged) (whole cause)
-refused_whole judged cause (inl is) = inl (ap of_whole is)
-refused_whole judged cause (inr memory) = inr (ap whole memory)
+pub refused_complete : {A : Type 0} (validated : Result A Cause) (cause : Cause) → IsCauseOf validated cause → IsRefusalOf (of_entire validated) (entire cause)
+refused_complete validated cause (inl is) = inl (ap of_entire is)
+refused_complete validated cause (inr memory) = inr (ap entire memory)
 
-pub refused_then : {A B : Type 0} (judged : Result A Refusal) (next : A → Result B Refusal) (refusal : Refusal) → IsRefusalOf judged refusal → IsRefusalOf (then_judged judged next) refusal
-refused_then {A = A} judged next refusal (inl is) = inl (ap (λ (r : Result A Refusal). then_judged r next) is)
-refused_then {A = A} judged next refusal (inr memory) = inr memory
+pub refused_then : {A B : Type 0} (validated : Result A Refusal) (next : A → Result B Refusal) (refusal : Refusal) → IsRefusalOf validated refusal → IsRefusalOf (then_validated validated next) refusal
+refused_then {A = A} validated next refusal (inl is) = inl (ap (λ (r : Result A Refusal). then_validated r next) is)
+refused_then {A = A} validated next refusal (inr memory) = inr memory

@@ -62,18 +62,18 @@ all-front : (xs ys : List ℕ) → All IsWord (xs ++ ys) → All IsWord xs
 all-front [] ys all = All-nil IsWord
 all-front (x ∷ xs) ys all = All-cons IsWord x xs (All-head IsWord x (xs ++ ys) all) (all-front xs ys (All-tail IsWord x (xs ++ ys) all))
 
-all-behind : (xs ys : List ℕ) → All IsWord (xs ++ ys) → All IsWord ys
-all-behind [] ys all = all
-all-behind (x ∷ xs) ys all = all-behind xs ys (All-tail IsWord x (xs ++ ys) all)
+all-after : (xs ys : List ℕ) → All IsWord (xs ++ ys) → All IsWord ys
+all-after [] ys all = all
+all-after (x ∷ xs) ys all = all-after xs ys (All-tail IsWord x (xs ++ ys) all)
 
 members-fit : (ms : List Member) (rest : List ℕ) → All IsWord (chain_words ms ++ rest) → All MemberFits ms
 members-fit [] rest all = All-nil MemberFits
 members-fit (m ∷ ms) rest all =
     let chain = all-front (chain_words (m ∷ ms)) rest all in
-    let behind = All-tail IsWord (length m.content) (m.content ++ chain_words ms) (All-tail IsWord m.kind (length m.content ∷ m.content ++ chain_words ms) chain) in
+    let after = All-tail IsWord (length m.content) (m.content ++ chain_words ms) (All-tail IsWord m.kind (length m.content ∷ m.content ++ chain_words ms) chain) in
     let kind = All-head IsWord m.kind (length m.content ∷ m.content ++ chain_words ms) chain in
-    All-cons MemberFits m ms (record { kind = kind; content = all-front m.content (chain_words ms) behind })
-    (members-fit ms [] (subst (All IsWord) (sym (append-nil (chain_words ms))) (all-behind m.content (chain_words ms) behind)))
+    All-cons MemberFits m ms (record { kind = kind; content = all-front m.content (chain_words ms) after })
+    (members-fit ms [] (subst (All IsWord) (sym (append-nil (chain_words ms))) (all-after m.content (chain_words ms) after)))
 
 -- the categories that words have
 read-fit : (words : List ℕ) (ms : List Member) → members_of words ≡ Ok ms → All IsWord words → All MemberFits ms

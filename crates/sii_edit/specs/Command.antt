@@ -9,7 +9,7 @@ use Rattle.sii_edit.specs.Alias.{with_alias, is_unchecked}
 use Rattle.sii_edit.specs.Category.{is_absent, is_repeated, is_unfit, is_too_long, malformed_in, if_read, with_category}
 use Rattle.sii_edit.specs.Image.{with_front}
 use Rattle.sii_edit.specs.Guard.{is_other}
-use Rattle.sii_edit.specs.Refusal.{unless, whole, of_whole, of_place, then_judged}
+use Rattle.sii_edit.specs.Refusal.{unless, entire, of_entire, of_place, then_validated}
 use Rattle.sii_edit.specs.declared.command.Expect.{Expect}
 use Rattle.sii_edit.specs.declared.command.Edit.{Edit}
 use Rattle.sii_edit.specs.declared.command.Edit.TheVariants.{Alias, Category, Image}
@@ -93,7 +93,7 @@ edited plant expect edit =
 abbrev pub edits_from : ℕ → List (List ℕ) → List GuardedEdit → Result (List (List ℕ)) Refusal
 edits_from place plant [] = Ok plant
 edits_from place plant (first ∷ others) =
-    then_judged (of_place place (edited plant first.expect first.edit)) (λ new. edits_from (suc place) new others)
+    then_validated (of_place place (edited plant first.expect first.edit)) (λ new. edits_from (suc place) new others)
 
 -- why a group with this number of edits is refused, in order
 abbrev pub group_causes : ℕ → List (Bool × Cause)
@@ -104,7 +104,7 @@ group_causes count =
 
 -- a group is judged by its number of edits, and then edit by edit
 abbrev pub grouped : List (List ℕ) → List GuardedEdit → Result (List (List ℕ)) Refusal
-grouped plant edits = then_judged (of_whole (unless (group_causes (length edits)) plant)) (λ start. edits_from 0 start edits)
+grouped plant edits = then_validated (of_entire (unless (group_causes (length edits)) plant)) (λ start. edits_from 0 start edits)
 
 -- an edit without an expected identity
 abbrev pub unguarded : Edit → GuardedEdit
@@ -128,8 +128,8 @@ swapped plant a b =
 
 -- the new plant or the refusal, before the process image is judged
 abbrev pub carried_out : List (List ℕ) → Command → Result (List (List ℕ)) Refusal
-carried_out plant (One edit) = of_whole (edited plant None edit)
-carried_out plant (Swap a b) = of_whole (swapped plant a b)
+carried_out plant (One edit) = of_entire (edited plant None edit)
+carried_out plant (Swap a b) = of_entire (swapped plant a b)
 carried_out plant (Group edits) = grouped plant (map unguarded edits)
 carried_out plant (Guarded edits) = grouped plant edits
 
@@ -139,7 +139,7 @@ has_process_image plant = is_some (process_image plant)
 
 -- the new plant, refused if it has no process image
 abbrev pub with_process_image : Result (List (List ℕ)) Refusal → Result (List (List ℕ)) Refusal
-with_process_image (Ok new) = if has_process_image new then Ok new else Err (whole ImageOverLimit)
+with_process_image (Ok new) = if has_process_image new then Ok new else Err (entire ImageOverLimit)
 with_process_image (Err refusal) = Err refusal
 
 -- the outcome of a command: the new plant, or the refusal

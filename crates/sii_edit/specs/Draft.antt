@@ -68,16 +68,16 @@ IsDraftOf plant (first ∷ others) = (first.slave < length plant) × FitsWords (
 
 -- An edit of a slave answers what is judged: its new words, or a cause.
 abbrev pub Renews : Result (List ℕ) Cause → List ℕ → Result NewWords Cause → Type 0
-Renews judged words (Ok new) = judged ≡ Ok (renewed words new)
-Renews judged words (Err cause) = IsCauseOf judged cause
+Renews validated words (Ok new) = validated ≡ Ok (renewed words new)
+Renews validated words (Err cause) = IsCauseOf validated cause
 
 -- A step of a draft answers what is judged: the draft then makes the new plant, or it is unchanged.
 abbrev pub IsStep : List (List ℕ) → Result (List (List ℕ)) Cause → List Renewal → List Renewal → Result (Unit {0}) Cause → Type 0
-IsStep plant judged old new (Ok done) = IsDraftOf plant new × (judged ≡ Ok (drafted plant new))
-IsStep plant judged old new (Err cause) = IsCauseOf judged cause × (new ≡ old)
+IsStep plant validated old new (Ok done) = IsDraftOf plant new × (validated ≡ Ok (drafted plant new))
+IsStep plant validated old new (Err cause) = IsCauseOf validated cause × (new ≡ old)
 
 -- A command carried out in a draft answers what is judged: the draft then makes the new plant. What a refusal leaves in the
 -- draft isn't used.
 abbrev pub IsCarriedOut : List (List ℕ) → Result (List (List ℕ)) Refusal → List Renewal → Result (Unit {0}) Refusal → Type 0
-IsCarriedOut plant judged new (Ok done) = IsDraftOf plant new × (judged ≡ Ok (drafted plant new))
-IsCarriedOut plant judged new (Err refusal) = IsRefusalOf judged refusal
+IsCarriedOut plant validated new (Ok done) = IsDraftOf plant new × (validated ≡ Ok (drafted plant new))
+IsCarriedOut plant validated new (Err refusal) = IsRefusalOf validated refusal

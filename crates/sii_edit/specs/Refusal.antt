@@ -26,18 +26,18 @@ unless [] given = Ok given
 unless (test ∷ tests) given = if test.0 then Err test.1 else unless tests given
 
 -- a refusal of the command as a whole
-abbrev pub whole : Cause → Refusal
-whole cause = record { cause = cause; position = None }
+abbrev pub entire : Cause → Refusal
+entire cause = record { cause = cause; position = None }
 
 -- a refusal of the edit at this place of a group; `Memory` has no place
 abbrev pub placed : ℕ → Cause → Refusal
-placed place Memory = whole Memory
+placed place Memory = entire Memory
 placed place cause = record { cause = cause; position = Some place }
 
 -- a cause as a refusal of the command as a whole
-abbrev pub of_whole : {A : Type 0} → Result A Cause → Result A Refusal
-of_whole (Ok given) = Ok given
-of_whole (Err cause) = Err (whole cause)
+abbrev pub of_entire : {A : Type 0} → Result A Cause → Result A Refusal
+of_entire (Ok given) = Ok given
+of_entire (Err cause) = Err (entire cause)
 
 -- a cause as a refusal of the edit at this place of a group
 abbrev pub of_place : {A : Type 0} → ℕ → Result A Cause → Result A Refusal
@@ -45,23 +45,23 @@ of_place place (Ok given) = Ok given
 of_place place (Err cause) = Err (placed place cause)
 
 -- what is judged next, unless there is a refusal
-abbrev pub then_judged : {A B E : Type 0} → Result A E → (A → Result B E) → Result B E
-then_judged (Ok given) next = next given
-then_judged (Err refusal) next = Err refusal
+abbrev pub then_validated : {A B E : Type 0} → Result A E → (A → Result B E) → Result B E
+then_validated (Ok given) next = next given
+then_validated (Err refusal) next = Err refusal
 
 -- The cause is the judged one, or `Memory`, which may come in place of any answer.
 abbrev pub IsCauseOf : {A : Type 0} → Result A Cause → Cause → Type 0
-IsCauseOf judged cause = (judged ≡ Err cause) ⊎ (cause ≡ Memory)
+IsCauseOf validated cause = (validated ≡ Err cause) ⊎ (cause ≡ Memory)
 
 -- The answer is what is judged, or `Memory`.
 abbrev pub IsAnswer : {A : Type 0} → Result A Cause → Result A Cause → Type 0
-IsAnswer judged (Ok given) = judged ≡ Ok given
-IsAnswer judged (Err cause) = IsCauseOf judged cause
+IsAnswer validated (Ok given) = validated ≡ Ok given
+IsAnswer validated (Err cause) = IsCauseOf validated cause
 
 -- The answer is the first cause whose test holds, or success if none does; or `Memory`.
-abbrev pub IsJudgement : List (Bool × Cause) → Result (Unit {0}) Cause → Type 0
-IsJudgement tests result = IsAnswer (unless tests tt) result
+abbrev pub IsVerdict : List (Bool × Cause) → Result (Unit {0}) Cause → Type 0
+IsVerdict tests result = IsAnswer (unless tests tt) result
 
 -- The refusal is the judged one, or `Memory`, which may come in place of any answer.
 abbrev pub IsRefusalOf : {A : Type 0} → Result A Refusal → Refusal → Type 0
-IsRefusalOf judged refusal = (judged ≡ Err refusal) ⊎ (refusal ≡ whole Memory)
+IsRefusalOf validated refusal = (validated ≡ Err refusal) ⊎ (refusal ≡ entire Memory)

@@ -3,7 +3,7 @@ ghost use Rattle.sii_words.specs.CheckByte.{IsChecked};
 ghost use Rattle.sii_edit.specs.Alias.{ChangesAlias, with_alias, with_low_byte};
 ghost use Rattle.sii_edit.specs.Command.{alias_causes};
 ghost use Rattle.sii_edit.specs.Draft.{Renews};
-ghost use Rattle.sii_edit.specs.Refusal.{unless, whole};
+ghost use Rattle.sii_edit.specs.Refusal.{unless, entire};
 
 use crate::command::Expect;
 use crate::draft::NewWords;
@@ -27,11 +27,11 @@ pub(crate) fn with_low_byte(word: u16, byte: u8) -> u16
 pub fn alias_image(image: &mut ImageFile, value: u16) -> Result<(), Refusal>
     ensures accepted { IsOk result ↔ IsChecked image.old }
     ensures changed { OnOk result (ChangesAlias image.old value image.new) }
-    ensures refused { IsOkUnless result (whole Cause.BadCheck) }
+    ensures refused { IsOkUnless result (entire Cause.BadCheck) }
     ensures unchanged { OnErr result (image.new ≡ image.old) }
 {
     if !image.check_ok() {
-        return Err(Refusal::whole(Cause::BadCheck));
+        return Err(Refusal::entire(Cause::BadCheck));
     }
     let seven = image.as_slice()[7];
     image.set(4, value);

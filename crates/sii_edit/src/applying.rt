@@ -9,7 +9,7 @@ ghost use Rattle.sii_image.specs.NewLayouts.{with_each};
 use crate::command::Command;
 use crate::draft::Draft;
 use crate::group::{edit_all, edit_guarded};
-use crate::layouts::judged_layouts;
+use crate::layouts::validated_layouts;
 use crate::refusal::Refusal;
 use sii_image::{Layout, NewLayouts};
 use sii_words::{Plant, Run, redo};
@@ -58,7 +58,7 @@ pub fn changes(
 {
     let mut draft = Draft::new(alloc);
     carry_out(&mut draft, alloc, plant, command)?;
-    let layouts = judged_layouts(alloc, &draft, plant, layout)?;
+    let layouts = validated_layouts(alloc, &draft, plant, layout)?;
     let runs = draft.runs(alloc, plant)?;
     Ok(Change { runs, layouts })
 }
@@ -93,8 +93,10 @@ fn carry_out(
     ensures { IsCarriedOut plant.now (carried_out (drafted plant.now draft.old) command.now) draft.new result }
 {
     match command {
-        Command::One(edit) => draft.edit(alloc, plant, None, edit).map_err(Refusal::whole),
-        Command::Swap { a, b } => draft.swap(plant, *a, *b).map_err(Refusal::whole),
+        Command::One(edit) => draft
+            .edit(alloc, plant, None, edit)
+            .map_err(Refusal::entire),
+        Command::Swap { a, b } => draft.swap(plant, *a, *b).map_err(Refusal::entire),
         Command::Group(edits) => edit_all(draft, alloc, plant, edits.as_slice()),
         Command::Guarded(edits) => edit_guarded(draft, alloc, plant, edits.as_slice()),
     }

@@ -3,7 +3,7 @@ ghost use Rattle.sii_cats.specs.Chain.{end_of, member_of};
 ghost use Rattle.sii_cats.specs.steps.Chain.{members_of};
 ghost use Rattle.sii_edit.specs.Category.{first_malformed, malformed_in, is_malformed, is_unfit, with_category};
 ghost use Rattle.sii_edit.specs.Command.{category_causes};
-ghost use Rattle.sii_edit.specs.Refusal.{unless, IsAnswer, IsJudgement};
+ghost use Rattle.sii_edit.specs.Refusal.{unless, IsAnswer, IsVerdict};
 
 use crate::command::Expect;
 use crate::guard::is_other;
@@ -41,8 +41,8 @@ fn is_malformed(alloc: Global, kind: u16, content: &[u16]) -> Result<bool, Cause
 }
 
 /// Judges the type and the content that a category is to get.
-fn judge_content(alloc: Global, kind: u16, content: &[u16]) -> Result<(), Cause>
-    ensures { IsJudgement ((is_unfit kind content.now, Cause.BadCategory kind) ∷ []) result }
+fn validate_content(alloc: Global, kind: u16, content: &[u16]) -> Result<(), Cause>
+    ensures { IsVerdict ((is_unfit kind content.now, Cause.BadCategory kind) ∷ []) result }
 {
     if kind == END || is_malformed(alloc, kind, content)? {
         return Err(Cause::BadCategory { kind });
@@ -51,10 +51,10 @@ fn judge_content(alloc: Global, kind: u16, content: &[u16]) -> Result<(), Cause>
 }
 
 /// Judges the contents of these categories, which stand among the words.
-fn judge_contents(alloc: Global, words: &[u16], categories: &[Category]) -> Result<(), Cause>
+fn validate_contents(alloc: Global, words: &[u16], categories: &[Category]) -> Result<(), Cause>
     requires { All (λ c. end_of c ≤ length words.now) categories.now }
     ensures { let malformed = first_malformed (map (member_of words.now) categories.now) in
-        IsJudgement ((is_some malformed, Cause.BadCategory (unwrap_or malformed 0)) ∷ []) result }
+        IsVerdict ((is_some malformed, Cause.BadCategory (unwrap_or malformed 0)) ∷ []) result }
 {
     for category in categories {
         if is_malformed(alloc, category.kind, category.content(words))? {
@@ -67,14 +67,14 @@ fn judge_contents(alloc: Global, words: &[u16], categories: &[Category]) -> Resu
 }
 
 /// Judges the chain of categories among these words, and their contents.
-pub(crate) fn judge_chain(alloc: Global, words: &[u16]) -> Result<(), Cause>
+pub(crate) fn validate_chain(alloc: Global, words: &[u16]) -> Result<(), Cause>
     requires { 64 ≤ length words.now }
     ensures { let malformed = malformed_in (members_of words.now) in
-        IsJudgement ((is_some malformed, Cause.BadCategory (unwrap_or malformed 0)) ∷ (is_err (members_of words.now), Cause.BadChain) ∷ [])
+        IsVerdict ((is_some malformed, Cause.BadCategory (unwrap_or malformed 0)) ∷ (is_err (members_of words.now), Cause.BadChain) ∷ [])
         result }
 {
     let categories = chain(alloc, words)?;
-    judge_contents(alloc, words, &categories)
+    validate_contents(alloc, words, &categories)
 }
 
 /// The number of categories of a type.
@@ -110,7 +110,7 @@ fn exchanged(
     if count > 1 {
         return Err(Cause::SeveralCategories);
     }
-    judge_content(alloc, kind, content)?;
+    validate_content(alloc, kind, content)?;
     let place = place_of(categories, kind);
     let new = splice(alloc, words.as_slice(), place, kind, content)?;
     Ok(overwritten(words, &new))
@@ -134,7 +134,7 @@ pub(crate) fn recategorized(
         Ok(categories) => exchanged(alloc, words, &categories, kind, content),
         Err(ChainFault::Memory) => Err(Cause::Memory),
         Err(ChainFault::RunsOut { .. }) => {
-            judge_content(alloc, kind, content)?;
+            validate_content(alloc, kind, content)?;
             Err(Cause::BadChain)
         }
     }

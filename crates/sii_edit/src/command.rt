@@ -27,7 +27,7 @@ pub enum Edit {
         kind: u16,
         words: WordList,
     },
-    /// Writes `image` over the first words of `slave`. The words behind it stay.
+    /// Writes `image` over the first words of `slave`. The words after it stay.
     Image {
         slave: u16,
         image: ImageFile,
@@ -95,8 +95,8 @@ impl Edit {
                 words: content,
                 ..
             } => {
-                let whole = words.to_words()?;
-                let new = recategorized(alloc, expect, whole, *kind, content.as_slice())?;
+                let entire = words.to_words()?;
+                let new = recategorized(alloc, expect, entire, *kind, content.as_slice())?;
                 Ok(NewWords::Rewritten(new))
             }
             Edit::Image { image, .. } => {
@@ -149,7 +149,7 @@ impl GuardedEdit {
 }
 
 impl Command {
-    /// The slave that its edit of this place, from 0, may change; `None` behind the last one. A swap counts as two edits.
+    /// The slave that its edit of this place, from 0, may change; `None` after the last one. A swap counts as two edits.
     pub fn slave_at(&self, place: usize) -> Option<u16>
         ensures { result ≡ slice_get (slaves_of self.now) place }
     {

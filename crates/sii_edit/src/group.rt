@@ -1,7 +1,7 @@
 ghost use Rattle.std.specs.Prelude.{◌≡◌, ◌<◌, map};
 ghost use Rattle.sii_edit.specs.Command.{edited, group_causes, grouped, unguarded};
 ghost use Rattle.sii_edit.specs.Draft.{drafted, IsCarriedOut, IsDraftOf};
-ghost use Rattle.sii_edit.specs.Refusal.{of_place, of_whole, unless};
+ghost use Rattle.sii_edit.specs.Refusal.{of_place, of_entire, unless};
 
 use crate::command::{Edit, Expect, GuardedEdit};
 use crate::draft::Draft;
@@ -13,14 +13,14 @@ use std::alloc::Global;
 const MOST_EDITS: usize = 64;
 
 /// Judges the number of edits of a group.
-fn judge_count(count: usize) -> Result<(), Refusal>
-    ensures { result ≡ of_whole (unless (group_causes count) tt) }
+fn validate_count(count: usize) -> Result<(), Refusal>
+    ensures { result ≡ of_entire (unless (group_causes count) tt) }
 {
     if count == 0 {
-        return Err(Refusal::whole(Cause::EmptyGroup));
+        return Err(Refusal::entire(Cause::EmptyGroup));
     }
     if count > MOST_EDITS {
-        return Err(Refusal::whole(Cause::GroupTooLong));
+        return Err(Refusal::entire(Cause::GroupTooLong));
     }
     Ok(())
 }
@@ -54,7 +54,7 @@ pub(crate) fn edit_all(
     requires { IsDraftOf plant.now draft.old }
     ensures { IsCarriedOut plant.now (grouped (drafted plant.now draft.old) (map unguarded edits.now)) draft.new result }
 {
-    judge_count(edits.len())?;
+    validate_count(edits.len())?;
     for (place, edit) in edits.iter().enumerate() {
         edit_at(draft, alloc, plant, place, None, edit)?;
     }
@@ -71,7 +71,7 @@ pub(crate) fn edit_guarded(
     requires { IsDraftOf plant.now draft.old }
     ensures { IsCarriedOut plant.now (grouped (drafted plant.now draft.old) edits.now) draft.new result }
 {
-    judge_count(edits.len())?;
+    validate_count(edits.len())?;
     for (place, guarded) in edits.iter().enumerate() {
         edit_at(draft, alloc, plant, place, guarded.expect, &guarded.edit)?;
     }

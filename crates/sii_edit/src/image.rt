@@ -3,7 +3,7 @@ ghost use Rattle.sii_edit.specs.Command.{image_causes};
 ghost use Rattle.sii_edit.specs.Image.{with_front};
 ghost use Rattle.sii_edit.specs.Refusal.{unless, IsAnswer};
 
-use crate::category::judge_chain;
+use crate::category::validate_chain;
 use crate::command::Expect;
 use crate::guard::is_other;
 use crate::refusal::Cause;
@@ -21,7 +21,7 @@ pub(crate) fn overwritten(mut words: Words, front: &[u16]) -> Words
     words
 }
 
-/// The words of a slave with an image written over the first of them. The words behind the image stay.
+/// The words of a slave with an image written over the first of them. The words after the image stay.
 pub(crate) fn imaged(
     alloc: Global,
     expect: Option<Expect>,
@@ -40,6 +40,6 @@ pub(crate) fn imaged(
         return Err(Cause::WrongIdentity);
     }
     let new = overwritten(words, image.as_slice());
-    judge_chain(alloc, new.as_slice())?;
+    validate_chain(alloc, new.as_slice())?;
     Ok(new)
 }

@@ -58,7 +58,7 @@ fn new_layouts(
 }
 
 /// The layouts of all slaves that get new words, if the plant then has a process image.
-pub(crate) fn judged_layouts(
+pub(crate) fn validated_layouts(
     alloc: Global,
     draft: &Draft,
     plant: &Plant,
@@ -72,7 +72,7 @@ pub(crate) fn judged_layouts(
 {
     let new = new_layouts(alloc, draft, plant, layout)?;
     if !layout.has_process_image_with(&new) {
-        return Err(Refusal::whole(Cause::ImageOverLimit));
+        return Err(Refusal::entire(Cause::ImageOverLimit));
     }
     Ok(new)
 }

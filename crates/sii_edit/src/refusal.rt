@@ -1,5 +1,5 @@
 ghost use Rattle.std.specs.Prelude.{◌≡◌};
-ghost use Rattle.sii_edit.specs.Refusal.{placed, whole};
+ghost use Rattle.sii_edit.specs.Refusal.{placed, entire};
 
 use sii_cats::{CatFault, ChainFault};
 use std::alloc::{AllocError, AllocFailed};
@@ -88,8 +88,8 @@ impl fmt::Display for Refusal {
 
 impl Refusal {
     /// A refusal of the command as a whole.
-    pub(crate) fn whole(cause: Cause) -> Refusal
-        ensures { result ≡ whole cause }
+    pub(crate) fn entire(cause: Cause) -> Refusal
+        ensures { result ≡ entire cause }
     {
         Refusal {
             cause,
@@ -102,7 +102,7 @@ impl Refusal {
         ensures { result ≡ placed place cause }
     {
         match cause {
-            Cause::Memory => Refusal::whole(cause),
+            Cause::Memory => Refusal::entire(cause),
             _ => Refusal {
                 cause,
                 position: Some(place),
@@ -160,12 +160,12 @@ impl From<CatFault> for Cause {
 }
 
 impl From<AllocError> for Refusal {
-    ghost use Rattle.sii_edit.specs.Refusal.{whole};
+    ghost use Rattle.sii_edit.specs.Refusal.{entire};
     ghost use Rattle.sii_edit.specs.declared.refusal.Cause.TheVariants.{Memory};
 
-    ghost from_gives = { λ _ refusal. refusal ≡ whole Memory };
+    ghost from_gives = { λ _ refusal. refusal ≡ entire Memory };
 
     fn from(_: AllocError) -> Self {
-        Refusal::whole(Cause::Memory)
+        Refusal::entire(Cause::Memory)
     }
 }

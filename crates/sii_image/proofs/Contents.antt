@@ -49,7 +49,7 @@ sums_start words kind categories few = record {
   within = λ n lt. let none = get_or-replicate {A = ℕ} 16 n 0 0 (omega (arith, lt, length-replicate {A = ℕ} 16 0)) in omega (arith, none);
 }
 
--- the words of the next content and of those behind it
+-- the words of the next content and of those after it
 pub next_size : (words : List ℕ) (categories : List Category) (i : ℕ) (d : Category) → i < length categories
     → content_sizes words (drop i categories) ≡ length (content_of words (get_or categories i d)) + content_sizes words (drop (i + 1) categories)
 next_size words categories i d h =

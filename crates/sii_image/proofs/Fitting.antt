@@ -9,7 +9,7 @@ use Rattle.sii_image.specs.declared.rows.Row.{Row}
 use Rattle.sii_image.specs.ProcessData.{rows_of}
 use Rattle.sii_image.specs.ProcessImage.{all_rows, has_few_rows, is_towards, is_within_limits, rows_towards, size_of, slave_rows, total}
 use Rattle.sii_image.specs.steps.Weight.{weight_of, weight_of_rows, weight_of_all}
-use Rattle.sii_image.proofs.Placing.{rows_behind, total-append}
+use Rattle.sii_image.proofs.Placing.{rows_after, total-append}
 
 -- the bytes of all rows, slave by slave
 abbrev pub spent : List (List ℕ) → ℕ
@@ -41,13 +41,13 @@ both_ways number (row ∷ rows) =
       sum_by-cons size_of row rows,
     )
 
-both_of_all : (number : ℕ) (plant : List (List ℕ)) → total (rows_behind true number plant) + total (rows_behind false number plant) ≡ spent plant
+both_of_all : (number : ℕ) (plant : List (List ℕ)) → total (rows_after true number plant) + total (rows_after false number plant) ≡ spent plant
 both_of_all number [] = refl
 both_of_all number (words ∷ plant) =
     omega (
       arith,
-      total-append (slave_rows true (number, rows_of words)) (rows_behind true (number + 1) plant),
-      total-append (slave_rows false (number, rows_of words)) (rows_behind false (number + 1) plant),
+      total-append (slave_rows true (number, rows_of words)) (rows_after true (number + 1) plant),
+      total-append (slave_rows false (number, rows_of words)) (rows_after false (number + 1) plant),
       both_ways number (rows_of words),
       both_of_all (number + 1) plant,
       sum_by-cons (λ (w : List ℕ). sum_by size_of (rows_of w)) words plant,

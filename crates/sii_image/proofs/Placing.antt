@@ -73,9 +73,9 @@ slave_rows-left output slave rows i d h e =
     ∙ ap (rows_if output slave (get_or rows i d) (drop (i + 1) rows)) (towards_is output (get_or rows i d).output ∙ e)
 
 -- the outputs or the inputs of these slaves, the first with this number
-abbrev pub rows_behind : Bool → ℕ → List (List ℕ) → List (ℕ × Row)
-rows_behind output number slaves = flat_map (λ slave. slave_rows output (slave.0, rows_of slave.1)) (enumerate_from number slaves)
+abbrev pub rows_after : Bool → ℕ → List (List ℕ) → List (ℕ × Row)
+rows_after output number slaves = flat_map (λ slave. slave_rows output (slave.0, rows_of slave.1)) (enumerate_from number slaves)
 
-pub rows_behind-next : (output : Bool) (slaves : List (List ℕ)) (i : ℕ) (d : List ℕ) → i < length slaves
-    → rows_behind output i (drop i slaves) ≡ slave_rows output (i, rows_of (get_or slaves i d)) ++ rows_behind output (i + 1) (drop (i + 1) slaves)
-rows_behind-next output slaves i d h = ap (rows_behind output i) (drop_more slaves i d h)
+pub rows_after-next : (output : Bool) (slaves : List (List ℕ)) (i : ℕ) (d : List ℕ) → i < length slaves
+    → rows_after output i (drop i slaves) ≡ slave_rows output (i, rows_of (get_or slaves i d)) ++ rows_after output (i + 1) (drop (i + 1) slaves)
+rows_after-next output slaves i d h = ap (rows_after output i) (drop_more slaves i d h)

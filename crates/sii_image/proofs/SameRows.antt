@@ -8,8 +8,8 @@ use Rattle.sii_image.specs.declared.rows.Row.{Row}
 use Rattle.sii_image.specs.ProcessData.{contents_of_kind, managers_in, pdos_in, rows_of, rows_read}
 
 -- the rows of a chain with these words
-behind : List ℕ → List Row
-behind words = rows_read (do
+after : List ℕ → List Row
+after words = rows_read (do
   members ← items_of member_at words
   managers ← managers_in (contents_of_kind 41 members)
   outputs ← pdos_in (contents_of_kind 51 members)
@@ -17,18 +17,18 @@ behind words = rows_read (do
   Ok (record { managers = take 16 managers; outputs = outputs; inputs = inputs }))
 
 pub same_rows : (old new : List ℕ) → drop 64 old ≡ drop 64 new → rows_of old ≡ rows_of new
-unfolding behind rows_of
-same_rows old new same = ap behind same
+unfolding after rows_of
+same_rows old new same = ap after same
 
 -- words that compare equal are equal
-told : (same : Bool) (xs ys : List ℕ) → same ≡ pointwise nat_eq xs ys → IsTrue same → xs ≡ ys
-told true xs ys e h = same_text xs ys e
-told false xs ys e h = cc
+reported : (same : Bool) (xs ys : List ℕ) → same ≡ pointwise nat_eq xs ys → IsTrue same → xs ≡ ys
+reported true xs ys e h = same_text xs ys e
+reported false xs ys e h = cc
 
-whole : (words : List ℕ) → take (length words - 64) (drop 64 words) ≡ drop 64 words
-whole words = take_all (length words - 64) (drop 64 words) (omega (arith, length-drop 64 words))
+entire : (words : List ℕ) → take (length words - 64) (drop 64 words) ≡ drop 64 words
+entire words = take_all (length words - 64) (drop 64 words) (omega (arith, length-drop 64 words))
 
 -- words that compare equal from word 64 on are equal from there on
-pub told_behind : (same : Bool) (old new : List ℕ) → same ≡ pointwise nat_eq (take (length old - 64) (drop 64 old)) (take (length new - 64) (drop 64 new)) → IsTrue same
+pub reported_after : (same : Bool) (old new : List ℕ) → same ≡ pointwise nat_eq (take (length old - 64) (drop 64 old)) (take (length new - 64) (drop 64 new)) → IsTrue same
     → drop 64 old ≡ drop 64 new
-told_behind same old new e h = sym (whole old) ∙ told same (take (length old - 64) (drop 64 old)) (take (length new - 64) (drop 64 new)) e h ∙ whole new
+reported_after same old new e h = sym (entire old) ∙ reported same (take (length old - 64) (drop 64 old)) (take (length new - 64) (drop 64 new)) e h ∙ entire new

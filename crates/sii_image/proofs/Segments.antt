@@ -1,4 +1,4 @@
--- The segments of rows placed one behind the other are those with offsets as sums; and when the rows are within the limits.
+-- The segments of rows placed one after the other are those with offsets as sums; and when the rows are within the limits.
 use Rattle.std.specs.Prelude.{take, map, nat_le, ◌&&◌}
 use Rattle.std.specs.List.{enumerate_from, list_all}
 use Rattle.std.proofs.Common.{◌≡◌, ℕ, ◌+◌, ◌-◌, ◌≤◌, List, [], ◌∷◌, ◌++◌, length, sum_by, Bool, cond, Option, Some, None, true, false, refl, sym, ap, ◌∙◌, append_assoc, arith}
@@ -17,20 +17,20 @@ use Rattle.sii_image.proofs.Placing.{segments_from-append, total-append}
 abbrev placed_among : List (ℕ × Row) → ℕ → List (ℕ × Row) → List Segment
 placed_among all number rows = map (λ r. segment_at (total (take r.0 all)) r.1) (enumerate_from number rows)
 
-placed_behind : (before rows : List (ℕ × Row)) → placed_among (before ++ rows) (length before) rows ≡ segments_from (total before) rows
-placed_behind before [] = refl
-placed_behind before (r ∷ rows) =
+placed_after : (before rows : List (ℕ × Row)) → placed_among (before ++ rows) (length before) rows ≡ segments_from (total before) rows
+placed_after before [] = refl
+placed_after before (r ∷ rows) =
     let here : total (take (length before) (before ++ r ∷ rows)) ≡ total before = ap total (take_at before (r ∷ rows) (length before) refl) in
-    let behind : placed_among (before ++ r ∷ rows) (length before + 1) rows ≡ segments_from (total before + size_of r.1) rows =
+    let after : placed_among (before ++ r ∷ rows) (length before + 1) rows ≡ segments_from (total before + size_of r.1) rows =
     ap (λ (all : List (ℕ × Row)). placed_among all (length before + 1) rows) (sym (append_assoc before (r ∷ []) rows))
     ∙ ap (λ (n : ℕ). placed_among ((before ++ r ∷ []) ++ rows) n rows) (sym (length_push before r))
-    ∙ placed_behind (before ++ r ∷ []) rows
+    ∙ placed_after (before ++ r ∷ []) rows
     ∙ ap (λ (o : ℕ). segments_from o rows) (sum_by_push (λ (x : ℕ × Row). size_of x.1) before r) in
     ap (λ (o : ℕ). segment_at o r ∷ placed_among (before ++ r ∷ rows) (length before + 1) rows) here
-    ∙ ap (λ (rest : List Segment). segment_at (total before) r ∷ rest) behind
+    ∙ ap (λ (rest : List Segment). segment_at (total before) r ∷ rest) after
 
 pub segments_of-from : (rows : List (ℕ × Row)) → segments_from 0 rows ≡ segments_of rows
-segments_of-from rows = sym (placed_behind [] rows)
+segments_of-from rows = sym (placed_after [] rows)
 
 image_if : List (List ℕ) → Bool → Option ProcessImageParts
 image_if plant b = cond b (Some (placed plant)) None

@@ -97,12 +97,12 @@ at_most_bits true bits = omega arith
 at_most_bits false bits = omega arith
 
 -- one more PDO
-pub adds_more : (content old sums new rest behind : List ℕ) (pdo : Mapping) (words : ℕ) → Adding content old sums rest → pdo_at (bytes_of rest) ≡ Item pdo (bytes_of behind)
-    → pdo_bits pdo ≤ 64 * words → 4 + words + length behind ≡ length rest → new ≡ with_pdo sums pdo → Adding content old new behind
-adds_more content old sums new rest behind pdo words s front few size is =
+pub adds_more : (content old sums new rest after : List ℕ) (pdo : Mapping) (words : ℕ) → Adding content old sums rest → pdo_at (bytes_of rest) ≡ Item pdo (bytes_of after)
+    → pdo_bits pdo ≤ 64 * words → 4 + words + length after ≡ length rest → new ≡ with_pdo sums pdo → Adding content old new after
+adds_more content old sums new rest after pdo words s front few size is =
     record {
       read = s.read ++ pdo ∷ [];
-      joined = goes_on pdo_at pdo_shrinks s.read (bytes_of rest) pdo (bytes_of behind) (pdos_of content) front s.joined;
+      joined = goes_on pdo_at pdo_shrinks s.read (bytes_of rest) pdo (bytes_of after) (pdos_of content) front s.joined;
       sums_are = is ∙ ap (λ (x : List ℕ). with_pdo x pdo) s.sums_are ∙ sym (with_pdos-append old s.read (pdo ∷ []));
       most = λ m h n lt.
           let there : n < length sums = omega (arith, lt, ap length is, length-set sums pdo.manager (get_or sums pdo.manager 0 + pdo_bits pdo)) in
@@ -113,13 +113,13 @@ adds_more content old sums new rest behind pdo words s front few size is =
     }
 
 -- one more PDO, of a sync manager that has no sum
-pub adds_none : (content old sums rest behind : List ℕ) (pdo : Mapping) → Adding content old sums rest → pdo_at (bytes_of rest) ≡ Item pdo (bytes_of behind)
-    → length behind ≤ length rest → length sums ≤ pdo.manager → Adding content old sums behind
-adds_none content old sums rest behind pdo s front size past =
+pub adds_none : (content old sums rest after : List ℕ) (pdo : Mapping) → Adding content old sums rest → pdo_at (bytes_of rest) ≡ Item pdo (bytes_of after)
+    → length after ≤ length rest → length sums ≤ pdo.manager → Adding content old sums after
+adds_none content old sums rest after pdo s front size past =
     let same : sums ≡ with_pdo sums pdo = sym (set_past sums pdo.manager (get_or sums pdo.manager 0 + pdo_bits pdo) past) in
     record {
       read = s.read ++ pdo ∷ [];
-      joined = goes_on pdo_at pdo_shrinks s.read (bytes_of rest) pdo (bytes_of behind) (pdos_of content) front s.joined;
+      joined = goes_on pdo_at pdo_shrinks s.read (bytes_of rest) pdo (bytes_of after) (pdos_of content) front s.joined;
       sums_are = same ∙ ap (λ (x : List ℕ). with_pdo x pdo) s.sums_are ∙ sym (with_pdos-append old s.read (pdo ∷ []));
       most = λ m h n lt. omega (arith, size, s.left, s.most m h n lt);
       left = omega (arith, s.left, size);

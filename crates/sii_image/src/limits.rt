@@ -13,8 +13,8 @@ use crate::placement::MOST_BYTES;
 use crate::rows::{MOST_ROWS, Row};
 use crate::slave_layout::SlaveLayout;
 
-/// What is left of this many bytes behind these rows, or `None` if the rows don't fit.
-fn left_behind(bytes: u32, rows: &[Row]) -> Option<u32>
+/// What is left of this many bytes after these rows, or `None` if the rows don't fit.
+fn left_after(bytes: u32, rows: &[Row]) -> Option<u32>
     ensures { MatchOption result (bytes < sum_by size_of rows.now) (λ left. left + sum_by size_of rows.now ≡ bytes) }
 {
     let mut left = bytes;
@@ -36,7 +36,7 @@ fn weight_of_rows(rows: &[Row]) -> u32
     if rows.len() > MOST_ROWS {
         return MOST_BYTES + 1;
     }
-    match left_behind(MOST_BYTES, rows) {
+    match left_after(MOST_BYTES, rows) {
         Some(left) => MOST_BYTES - left,
         None => MOST_BYTES + 1,
     }

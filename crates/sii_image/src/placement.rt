@@ -1,4 +1,4 @@
-//! Places rows one behind the other in a process image.
+//! Places rows one after the other in a process image.
 
 ghost use Rattle.std.specs.Prelude.{◌≡◌, ◌≤◌, [], ◌∷◌, length};
 ghost use Rattle.sii_image.specs.ProcessImage.{slave_rows, rows_towards};
@@ -37,7 +37,7 @@ impl Placement {
         }
     }
 
-    /// Places one row of this slave behind those placed so far.
+    /// Places one row of this slave after those placed so far.
     fn add(&mut self, slave: u16, row: Row) -> Result<(), ImageFault>
         ensures { Places self.old self.new ((slave, row) ∷ []) result }
     {

@@ -85,12 +85,12 @@ fn add_pdos(sums: &mut [u32], kind: u16, content: &[u16]) -> Result<(), CatFault
     ensures most { OnOk result ((most : ℕ) → AreWithin sums.old most → AreWithin sums.new (most + 64 * length content.now)) }
 {
     let mut rest = content;
-    while let Some((head, entries, behind)) = front_pdo(kind, rest)? {
+    while let Some((head, entries, after)) = front_pdo(kind, rest)? {
         let number = usize::from(head.manager);
         if number < sums.len() {
             sums[number] += bits_of_entries(entries);
         }
-        rest = behind;
+        rest = after;
     }
     Ok(())
 }

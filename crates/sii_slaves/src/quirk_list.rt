@@ -15,7 +15,7 @@ struct Item<'a> {
     /// None: of all.
     slave: Option<u32>,
     name: &'a str,
-    /// The number behind an equals sign.
+    /// The number after an equals sign.
     number: Option<u32>,
 }
 
@@ -74,7 +74,7 @@ fn with_number(quirks: Quirks, name: &str, number: u32) -> Option<Quirks> {
         "busy" => with.delay = number,
         "missed" => with.first_missed = number,
         "each" => with.each_missed = number,
-        "restarts" => with.loss = PowerLoss::Behind(number),
+        "restarts" => with.loss = PowerLoss::After(number),
         "cut" => with.loss = PowerLoss::InWord(number),
         "chip" if number >= 1 && number <= 65_536 => with.chip = Some(number),
         "state" if number < 32 => with.state = (number % 32) as u8,
@@ -134,8 +134,8 @@ impl<'a> QuirkList<'a> {
                 },
             ) = item_of(text)
             {
-                let behind = (slave % 65536) as u16;
-                return Some(Cable { behind, frames });
+                let after = (slave % 65536) as u16;
+                return Some(Cable { after, frames });
             }
         }
         None

@@ -115,8 +115,8 @@ fn load_slave<S: Store>(
 /// The moment, in microseconds.
 fn moment<C: Clock>(clock: &C) -> Result<u64, Fault> {
     let now = clock.monotonic()?;
-    let whole = now.as_secs().saturating_mul(1_000_000);
-    Ok(whole.saturating_add(u64::from(now.subsec_micros())))
+    let entire = now.as_secs().saturating_mul(1_000_000);
+    Ok(entire.saturating_add(u64::from(now.subsec_micros())))
 }
 
 /// Opens the files `names`, of which these contents were read, in order.

@@ -107,7 +107,7 @@ fn serve_task<
     let terminal = if is_terminal { Some(*faults) } else { None };
     let screen = Screen {
         faults,
-        is_told: arguments.is_verbose || is_terminal,
+        is_reported: arguments.is_verbose || is_terminal,
         terminal,
     };
     serve_on_wire(rt, arguments, screen, connection, &mut files, text) as u8

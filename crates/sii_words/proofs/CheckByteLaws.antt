@@ -16,7 +16,7 @@ check_byte_same words others same =
 
 -- so words from 7 on may change
 pub check_byte_of-set : (words : List ℕ) (at value : ℕ) → 7 ≤ at → check_byte_of (set words at value) ≡ check_byte_of words
-check_byte_of-set words at value behind = check_byte_same (set words at value) words (take-set-le 7 words at value behind)
+check_byte_of-set words at value after = check_byte_same (set words at value) words (take-set-le 7 words at value after)
 
 -- words 0 to 6 with another word 4 are enough
 pub check_byte_of-front : (words front : List ℕ) (alias : ℕ) → front ≡ take 7 words → check_byte_of (set front 4 alias) ≡ check_byte_of (set words 4 alias)
@@ -58,10 +58,10 @@ spelt_below (false ∷ bits) number =
 pub check_byte_below : (words : List ℕ) → check_byte_of words < 256
 unfolding check_byte_of dividend
 check_byte_below words =
-    let whole = flat_map bits_of_byte (bytes_of (take 7 words)) ++ bits_of_byte 0 in
+    let entire = flat_map bits_of_byte (bytes_of (take 7 words)) ++ bits_of_byte 0 in
     let size : length (dividend words) ≤ 120 = omega (
       arith,
-      length-minus whole (bits_of_byte 255),
+      length-minus entire (bits_of_byte 255),
       length-append (flat_map bits_of_byte (bytes_of (take 7 words))) (bits_of_byte 0),
       length-bits (bytes_of (take 7 words)),
       length-bytes_of (take 7 words),

@@ -41,7 +41,7 @@ given_longer run slave at word s w of first = elim (cases_eq slave s) [
   | inl same ↦ elim (cases_order w at) [
     | inl here ↦ rw (given_word (longer slave at word run) s w same (omega arith), first_get word run.words (w - at) (omega arith), given_before run s w (omega arith), given_word (one_word slave at word) s w same (omega arith), first_get word [] (w - at) (omega arith)) refl
     | inr (inl before) ↦ rw (given_before (longer slave at word run) s w before, given_before run s w (omega arith), given_before (one_word slave at word) s w before) refl
-    | inr (inr behind) ↦ rw (given_word (longer slave at word run) s w same (omega arith), next_get word run.words (w - at) (w - run.first) (omega arith), given_word run s w (of ∙ same) (omega arith), given_word (one_word slave at word) s w same (omega arith), next_get word [] (w - at) (w - run.first) (omega arith), option_or-none (slice_get run.words (w - run.first))) refl
+    | inr (inr after) ↦ rw (given_word (longer slave at word run) s w same (omega arith), next_get word run.words (w - at) (w - run.first) (omega arith), given_word run s w (of ∙ same) (omega arith), given_word (one_word slave at word) s w same (omega arith), next_get word [] (w - at) (w - run.first) (omega arith), option_or-none (slice_get run.words (w - run.first))) refl
   ]
 ]
 
@@ -69,7 +69,7 @@ given_appended run word s w = elim (cases_eq run.slave s) [
   | inr other ↦ rw (given_other appended s w other, given_other last s w other, given_other run s w other) refl
   | inl same ↦ elim (cases_lt w run.first) [
     | inl before ↦ rw (given_before appended s w before, given_before last s w (omega arith), given_before run s w before) refl
-    | inr there ↦ rw (given_word appended s w same there, given_word run s w same there) (behind same there (cases_order w (run.first + length run.words)))
+    | inr there ↦ rw (given_word appended s w same there, given_word run s w same there) (after same there (cases_order w (run.first + length run.words)))
   ]
 ]
   where
@@ -79,13 +79,13 @@ given_appended run word s w = elim (cases_eq run.slave s) [
     last : Run
     last = one_word run.slave (run.first + length run.words) word
 
-    behind : run.slave ≡ s → run.first ≤ w → (w ≡ run.first + length run.words) ⊎ ((w < run.first + length run.words) ⊎ (run.first + length run.words < w))
+    after : run.slave ≡ s → run.first ≤ w → (w ≡ run.first + length run.words) ⊎ ((w < run.first + length run.words) ⊎ (run.first + length run.words < w))
         → slice_get (run.words ++ word ∷ []) (w - run.first) ≡ option_or (given_by (one_word run.slave (run.first + length run.words) word) s w) (slice_get run.words (w - run.first))
-    behind same there (inl is) =
+    after same there (inl is) =
         rw (get_last run.words word (w - run.first) (omega arith), given_word last s w same (omega arith), first_get word [] (w - (run.first + length run.words)) (omega arith)) refl
-    behind same there (inr (inl inside)) =
+    after same there (inr (inl inside)) =
         rw (get_inside run.words word (w - run.first) (omega arith), given_before last s w inside) refl
-    behind same there (inr (inr past)) =
+    after same there (inr (inr past)) =
         rw (slice_get_past (run.words ++ word ∷ []) (w - run.first) (omega (arith, length-append run.words (word ∷ []))), slice_get_past run.words (w - run.first) (omega arith), given_word last s w same (omega arith), slice_get_past (word ∷ []) (w - (run.first + length run.words)) (omega arith)) refl
 
 -- a run without words changes nothing

@@ -7,7 +7,7 @@ use Rattle.std.proofs.lemmas.Option.{slice_get_past}
 use Rattle.std.proofs.lemmas.List.Elements.{All-nil, All-append, All-weaker}
 use Rattle.sii_words.specs.Plant.{words_of}
 use Rattle.sii_words.specs.declared.run.Run.{Run}
-use Rattle.sii_words.specs.Redo.{given_by, last_given, redone, LiesInside, SameShape, AreApart}
+use Rattle.sii_words.specs.Redo.{given_by, last_given, redone, LiesInside, SameShape, AreSeparate}
 use Rattle.sii_words.specs.Run.{stretches, runs_from, runs_between, StandsBefore, change}
 use Rattle.sii_words.proofs.RedoLaws.{last_given-append, option_or-none, same_plants, word-redone, length-redone, length-words_of-redone}
 use Rattle.sii_words.proofs.StretchLaws.{AllPairs-append, AllPairs-nil, Within, Within-stretches, last_given-stretches, other_change, owned_stretches, rising-stretches, same_change, stretches-elsewhere}
@@ -139,17 +139,17 @@ next_slave done all slave olds news size within is =
     append_assoc done mine (runs_from (slave + 1) (drop (slave + 1) olds) (drop (slave + 1) news)) ∙ ap (λ (runs : List Run). done ++ runs) (sym more) ∙ is
 
 -- runs of which one stands before the other name no word both
-AreApart-from_StandsBefore : (run other : Run) → StandsBefore run other → AreApart run other
-AreApart-from_StandsBefore run other before = λ slave at named. one slave at named before (cases_eq run.slave slave) (cases_lt at other.first)
+AreSeparate-from_StandsBefore : (run other : Run) → StandsBefore run other → AreSeparate run other
+AreSeparate-from_StandsBefore run other before = λ slave at named. one slave at named before (cases_eq run.slave slave) (cases_lt at other.first)
   where
     one : (slave at : ℕ) → given_by run slave at ≢ None → StandsBefore run other → (run.slave ≡ slave) ⊎ (run.slave ≢ slave) → (at < other.first) ⊎ (other.first ≤ at) → given_by other slave at ≡ None
     one slave at named earlier (inr away) place = absurd (named (given_other run slave at away))
     one slave at named (inl lower) (inl mine) place = given_other other slave at (λ same. absurd (omega arith))
-    one slave at named (inr (same, behind)) (inl mine) (inl ahead) = given_before other slave at ahead
-    one slave at named (inr (same, behind)) (inl mine) (inr there) =
+    one slave at named (inr (same, after)) (inl mine) (inl ahead) = given_before other slave at ahead
+    one slave at named (inr (same, after)) (inl mine) (inr there) =
         absurd (named (given_word run slave at mine (omega arith) ∙ slice_get_past run.words (at - run.first) (omega arith)))
 
 -- no word is named twice
-pub apart-runs_between : (old new : List (List ℕ)) → AllPairs AreApart (runs_between old new)
-apart-runs_between old new = λ i j d before within.
-    AreApart-from_StandsBefore (get_or (runs_between old new) i d) (get_or (runs_between old new) j d) (rising-runs_between old new i j d before within)
+pub separate-runs_between : (old new : List (List ℕ)) → AllPairs AreSeparate (runs_between old new)
+separate-runs_between old new = λ i j d before within.
+    AreSeparate-from_StandsBefore (get_or (runs_between old new) i d) (get_or (runs_between old new) j d) (rising-runs_between old new i j d before within)

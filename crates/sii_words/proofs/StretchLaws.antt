@@ -21,8 +21,8 @@ pub record Within (owner from end : ℕ) (run : Run) : Type 0 where
 with_first-joined : (slave at word : ℕ) (run : Run) (runs : List Run) → run.first ≡ suc at → with_first slave at word (run ∷ runs) ≡ longer slave at word run ∷ runs
 with_first-joined slave at word run runs next = grind (arith, nat_tests)
 
-with_first-apart : (slave at word : ℕ) (run : Run) (runs : List Run) → run.first ≢ suc at → with_first slave at word (run ∷ runs) ≡ one_word slave at word ∷ run ∷ runs
-with_first-apart slave at word run runs apart = grind (arith, nat_tests)
+with_first-separate : (slave at word : ℕ) (run : Run) (runs : List Run) → run.first ≢ suc at → with_first slave at word (run ∷ runs) ≡ one_word slave at word ∷ run ∷ runs
+with_first-separate slave at word run runs separate = grind (arith, nat_tests)
 
 same_front : (slave at old new : ℕ) (olds news : List ℕ) → old ≡ new → stretches slave at (old ∷ olds) (new ∷ news) ≡ stretches slave (suc at) olds news
 same_front slave at old new olds news same = grind (arith, nat_tests)
@@ -36,7 +36,7 @@ last_given-with_first : (slave at word : ℕ) (runs : List Run) (s w : ℕ) → 
 last_given-with_first slave at word [] s w of = refl
 last_given-with_first slave at word (run ∷ runs) s w of = elim (cases_eq run.first (suc at)) [
   | inl next ↦ rw (with_first-joined slave at word run runs next, given_longer run slave at word s w (All-head (λ r. r.slave ≡ slave) run runs of) next) (sym (option_or-assoc (last_given runs s w) (given_by run s w) (given_by (one_word slave at word) s w)))
-  | inr apart ↦ rw (with_first-apart slave at word run runs apart) refl
+  | inr separate ↦ rw (with_first-separate slave at word run runs separate) refl
 ]
 
 Within-later : (owner from end : ℕ) (run : Run) → Within owner (suc from) end run → Within owner from end run
@@ -52,7 +52,7 @@ Within-with_first : (owner at end word : ℕ) (runs : List Run) → at < end →
 Within-with_first owner at end word [] inside within = All-cons (Within owner at end) (one_word owner at word) [] (Within-one owner at end word inside) (All-nil (Within owner at end))
 Within-with_first owner at end word (run ∷ runs) inside within = elim (cases_eq run.first (suc at)) [
   | inl next ↦ rw (with_first-joined owner at word run runs next) (All-cons (Within owner at end) (longer owner at word run) runs (Within-longer owner at end word run here next) (All-tail (Within owner at end) run runs later))
-  | inr apart ↦ rw (with_first-apart owner at word run runs apart) (All-cons (Within owner at end) (one_word owner at word) (run ∷ runs) (Within-one owner at end word inside) later)
+  | inr separate ↦ rw (with_first-separate owner at word run runs separate) (All-cons (Within owner at end) (one_word owner at word) (run ∷ runs) (Within-one owner at end word inside) later)
 ]
   where
     here : Within owner (suc at) end run
@@ -138,33 +138,33 @@ AllPairs-append {X} R (x ∷ xs) ys first second across =
 -- the run with one more word in front stands before the same runs
 StandsBefore-longer : (slave at word : ℕ) (run : Run) → run.slave ≡ slave → run.first ≡ suc at → (other : Run) → StandsBefore run other → StandsBefore (longer slave at word run) other
 StandsBefore-longer slave at word run of next other (inl before) = inl (omega arith)
-StandsBefore-longer slave at word run of next other (inr (same, behind)) = inr (sym of ∙ same, omega arith)
+StandsBefore-longer slave at word run of next other (inr (same, afterwards)) = inr (sym of ∙ same, omega arith)
 
 -- a run of one word stands before those that begin behind the next word
 StandsBefore-one : (slave at word : ℕ) (other : Run) → other.slave ≡ slave → suc at < other.first → StandsBefore (one_word slave at word) other
-StandsBefore-one slave at word other of behind = inr (sym of, omega arith)
+StandsBefore-one slave at word other of afterwards = inr (sym of, omega arith)
 
-behind_first : (owner from end at : ℕ) (run other : Run) → run.slave ≡ owner → at < run.first → Within owner from end other → StandsBefore run other → at < other.first
-behind_first owner from end at run other of behind within (inl before) = absurd (omega (arith, within.owned))
-behind_first owner from end at run other of behind within (inr (same, after)) = omega arith
+after_first : (owner from end at : ℕ) (run other : Run) → run.slave ≡ owner → at < run.first → Within owner from end other → StandsBefore run other → at < other.first
+after_first owner from end at run other of afterwards within (inl before) = absurd (omega (arith, within.owned))
+after_first owner from end at run other of afterwards within (inr (same, after)) = omega arith
 
--- those that begin behind the next word all stand behind this one
+-- those that begin after the next word all stand behind this one
 ahead_of_all : (slave at word end : ℕ) (run : Run) (runs : List Run) → run.first ≢ suc at → All (Within slave (suc at) end) (run ∷ runs) → All (StandsBefore run) runs
     → All (StandsBefore (one_word slave at word)) (run ∷ runs)
-ahead_of_all slave at word end run runs apart within before =
+ahead_of_all slave at word end run runs separate within before =
     let here : Within slave (suc at) end run = All-head (Within slave (suc at) end) run runs within in
-    let behind : suc at < run.first = omega (arith, here.begins) in
-    All-cons (StandsBefore (one_word slave at word)) run runs (StandsBefore-one slave at word run here.owned behind)
+    let afterwards : suc at < run.first = omega (arith, here.begins) in
+    All-cons (StandsBefore (one_word slave at word)) run runs (StandsBefore-one slave at word run here.owned afterwards)
     (λ k d inside.
     let other : Run = get_or runs k d in
     let there : Within slave (suc at) end other = All-tail (Within slave (suc at) end) run runs within k d inside in
-    StandsBefore-one slave at word other there.owned (behind_first slave (suc at) end (suc at) run other here.owned behind there (before k d inside)))
+    StandsBefore-one slave at word other there.owned (after_first slave (suc at) end (suc at) run other here.owned afterwards there (before k d inside)))
 
 rising-with_first : (slave at end word : ℕ) (runs : List Run) → All (Within slave (suc at) end) runs → AllPairs StandsBefore runs → AllPairs StandsBefore (with_first slave at word runs)
 rising-with_first slave at end word [] within rising = AllPairs-cons StandsBefore (one_word slave at word) [] (All-nil (StandsBefore (one_word slave at word))) rising
 rising-with_first slave at end word (run ∷ runs) within rising = elim (cases_eq run.first (suc at)) [
   | inl next ↦ rw (with_first-joined slave at word run runs next) (AllPairs-cons StandsBefore (longer slave at word run) runs (All-weaker (StandsBefore run) (StandsBefore (longer slave at word run)) (StandsBefore-longer slave at word run owned next) runs before) (AllPairs-tail StandsBefore run runs rising))
-  | inr apart ↦ rw (with_first-apart slave at word run runs apart) (AllPairs-cons StandsBefore (one_word slave at word) (run ∷ runs) (ahead_of_all slave at word end run runs apart within before) rising)
+  | inr separate ↦ rw (with_first-separate slave at word run runs separate) (AllPairs-cons StandsBefore (one_word slave at word) (run ∷ runs) (ahead_of_all slave at word end run runs separate within before) rising)
 ]
   where
     before : All (StandsBefore run) runs
@@ -186,17 +186,17 @@ pub stretches-same : (slave at : ℕ) (words : List ℕ) → stretches slave at 
 stretches-same slave at [] = refl
 stretches-same slave at (word ∷ words) = rw (same_front slave at word word words words refl) (stretches-same slave (suc at) words)
 
--- the stretches behind a word that stays begin behind it
-begins_behind : (slave at word : ℕ) (olds news : List ℕ) → (0 < length olds → get_or olds 0 0 ≡ get_or news 0 0) → length olds ≡ length news
+-- the stretches after a word that stays begin after it
+begins_after : (slave at word : ℕ) (olds news : List ℕ) → (0 < length olds → get_or olds 0 0 ≡ get_or news 0 0) → length olds ≡ length news
     → with_first slave at word (stretches slave (suc at) olds news) ≡ one_word slave at word ∷ stretches slave (suc at) olds news
-begins_behind slave at word [] news stays size = refl
-begins_behind slave at word (old ∷ olds) [] stays size = refl
-begins_behind slave at word (old ∷ olds) (new ∷ news) stays size =
-    rw (same_front slave (suc at) old new olds news (stays (omega arith))) (apart (stretches slave (suc (suc at)) olds news) (Within-stretches slave (suc (suc at)) (suc (suc at) + length olds) olds news refl))
+begins_after slave at word [] news stays size = refl
+begins_after slave at word (old ∷ olds) [] stays size = refl
+begins_after slave at word (old ∷ olds) (new ∷ news) stays size =
+    rw (same_front slave (suc at) old new olds news (stays (omega arith))) (separate (stretches slave (suc (suc at)) olds news) (Within-stretches slave (suc (suc at)) (suc (suc at) + length olds) olds news refl))
   where
-    apart : (runs : List Run) → All (Within slave (suc (suc at)) (suc (suc at) + length olds)) runs → with_first slave at word runs ≡ one_word slave at word ∷ runs
-    apart [] within = refl
-    apart (run ∷ runs) within = with_first-apart slave at word run runs (λ next. absurd (omega (arith, (All-head (Within slave (suc (suc at)) (suc (suc at) + length olds)) run runs within).begins)))
+    separate : (runs : List Run) → All (Within slave (suc (suc at)) (suc (suc at) + length olds)) runs → with_first slave at word runs ≡ one_word slave at word ∷ runs
+    separate [] within = refl
+    separate (run ∷ runs) within = with_first-separate slave at word run runs (λ next. absurd (omega (arith, (All-head (Within slave (suc (suc at)) (suc (suc at) + length olds)) run runs within).begins)))
 
 -- words that differ up to one that stays, or to the end, are one run
 pub stretches-block : (slave at n : ℕ) (olds news : List ℕ) → length olds ≡ length news → n < length olds
@@ -206,7 +206,7 @@ stretches-block slave at n [] news size within differ stays = absurd (omega arit
 stretches-block slave at n (old ∷ olds) [] size within differ stays = absurd (omega arith)
 stretches-block slave at zero (old ∷ olds) (new ∷ news) size within differ stays =
     let place : at + 1 ≡ suc at = omega arith in
-    rw (other_front slave at old new olds news (differ 0 (omega arith)), begins_behind slave at new olds news (λ some. stays (omega arith)) (omega arith), place) refl
+    rw (other_front slave at old new olds news (differ 0 (omega arith)), begins_after slave at new olds news (λ some. stays (omega arith)) (omega arith), place) refl
 stretches-block slave at (suc n) (old ∷ olds) (new ∷ news) size within differ stays =
     let rest = stretches-block slave (suc at) n olds news (omega arith) (omega arith) (λ k below. differ (suc k) (omega arith)) (λ more. stays (omega arith)) in
     let place : suc at + suc n ≡ at + suc (suc n) = omega arith in
@@ -222,19 +222,19 @@ next_stretch done all slave at (suc n) olds news size some first most differ sta
     append_assoc done (record { slave = slave; first = at; words = take (suc n) news } ∷ []) (stretches slave (at + suc n) (drop (suc n) olds) (drop (suc n) news))
     ∙ ap (λ (runs : List Run). done ++ runs) (sym (stretches-block slave at n olds news size (omega arith) differ stays)) ∙ is
 
--- one word that may change, and no other behind it
+-- one word that may change, and no other after it
 last_word : (slave at old new : ℕ) (words : List ℕ) → stretches slave at (old ∷ words) (new ∷ words) ≡ stretches slave at (old ∷ []) (new ∷ [])
 last_word slave at old new words = elim (cases_eq old new) [
   | inl same ↦ rw (same_front slave at old new words words same, stretches-same slave (suc at) words, same_front slave at old new [] [] same) refl
   | inr other ↦ rw (other_front slave at old new words words other, stretches-same slave (suc at) words, other_front slave at old new [] [] other) refl
 ]
 
--- one word that may change, and a word behind it that stays
+-- one word that may change, and a word after it that stays
 first_word : (slave at old new word : ℕ) (olds news : List ℕ) → length olds ≡ length news
     → stretches slave at (old ∷ word ∷ olds) (new ∷ word ∷ news) ≡ stretches slave at (old ∷ []) (new ∷ []) ++ stretches slave (suc at) (word ∷ olds) (word ∷ news)
 first_word slave at old new word olds news size = elim (cases_eq old new) [
   | inl same ↦ rw (same_front slave at old new (word ∷ olds) (word ∷ news) same, same_front slave at old new [] [] same) refl
-  | inr other ↦ rw (other_front slave at old new (word ∷ olds) (word ∷ news) other, other_front slave at old new [] [] other) (begins_behind slave at new (word ∷ olds) (word ∷ news) (λ some. refl) (omega arith))
+  | inr other ↦ rw (other_front slave at old new (word ∷ olds) (word ∷ news) other, other_front slave at old new [] [] other) (begins_after slave at new (word ∷ olds) (word ∷ news) (λ some. refl) (omega arith))
 ]
 
 -- words 4 and 7 that may change

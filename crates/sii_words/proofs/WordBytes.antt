@@ -20,7 +20,7 @@ bytes_of-more words pair i within fits spelt =
     let high : get_or words i 0 / 256 % 256 ≡ get_or words i 0 / 256 = omega arith in
     rw (take_more words i 0 within, bytes_of-append (take i words) (get_or words i 0 ∷ []), spelt, high) refl
 
--- two bytes written behind the first k
+-- two bytes written after the first k
 pub take-two_set : (bytes : List ℕ) (k low high : ℕ) → k + 1 < length bytes
     → take (k + 2) (set (set bytes k low) (k + 1) high) ≡ take k bytes ++ low ∷ high ∷ []
 take-two_set bytes k low high within =

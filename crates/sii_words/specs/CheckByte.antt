@@ -35,7 +35,7 @@ divided (suc digits) (false ∷ bits) = divided digits bits
 abbrev pub complemented : List Bool → List Bool
 complemented bits = minus bits (bits_of_byte 255)
 
--- the 112 bits of words 0 to 6 and eight zeros behind them, with the first eight bits complemented
+-- the 112 bits of words 0 to 6 and eight zeros after them, with the first eight bits complemented
 unfoldable pub dividend : List ℕ → List Bool
 dividend words = complemented (flat_map bits_of_byte (bytes_of (take 7 words)) ++ bits_of_byte 0)
 

@@ -15,8 +15,8 @@ last_given [] slave at = None
 last_given (run ∷ runs) slave at = option_or (last_given runs slave at) (given_by run slave at)
 
 -- no word is named by both runs
-abbrev pub AreApart : Run → Run → Type 0
-AreApart run other = (slave at : ℕ) → given_by run slave at ≢ None → given_by other slave at ≡ None
+abbrev pub AreSeparate : Run → Run → Type 0
+AreSeparate run other = (slave at : ℕ) → given_by run slave at ≢ None → given_by other slave at ≡ None
 
 -- the words of a slave from word `at` on, with the runs redone
 abbrev pub redone_words : List Run → ℕ → ℕ → List ℕ → List ℕ

@@ -2,7 +2,7 @@
 use Rattle.std.specs.Prelude.{◌≡◌, ◌⊎◌, ℕ, Option, Some, None, suc, ◌+◌, ◌<◌, ◌==◌, ◌++◌, List, [], ◌∷◌, length, if◌then◌else◌}
 use Rattle.sii_words.specs.declared.run.Run.{Run}
 
--- one more changed word in front of runs: it joins the first run if that begins right behind it, else it is a run by itself
+-- one more changed word in front of runs: it joins the first run if that begins right after it, else it is a run by itself
 abbrev pub with_first : ℕ → ℕ → ℕ → List Run → List Run
 with_first slave at word [] = record { slave = slave; first = at; words = word ∷ [] } ∷ []
 with_first slave at word (run ∷ runs) =

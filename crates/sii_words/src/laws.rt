@@ -2,10 +2,10 @@
 ghost use Rattle.std.specs.Prelude.{◌≡◌, ◌<◌, ℕ, None, ◌++◌, List, length, slice_index, All, AllPairs};
 ghost use Rattle.sii_words.specs.Plant.{words_of};
 ghost use Rattle.sii_words.specs.Run.{runs_between, StandsBefore, change};
-ghost use Rattle.sii_words.specs.Redo.{redone, last_given, AreApart, LiesInside, SameShape, AgreeElsewhere};
+ghost use Rattle.sii_words.specs.Redo.{redone, last_given, AreSeparate, LiesInside, SameShape, AgreeElsewhere};
 ghost use Rattle.sii_words.specs.declared.run.Run.{Run};
 
-/// Redo of a list of runs with another behind it is redo of the first list, and then of the other.
+/// Redo of a list of runs with another after it is redo of the first list, and then of the other.
 pub fn redo_of_appended()
     ensures { (plant : List (List ℕ)) (xs ys : List Run) → redone plant (xs ++ ys) ≡ redone (redone plant xs) ys }
 {}
@@ -63,5 +63,5 @@ pub fn runs_name_the_differences()
 
 /// The runs between two plants name no word twice.
 pub fn runs_name_words_once()
-    ensures { (old new : List (List ℕ)) → AllPairs AreApart (runs_between old new) }
+    ensures { (old new : List (List ℕ)) → AllPairs AreSeparate (runs_between old new) }
 {}

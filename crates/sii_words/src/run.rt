@@ -10,7 +10,7 @@ pub struct Run {
     pub slave: u16,
     /// The number of the first word.
     pub first: u16,
-    /// The new values of word `first` and the words behind it.
+    /// The new values of word `first` and the words after it.
     pub words: WordList,
 }
 

@@ -129,7 +129,7 @@ pub WritesDisk-left : (old : Seen) (at : ℕ) (bytes : List ℕ) (result : Resul
 WritesDisk-left old at bytes result new within writes =
     Passes-stays (Leaves (begin_write old.state at (length bytes))) old new (WritesDisk-passes old at bytes result new within writes)
 
--- behind a sync that is Ok the disk's bytes are the only image
+-- after a sync that is Ok the disk's bytes are the only image
 pub SyncsDisk-bytes : (old new : Seen) (image : List ℕ) → SyncsDisk old (Ok tt) new → StopImage new.state.disk image → image ≡ new.state.disk.bytes
 SyncsDisk-bytes old new image syncs stop =
     let is : new.state ≡ record old.state { disk = synced old.state.disk } = syncs.ok in

@@ -40,7 +40,7 @@ Any-append P [] ys any = inr any
 Any-append P (x ∷ xs) ys any =
     elim (Any-split P x (xs ++ ys) any) [
       | inl here ↦ inl (Any-first P x xs here)
-      | inr there ↦ elim (Any-append P xs ys there) [ inl before ↦ inl (Any-later P x xs before) | inr behind ↦ inr behind ]
+      | inr there ↦ elim (Any-append P xs ys there) [ inl before ↦ inl (Any-later P x xs before) | inr after ↦ inr after ]
     ]
 
 -- what was left since a time by the moments that were added since

@@ -10,11 +10,11 @@ slice_get-drop (b ∷ bs) (suc n) place =
     let e : suc n + place ≡ suc (n + place) = omega arith in
     slice_get-drop bs n place ∙ ap (λ (p : ℕ). slice_get (b ∷ bs) p) (sym e)
 
-slice_get-behind : (xs ys : List ℕ) (place : ℕ) → slice_get (xs ++ ys) (length xs + place) ≡ slice_get ys place
-slice_get-behind [] ys place = let e : 0 + place ≡ place = omega arith in ap (λ (p : ℕ). slice_get ys p) e
-slice_get-behind (x ∷ xs) ys place =
+slice_get-after : (xs ys : List ℕ) (place : ℕ) → slice_get (xs ++ ys) (length xs + place) ≡ slice_get ys place
+slice_get-after [] ys place = let e : 0 + place ≡ place = omega arith in ap (λ (p : ℕ). slice_get ys p) e
+slice_get-after (x ∷ xs) ys place =
     let e : length (x ∷ xs) + place ≡ suc (length xs + place) = omega arith in
-    ap (λ (p : ℕ). slice_get (x ∷ (xs ++ ys)) p) e ∙ slice_get-behind xs ys place
+    ap (λ (p : ℕ). slice_get (x ∷ (xs ++ ys)) p) e ∙ slice_get-after xs ys place
 
 slice_get-before : (bytes ys : List ℕ) (n place : ℕ) → place < n → n ≤ length bytes → slice_get (take n bytes ++ ys) place ≡ slice_get bytes place
 slice_get-before [] ys n place below within = absurd (let e : n ≤ 0 = within in omega arith)
@@ -22,14 +22,14 @@ slice_get-before (b ∷ bs) ys zero place below within = absurd (omega arith)
 slice_get-before (b ∷ bs) ys (suc n) zero below within = refl
 slice_get-before (b ∷ bs) ys (suc n) (suc place) below within = slice_get-before bs ys n place (omega arith) (omega arith)
 
-behind_range : (bytes over : List ℕ) (at place : ℕ) → at ≤ length bytes → at + length over ≤ place → slice_get (overlaid bytes at over) place ≡ slice_get bytes place
-behind_range bytes over at place within behind =
+after_range : (bytes over : List ℕ) (at place : ℕ) → at ≤ length bytes → at + length over ≤ place → slice_get (overlaid bytes at over) place ≡ slice_get bytes place
+after_range bytes over at place within after =
     let front : List ℕ = take at bytes ++ over in
     let long : length front ≡ at + length over = omega (arith, length-append (take at bytes) over, length-take at bytes) in
     let split : place ≡ length front + (place - (at + length over)) = omega arith in
     let same : (at + length over) + (place - (at + length over)) ≡ place = omega arith in
     ap (λ (p : ℕ). slice_get (front ++ drop (at + length over) bytes) p) split
-    ∙ slice_get-behind front (drop (at + length over) bytes) (place - (at + length over))
+    ∙ slice_get-after front (drop (at + length over) bytes) (place - (at + length over))
     ∙ slice_get-drop bytes (at + length over) (place - (at + length over))
     ∙ ap (λ (p : ℕ). slice_get bytes p) same
 
@@ -42,7 +42,7 @@ before_range bytes over at place within below =
 pub overlaid-outside : (bytes over : List ℕ) (at place : ℕ) → at ≤ length bytes → IsOutside place (record { start = at; count = length over })
     → slice_get (overlaid bytes at over) place ≡ slice_get bytes place
 overlaid-outside bytes over at place within (inl below) = before_range bytes over at place within below
-overlaid-outside bytes over at place within (inr behind) = behind_range bytes over at place within behind
+overlaid-outside bytes over at place within (inr after) = after_range bytes over at place within after
 
 -- a write makes the bytes no fewer
 pub length-overlaid : (bytes over : List ℕ) (at : ℕ) → at ≤ length bytes → length bytes ≤ length (overlaid bytes at over)

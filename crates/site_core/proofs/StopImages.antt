@@ -20,7 +20,7 @@ StopImage-same disk = record { bytes = λ at is. refl; no_shorter = omega arith 
 pub StopImage-write_begun : (disk : Disk) (at count : ℕ) (image : List ℕ) → StopImage disk image → StopImage (write_begun disk at count) image
 StopImage-write_begun disk at count image stop = record { bytes = λ place is. stop.bytes place is.1; no_shorter = stop.no_shorter }
 
--- behind a sync the disk's bytes are the only image
+-- after a sync the disk's bytes are the only image
 pub StopImage-synced : (disk : Disk) (image : List ℕ) → StopImage (synced disk) image → image ≡ disk.bytes
 StopImage-synced disk image stop = equal_by_elements image disk.bytes (λ at. stop.bytes at tt)
 

@@ -30,15 +30,15 @@ begins_with b c (call ∷ calls) pair past goes_on leaves =
     inr (Any-first (LeftAt pair) call calls (inl (subst (λ (s : State). Leaves s pair) (ap (λ (i : Instant). i.state) (sym goes_on ∙ is)) leaves)))
 
 module _ (a b c : Seen) (pair : Pair) (first : Follows a b) (second : Follows b c) where
-  whole : drop (clock a) c.past ≡ first.calls ++ second.calls
-  whole = added a c (first.calls ++ second.calls) (second.past ∙ ap (λ (p : List Moment). p ++ second.calls) first.past ∙ append_assoc a.past first.calls second.calls)
+  entire : drop (clock a) c.past ≡ first.calls ++ second.calls
+  entire = added a c (first.calls ++ second.calls) (second.past ∙ ap (λ (p : List Moment). p ++ second.calls) first.past ∙ append_assoc a.past first.calls second.calls)
 
   over_both : Any (LeftAt pair) (first.calls ++ second.calls) → LeftSince c (clock a) pair
-  over_both any = inr (subst (λ (ms : List Moment). Any (LeftAt pair) ms) (sym whole) any)
+  over_both any = inr (subst (λ (ms : List Moment). Any (LeftAt pair) ms) (sym entire) any)
 
-  apart : LeftSince c (clock a) pair → LeftSince b (clock a) pair ⊎ LeftSince c (clock b) pair
-  apart (inl now) = inr (inl now)
-  apart (inr was) = elim (Any-append (LeftAt pair) first.calls second.calls (subst (λ (ms : List Moment). Any (LeftAt pair) ms) whole was)) [
+  separate : LeftSince c (clock a) pair → LeftSince b (clock a) pair ⊎ LeftSince c (clock b) pair
+  separate (inl now) = inr (inl now)
+  separate (inr was) = elim (Any-append (LeftAt pair) first.calls second.calls (subst (λ (ms : List Moment). Any (LeftAt pair) ms) entire was)) [
     | inl early ↦ inl (inr (subst (λ (ms : List Moment). Any (LeftAt pair) ms) (sym (added a b first.calls first.past)) early))
     | inr late ↦ inr (inr (subst (λ (ms : List Moment). Any (LeftAt pair) ms) (sym (added b c second.calls second.past)) late))
   ]
@@ -56,7 +56,7 @@ module _ (a b c : Seen) (pair : Pair) (first : Follows a b) (second : Follows b 
 
   together : LeftSince b (clock a) pair ⊎ LeftSince c (clock b) pair → LeftSince c (clock a) pair
   together (inl before) = early before
-  together (inr behind) = late behind
+  together (inr after) = late after
 
 pub since_is_union : SinceIsUnion
-since_is_union a b c pair first second = (apart a b c pair first second, together a b c pair first second)
+since_is_union a b c pair first second = (separate a b c pair first second, together a b c pair first second)

@@ -87,9 +87,9 @@ pub record ExchangesFrame
   pub turns : new.turns ≡ old.turns
 
 -- the result of a call, with the frame that came back if it succeeded
-abbrev pub told : {A : Type 0} → Result (Unit {0}) DeviceFault → A → Result A DeviceFault
-told (Ok done) answer = Ok answer
-told (Err fault) answer = Err fault
+abbrev pub reported : {A : Type 0} → Result (Unit {0}) DeviceFault → A → Result A DeviceFault
+reported (Ok done) answer = Ok answer
+reported (Err fault) answer = Err fault
 
 -- A frame for the process halves of all slaves. Neither the disk nor an EEPROM changes, unless the site stops.
 pub record CyclesFrame (old : Seen) (sent : List Pdu) (result : Result (Unit {0}) DeviceFault) (answer : List Pdu) (new : Seen) : Type 0 where
@@ -98,4 +98,4 @@ pub record CyclesFrame (old : Seen) (sent : List Pdu) (result : Result (Unit {0}
   pub ok : OnOk result (AreReplies sent answer)
   pub failed : OnErr result (answer ≡ sent)
   pub no_disk : result ≢ Err faults.Disk
-  pub turns : new.turns ≡ old.turns ++ record { sent = sent; answer = told result answer } ∷ []
+  pub turns : new.turns ≡ old.turns ++ record { sent = sent; answer = reported result answer } ∷ []

@@ -29,7 +29,7 @@ becomes_one call calls files mid later name true same becomes rest =
     (mid, subst (λ (n : LineFile). Becomes call.call call.succeeded (files n) mid) (sym (is_same-true name call.file same)) becomes, rest)
 becomes_one call calls files mid later name false other becomes rest = rest
 
--- what is left at a moment of calls and of others behind them is left at one of the former, or of the latter
+-- what is left at a moment of calls and of others after them is left at one of the former, or of the latter
 pub earlier_or_later : (calls others : List Asked) (files : LineFile → File) (images : LineFile → List ℕ) → AreLeft (calls ++ others) files images
     → AreLeft calls files images ⊎ ((laters : LineFile → File) × LeadTo calls files laters × AreLeft others laters images)
 earlier_or_later [] others files images left = inr (files, (λ name. refl), left)
@@ -40,12 +40,12 @@ earlier_or_later (call ∷ calls) others files images (inr (mid, becomes, left))
       | inr late ↦ inr (late.0, (λ name. becomes_one call calls files mid (late.0 name) name (is_same name call.file) refl becomes (late.1 name)), late.2)
     ]
 
-behind_one : (call : Asked) (calls : List Asked) (files : LineFile → File) (mid : File) (image : List ℕ) (name : LineFile) (b : Bool) → is_same name call.file ≡ b
+after_one : (call : Asked) (calls : List Asked) (files : LineFile → File) (mid : File) (image : List ℕ) (name : LineFile) (b : Bool) → is_same name call.file ≡ b
     → Becomes call.call call.succeeded (files call.file) mid → MayBeLeft (of_file name calls) (if b then mid else files name) image
     → MayBeLeft (if b then call ∷ of_file name calls else of_file name calls) (files name) image
-behind_one call calls files mid image name true same becomes left =
+after_one call calls files mid image name true same becomes left =
     inr (mid, subst (λ (n : LineFile). Becomes call.call call.succeeded (files n) mid) (sym (is_same-true name call.file same)) becomes, left)
-behind_one call calls files mid image name false other becomes left = left
+after_one call calls files mid image name false other becomes left = left
 
 before_one : (call : Asked) (calls : List Asked) (file : File) (image : List ℕ) (name : LineFile) (b : Bool)
     → StopImage (if b then under_way call.call file else file.disk) image
@@ -60,5 +60,5 @@ left_of_each [] files images left name = left name
 left_of_each (call ∷ calls) files images (inl now) name =
     before_one call calls (files name) (images name) name (is_same name call.file) (now name)
 left_of_each (call ∷ calls) files images (inr (mid, becomes, left)) name =
-    behind_one call calls files mid (images name) name (is_same name call.file) refl becomes
+    after_one call calls files mid (images name) name (is_same name call.file) refl becomes
     (left_of_each calls (with_file files call.file mid) images left name)

@@ -19,7 +19,7 @@ use Rattle.site_core.proofs.StopImages.{StopImage-synced}
 use Rattle.site_shadow.specs.declared.device.Passing.{Passing}
 use Rattle.site_shadow.specs.declared.device.Passing.TheVariants.{Passes}
 use Rattle.site_shadow.specs.Following as shadow
-use Rattle.site_shadow.specs.Following.{Extends, KeepsContents, GoesOn, IsTold, LeftTowards, begin_of, state_at}
+use Rattle.site_shadow.specs.Following.{Extends, KeepsContents, GoesOn, IsReported, LeftTowards, begin_of, state_at}
 use Rattle.site_shadow.proofs.Keeping.{Extends-by}
 use Rattle.site_shadow.proofs.Towards.{last_left, Extends-now, Extends-towards, Extends-clock}
 use Rattle.site_file.specs.declared.asking.LineFile.{LineFile}
@@ -32,7 +32,7 @@ use Rattle.site_file.proofs.SeveralCalls.{asks_nothing, goes_on as log_goes_on}
 use Rattle.site_file.specs.Device as device
 use Rattle.site_file.specs.Files.{File, IsBytes, sound, image_of, BecomesBy, MayBeLeft}
 use Rattle.site_file.specs.Held.{of_file}
-use Rattle.site_file.specs.AllFiles.{AreLeft, AreLeftBehind, LeadTo, calls_of, Shows, ShowOne, HoldsDisk, HoldsWords, Holds, FilesFollow}
+use Rattle.site_file.specs.AllFiles.{AreLeft, AreLeftAfter, LeadTo, calls_of, Shows, ShowOne, HoldsDisk, HoldsWords, Holds, FilesFollow}
 use Rattle.site_file.proofs.AllFiles.{earlier_or_later, left_of_each}
 use Rattle.site_file.proofs.PairsLeft.{IsLeftOfSlave, IsLeftOfPart, ShownPair, shown_pair}
 use Rattle.site_file.proofs.Journals.{write_may_hold_anything, sync_leaves_no_more}
@@ -64,9 +64,9 @@ journal_is_sound : (file : File) → file.is_sound ≡ true → file ≡ sound f
 journal_is_sound file is = ap (λ (b : Bool). record { disk = file.disk; is_sound = b }) is
 
 -- an image of words that are all synced
-pub whole_words : (halves : List SlaveHalf) (slave : ℕ) (file : File) (image : List ℕ) → HoldsWords halves slave file → StopImage file.disk image
+pub entire_words : (halves : List SlaveHalf) (slave : ℕ) (file : File) (image : List ℕ) → HoldsWords halves slave file → StopImage file.disk image
     → IsLeftOfSlave halves slave image
-whole_words halves slave file image holds stop = record {
+entire_words halves slave file image holds stop = record {
   half = holds.half;
   here = holds.here;
   left = record {
@@ -81,7 +81,7 @@ whole_words halves slave file image holds stop = record {
 begun_part : (state : State) (name : LineFile) (file : File) (image : List ℕ) → Holds state name file → StopImage file.disk image
     → IsLeftOfPart state name image
 begun_part state Journal file image holds stop = within file.disk state.disk image holds.bytes holds.synced_length holds.synced stop
-begun_part state (Image slave) file image holds stop = whole_words state.halves slave file image holds stop
+begun_part state (Image slave) file image holds stop = entire_words state.halves slave file image holds stop
 
 -- a power cut while the files hold the state
 pub left_at_first : (state : State) (owned : LineFile → Bool) (begun : LineFile → File)
@@ -198,10 +198,10 @@ module _ {F : Type 0} (since : ℕ) (owned : LineFile → Bool) (begun : LineFil
           → BecomesBy (of_file name ((calls_of follows.pieces ++ follows.last) ++ calls)) (begun name) file → Holds new.state name file
       holds_all sound_yet goes name file is_owned becomes =
           let before : List Asked = calls_of follows.pieces ++ follows.last in
-          let apart : BecomesBy (of_file name before ++ of_file name calls) (begun name) file =
+          let separate : BecomesBy (of_file name before ++ of_file name calls) (begun name) file =
           subst (λ (l : List Asked). BecomesBy l (begun name) file) (of_file-append name before calls) becomes in
           let parts : (mid : File) × BecomesBy (of_file name before) (begun name) mid × BecomesBy (of_file name calls) mid file =
-          split (of_file name before) (of_file name calls) (begun name) file apart in
+          split (of_file name before) (of_file name calls) (begun name) file separate in
           holds sound_yet goes name parts.0 file is_owned (held name parts.0 is_owned parts.1) parts.2
 
       here : (files : LineFile → File) (images : LineFile → List ℕ) → ((name : LineFile) → IsBytes (images name))
@@ -210,13 +210,13 @@ module _ {F : Type 0} (since : ℕ) (owned : LineFile → Bool) (begun : LineFil
       here files images bytes lead left = leaves files images bytes (λ name is_owned. held name (files name) is_owned (lead name)) left
 
       early : (place : ℕ) (piece : List Asked) (images : LineFile → List ℕ) → ((name : LineFile) → IsBytes (images name))
-          → slice_get follows.pieces place ≡ Some piece → AreLeftBehind (calls_of (take place follows.pieces)) piece begun images
+          → slice_get follows.pieces place ≡ Some piece → AreLeftAfter (calls_of (take place follows.pieces)) piece begun images
           → ShowOne owned (LeftTowards new (since + place)) images
       early place piece images bytes is left =
           let within : place < length follows.pieces = slice_get_within follows.pieces place piece is in
           towards_on owned old new (since + place) images extends (omega (arith, now, within)) (follows.leaves place piece images bytes is left)
 
-      early_last : (images : LineFile → List ℕ) → ((name : LineFile) → IsBytes (images name)) → AreLeftBehind (calls_of follows.pieces) follows.last begun images
+      early_last : (images : LineFile → List ℕ) → ((name : LineFile) → IsBytes (images name)) → AreLeftAfter (calls_of follows.pieces) follows.last begun images
           → ShowOne owned (LeftTowards new (since + length follows.pieces)) images
       early_last images bytes left =
           towards_on owned old new (since + length follows.pieces) images extends (omega (arith, now)) (follows.leaves_last images bytes left)
@@ -236,18 +236,18 @@ module _ {F : Type 0} (since : ℕ) (owned : LineFile → Bool) (begun : LineFil
       held_one before place files name lead is_owned (inr same) =
           let all : take (place + 1) (follows.pieces ++ follows.last ∷ []) ≡ follows.pieces ++ follows.last ∷ [] =
           take_all (place + 1) (follows.pieces ++ follows.last ∷ []) (omega (arith, same, length-append follows.pieces (follows.last ∷ []))) in
-          let whole : LeadTo (calls_of follows.pieces ++ follows.last) begun files =
+          let entire : LeadTo (calls_of follows.pieces ++ follows.last) begun files =
           subst (λ (l : List Asked). LeadTo l begun files) (ap calls_of all ∙ calls_of-snoc follows.pieces follows.last) lead in
           let at : since + place ≡ clock old = omega (arith, now, same) in
-          subst (λ (s : State). Holds s name (files name)) (sym (ap (λ (t : ℕ). state_at new t) at ∙ before)) (held name (files name) is_owned (whole name))
+          subst (λ (s : State). Holds s name (files name)) (sym (ap (λ (t : ℕ). state_at new t) at ∙ before)) (held name (files name) is_owned (entire name))
 
       one_of : (place : ℕ) (piece : List Asked) (images : LineFile → List ℕ) → ((name : LineFile) → IsBytes (images name))
           → slice_get (follows.pieces ++ follows.last ∷ []) place ≡ Some piece
-          → AreLeftBehind (calls_of (take place (follows.pieces ++ follows.last ∷ []))) piece begun images
+          → AreLeftAfter (calls_of (take place (follows.pieces ++ follows.last ∷ []))) piece begun images
           → (place < length follows.pieces) ⊎ (place ≡ length follows.pieces) → ShowOne owned (LeftTowards new (since + place)) images
       one_of place piece images bytes is left (inl before) =
           early place piece images bytes (sym (slice_get-early follows.pieces (follows.last ∷ []) place before) ∙ is)
-          (subst (λ (l : List (List Asked)). AreLeftBehind (calls_of l) piece begun images)
+          (subst (λ (l : List (List Asked)). AreLeftAfter (calls_of l) piece begun images)
           (take-append-le place follows.pieces (follows.last ∷ []) (omega (arith, before))) left)
       one_of place piece images bytes is left (inr same) =
           let is_last : piece ≡ follows.last = (let e : Some piece ≡ Some follows.last =
@@ -255,8 +255,8 @@ module _ {F : Type 0} (since : ℕ) (owned : LineFile → Bool) (begun : LineFil
           let all_before : take place (follows.pieces ++ follows.last ∷ []) ≡ follows.pieces =
           ap (λ (n : ℕ). take n (follows.pieces ++ follows.last ∷ [])) same ∙ take-append_seam follows.pieces (follows.last ∷ []) in
           subst (λ (n : ℕ). ShowOne owned (LeftTowards new (since + n)) images) (sym same)
-          (early_last images bytes (subst (λ (c : List Asked). AreLeftBehind (calls_of follows.pieces) c begun images) is_last
-          (subst (λ (l : List (List Asked)). AreLeftBehind (calls_of l) piece begun images) all_before left)))
+          (early_last images bytes (subst (λ (c : List Asked). AreLeftAfter (calls_of follows.pieces) c begun images) is_last
+          (subst (λ (l : List (List Asked)). AreLeftAfter (calls_of l) piece begun images) all_before left)))
 
       begins_one : clock new ≡ clock old + 1 → state_at new (clock old) ≡ old.state → FilesFollow since owned begun later new
       begins_one longer before =
@@ -342,7 +342,7 @@ write_part state at bytes done Journal file image inside holds left =
     subst (λ (f : File). MayBeLeft (asked Journal (writes at bytes) done ∷ []) f image) (journal_is_sound file holds.sound) left in
     within (write_begun file.disk at (length bytes)) (write_begun state.disk at (length bytes)) image holds.bytes holds.synced_length
     (λ place is. (is.0, holds.synced place is.1)) (write_may_hold_anything file.disk at bytes done image starts left_so)
-write_part state at bytes done (Image slave) file image inside holds left = whole_words state.halves slave file image holds left
+write_part state at bytes done (Image slave) file image inside holds left = entire_words state.halves slave file image holds left
 
 -- what a file holds once the write is done
 write_held : (state : State) (at : ℕ) (bytes : List ℕ) (name : LineFile) (mid file : File) → Holds state name mid
@@ -359,11 +359,11 @@ write_held state at bytes Journal mid file holds becomes =
 write_held state at bytes (Image slave) mid file holds becomes = subst (λ (f : File). HoldsWords state.halves slave f) (sym becomes) holds
 
 -- a call that was passed has not failed
-told_well : (count : ℕ) (passing : Passing) (given : Result (Unit {0}) DeviceFault) → IsTold count passing given → passing ≡ Passes
+reported_well : (count : ℕ) (passing : Passing) (given : Result (Unit {0}) DeviceFault) → IsReported count passing given → passing ≡ Passes
     → IsErrOf given faults.Disk → ⊥
-told_well count passing (Ok done) told passed failed = absurd cc
-told_well count passing (Err fault) told passed failed =
-    absurd (let well : Err fault ≡ Ok tt = subst (λ (p : Passing). IsTold count p (Err fault)) passed told in cc)
+reported_well count passing (Ok done) reported passed failed = absurd cc
+reported_well count passing (Err fault) reported passed failed =
+    absurd (let well : Err fault ≡ Ok tt = subst (λ (p : Passing). IsReported count p (Err fault)) passed reported in cc)
 
 -- the state after a write that was passed, where the site goes on
 write_done : (old new : Seen) (at : ℕ) (bytes : List ℕ) (given : Result (Unit {0}) DeviceFault) → WritesDisk old at bytes given new
@@ -411,13 +411,13 @@ module _ {F : Type 0} (since : ℕ) (owned : LineFile → Bool) (begun : LineFil
 
   pub write_step : (old new : Seen) (d later : FileDevice F) (at : ℕ) (bytes : List ℕ) (passing : Passing) (given : Result (Unit {0}) DeviceFault)
       → at ≤ length old.state.disk.bytes → old.is_stopped ≡ false → WritesDisk old at bytes given new
-      → IsTold old.faults passing given → device.CallsJournal (writes at bytes) d passing later
+      → IsReported old.faults passing given → device.CallsJournal (writes at bytes) d passing later
       → FilesFollow since owned begun d old → FilesFollow since owned begun later new
   write_step old new d later at bytes passing given inside running wrote passes (device.over failed stops same) follows =
       over since owned begun old new d later (ap (λ (x : FileDevice F). x.asking.calls) same)
       (subst (λ (x : FileDevice F). IsTrue x.has_failed) (sym same) refl) (Extends-by old new wrote.middle given wrote.call) follows
   write_step old new d later at bytes passing given inside running wrote passes (device.passes going asks passed going_on) follows =
-      write_asked old new d later at bytes given true inside running wrote going (λ done. told_well old.faults passing given passes passed) (λ e. absurd cc) asks follows
+      write_asked old new d later at bytes given true inside running wrote going (λ done. reported_well old.faults passing given passes passed) (λ e. absurd cc) asks follows
   write_step old new d later at bytes passing given inside running wrote passes (device.fails going asks fails failed) follows =
       write_asked old new d later at bytes given false inside running wrote going (λ e. absurd cc) (λ e. failed) asks follows
 
@@ -429,7 +429,7 @@ sync_part state done Journal file image holds left =
     let left_so : MayBeLeft (asked Journal syncs done ∷ []) (sound file.disk) image =
     subst (λ (f : File). MayBeLeft (asked Journal syncs done ∷ []) f image) (journal_is_sound file holds.sound) left in
     within file.disk state.disk image holds.bytes holds.synced_length holds.synced (sync_leaves_no_more file.disk done image left_so)
-sync_part state done (Image slave) file image holds left = whole_words state.halves slave file image holds left
+sync_part state done (Image slave) file image holds left = entire_words state.halves slave file image holds left
 
 sync_held : (state : State) (name : LineFile) (mid file : File) → Holds state name mid → BecomesBy (of_file name (asked Journal syncs true ∷ [])) mid file
     → Holds (record state { disk = synced state.disk }) name file
@@ -478,12 +478,12 @@ module _ {F : Type 0} (since : ℕ) (owned : LineFile → Bool) (begun : LineFil
 
   pub sync_step : (old new : Seen) (d later : FileDevice F) (passing : Passing) (given : Result (Unit {0}) DeviceFault)
       → old.is_stopped ≡ false → SyncsDisk old given new
-      → IsTold old.faults passing given → device.CallsJournal syncs d passing later
+      → IsReported old.faults passing given → device.CallsJournal syncs d passing later
       → FilesFollow since owned begun d old → FilesFollow since owned begun later new
   sync_step old new d later passing given running syncs_it passes (device.over failed stops same) follows =
       over since owned begun old new d later (ap (λ (x : FileDevice F). x.asking.calls) same)
       (subst (λ (x : FileDevice F). IsTrue x.has_failed) (sym same) refl) (Extends-by old new [] given syncs_it.call) follows
   sync_step old new d later passing given running syncs_it passes (device.passes going asks passed going_on) follows =
-      sync_asked old new d later given true running syncs_it going (λ done. told_well old.faults passing given passes passed) (λ e. absurd cc) asks follows
+      sync_asked old new d later given true running syncs_it going (λ done. reported_well old.faults passing given passes passed) (λ e. absurd cc) asks follows
   sync_step old new d later passing given running syncs_it passes (device.fails going asks fails failed) follows =
       sync_asked old new d later given false running syncs_it going (λ e. absurd cc) (λ e. failed) asks follows

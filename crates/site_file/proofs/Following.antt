@@ -74,10 +74,10 @@ module _ {F : Type 0} where
 
   pub begins : (d : FileDevice F) (had_failed is_new : Bool) (seen : Seen) → HasLog d.asking.calls [] → d.has_failed ≡ (had_failed || not is_new)
       → (IsTrue is_new ↔ seen.past ≡ []) → Follows d seen
-  begins d had_failed true seen none failed told =
-      following.has_followed (record { first = seen; new = told.0 refl; began = d; log = none; run = following.none })
-  begins d true false seen none failed told = following.refuses none failed
-  begins d false false seen none failed told = following.refuses none failed
+  begins d had_failed true seen none failed reported =
+      following.has_followed (record { first = seen; new = reported.0 refl; began = d; log = none; run = following.none })
+  begins d true false seen none failed reported = following.refuses none failed
+  begins d false false seen none failed reported = following.refuses none failed
 
   quiet_keeps : (before after : FileDevice F) → ChangesNoFile before after → (IsTrue before.has_failed → after ≡ before) → Keeps Follows before after
   quiet_keeps before after quiet same seen follows =
@@ -115,13 +115,13 @@ module _ {F : Type 0} where
 
   pub write_keeps : (at : ℕ) (bytes : List ℕ) (before after : FileDevice F) (result : Passing) → CallsJournal (writes at bytes) before result after
       → WriteKeeps Follows at bytes before result after
-  write_keeps at bytes before after result calls old new given running inside wrote told follows =
-      one_more old new before after (following.write at bytes result given running inside wrote told calls)
+  write_keeps at bytes before after result calls old new given running inside wrote reported follows =
+      one_more old new before after (following.write at bytes result given running inside wrote reported calls)
       (λ refuses. refuses_on before after (same_journal (writes at bytes) before after result refuses.1 calls) refuses) follows
 
   pub sync_keeps : (before after : FileDevice F) (result : Passing) → CallsJournal syncs before result after → SyncKeeps Follows before result after
-  sync_keeps before after result calls old new given running synced told follows =
-      one_more old new before after (following.sync result given running synced told calls)
+  sync_keeps before after result calls old new given running synced reported follows =
+      one_more old new before after (following.sync result given running synced reported calls)
       (λ refuses. refuses_on before after (same_journal syncs before after result refuses.1 calls) refuses) follows
 
   pub rest_keeps : (slave : ℕ) (half : SlaveHalf) (frame : List Pdu) (k : ℕ) (before after : FileDevice F) (result : Resting)

@@ -28,13 +28,13 @@ use Rattle.site_shadow.specs.Following as shadow
 use Rattle.site_shadow.specs.Following.{Extends, KeepsContents, begin_of, first_of}
 use Rattle.site_shadow.proofs.Keeping.{Extends-by}
 use Rattle.site_shadow.proofs.Towards.{now_left, Extends-now, Extends-first, towards_since}
-use Rattle.site_file.specs.AllFiles.{AreLeft, AreLeftBehind, calls_of, ShowOne, HoldsDisk, HoldsWords, Holds, FilesFollow, BeginsToFollow, FollowsOn}
+use Rattle.site_file.specs.AllFiles.{AreLeft, AreLeftAfter, calls_of, ShowOne, HoldsDisk, HoldsWords, Holds, FilesFollow, BeginsToFollow, FollowsOn}
 use Rattle.site_file.specs.AllFiles.{SiteIsFollowed}
 use Rattle.site_file.proofs.AllFiles.{earlier_or_later, left_of_each}
 use Rattle.site_file.proofs.PairsLeft.{IsLeftOfSlave, IsLeftOfPart, ShownPair, shown_pair}
 use Rattle.site_file.proofs.OneFile.{AllOf, is_same-true, of_file-append, of_file-same, of_file-other}
 use Rattle.site_file.proofs.Words.{one_file, word_is_durable, word_may_hold_anything, split}
-use Rattle.site_file.proofs.FilesFollow.{within, whole_words, left_at_first, lead_on, goes_on, over, asks_more, write_step, sync_step}
+use Rattle.site_file.proofs.FilesFollow.{within, entire_words, left_at_first, lead_on, goes_on, over, asks_more, write_step, sync_step}
 use Rattle.site_shadow.proofs.GoingThrough.{get-set}
 
 -- A HALF AT REST
@@ -67,8 +67,8 @@ set_elsewhere (h ∷ hs) zero (suc other) later not = refl
 set_elsewhere (h ∷ hs) (suc slave) zero later not = refl
 set_elsewhere (h ∷ hs) (suc slave) (suc other) later not = set_elsewhere hs slave other later (λ e. not (ap suc e))
 
-apart : (other slave : ℕ) → (other == slave) ≡ false → other ≡ slave → ⊥
-apart other slave differs same = absurd (let e : true ≡ false = sym (eq-eqb other slave same) ∙ differs in cc)
+separate : (other slave : ℕ) → (other == slave) ≡ false → other ≡ slave → ⊥
+separate other slave differs same = absurd (let e : true ≡ false = sym (eq-eqb other slave same) ∙ differs in cc)
 
 -- another half has the words that it had
 kept_by : (old new : State) (slave : ℕ) (half later : SlaveHalf) → slice_get old.halves slave ≡ Some half → later.words ≡ half.words
@@ -88,7 +88,7 @@ kept_by old new slave half later here same is = subst (λ (s : State). KeepsCont
         let found : slice_get (slice_set old.halves slave later) other ≡ Some later =
         subst (λ (n : ℕ). slice_get (slice_set old.halves slave later) n ≡ Some later) (sym at) (get-set old.halves slave half later here) in
         (later, found, same ∙ (let e2 : half ≡ one = cc in ap (λ (h : SlaveHalf). h.words) e2))
-    by_slave other one there false e = (one, set_elsewhere old.halves slave other later (apart other slave e) ∙ there, refl)
+    by_slave other one there false e = (one, set_elsewhere old.halves slave other later (separate other slave e) ∙ there, refl)
 
 -- A WORD IS WRITTEN
 
@@ -122,7 +122,7 @@ module _ (state : State) (slave : ℕ) (half : SlaveHalf) (write : WordWrite) (d
           }
       by_slave false e =
           let stop : StopImage file.disk image = subst (λ (l : List Asked). MayBeLeft l file image) (of_file-other (Image other) (Image slave) calls only e) left in
-          whole_words state.halves other file image holds stop
+          entire_words state.halves other file image holds stop
 
 module _ (state : State) (slave : ℕ) (half later : SlaveHalf) (write : WordWrite) (calls : List Asked)
     (here : slice_get state.halves slave ≡ Some half) (flying : IsFlying half write) (are : WordCalls (Image slave) write.word write.value calls true)
@@ -154,7 +154,7 @@ module _ (state : State) (slave : ℕ) (half later : SlaveHalf) (write : WordWri
           let same : file ≡ mid = subst (λ (l : List Asked). BecomesBy l mid file) (of_file-other (Image other) (Image slave) calls all_there e) becomes in
           record {
             half = holds.half;
-            here = set_elsewhere state.halves slave other later (apart other slave e) ∙ holds.here;
+            here = set_elsewhere state.halves slave other later (separate other slave e) ∙ holds.here;
             file_is = same ∙ holds.file_is;
           }
 
@@ -172,16 +172,16 @@ module _ {F : Type 0} (since : ℕ) (owned : LineFile → Bool) (begun : LineFil
       let shown : ShownPair old.state owned images = shown_pair old.state owned images
       (λ name is_owned. word_part old.state slave half write done calls here flying are name (files name) (images name) (bytes name) (holds name is_owned) (each name)) in
       (shown.pair, Extends-now old new shown.pair extends shown.leaves, shown.shows))
-      (behind done words failed are) follows
+      (afterwards done words failed are) follows
     where
-      behind : (b : Bool) → (b ≡ true → later.words ≡ slice_set half.words write.word write.value) → (b ≡ false → after.has_failed ≡ true)
+      afterwards : (b : Bool) → (b ≡ true → later.words ≡ slice_set half.words write.word write.value) → (b ≡ false → after.has_failed ≡ true)
           → WordCalls (Image slave) write.word write.value calls b
           → after.has_failed ≡ false → ¬ IsTrue new.is_stopped → (name : LineFile) (mid file : File) → IsTrue (owned name) → Holds old.state name mid
           → BecomesBy (of_file name calls) mid file → Holds new.state name file
-      behind true words_are fails all going_on goes name mid file is_owned holds becomes =
+      afterwards true words_are fails all going_on goes name mid file is_owned holds becomes =
           subst (λ (s : State). Holds s name file) (sym is)
           (word_held old.state slave half later write calls here flying all (words_are refl) name mid file holds becomes)
-      behind false words_are fails all going_on goes name mid file is_owned holds becomes =
+      afterwards false words_are fails all going_on goes name mid file is_owned holds becomes =
           absurd (let e : true ≡ false = sym (fails refl) ∙ going_on in cc)
 
   rest_step : (old new : Seen) (d after : FileDevice F) (slave : ℕ) (half rested later : SlaveHalf) (resting : Resting) → old.is_stopped ≡ false
@@ -262,12 +262,12 @@ quiet_left (call ∷ calls) files images quiet (inr (mid, becomes, left)) name =
     quiet_then files call.file name mid (images name) (is_same name call.file) refl (quiet_same call.call call.succeeded (files call.file) mid quiet.0 becomes)
     (quiet_left calls (with_file files call.file mid) images quiet.1 left name)
 
-quiet_behind : (calls others : List Asked) (files : LineFile → File) (images : LineFile → List ℕ) → AreQuiet others → AreLeft (calls ++ others) files images
+quiet_after : (calls others : List Asked) (files : LineFile → File) (images : LineFile → List ℕ) → AreQuiet others → AreLeft (calls ++ others) files images
     → AreLeft calls files images
-quiet_behind [] others files images quiet left = quiet_left others files images quiet left
-quiet_behind (call ∷ calls) others files images quiet (inl now) = inl now
-quiet_behind (call ∷ calls) others files images quiet (inr (mid, becomes, left)) =
-    inr (mid, becomes, quiet_behind calls others (with_file files call.file mid) images quiet left)
+quiet_after [] others files images quiet left = quiet_left others files images quiet left
+quiet_after (call ∷ calls) others files images quiet (inl now) = inl now
+quiet_after (call ∷ calls) others files images quiet (inr (mid, becomes, left)) =
+    inr (mid, becomes, quiet_after calls others (with_file files call.file mid) images quiet left)
 
 -- what is asked as a file is read
 record Reads (old new : Log) : Type 0 where
@@ -309,13 +309,13 @@ module _ {F : Type 0} (since : ℕ) (owned : LineFile → Bool) (begun : LineFil
         leaves = follows.leaves;
         leaves_last = λ images bytes left.
             follows.leaves_last images bytes
-            (record { mid = left.mid; lead = left.lead; left = quiet_behind follows.last calls left.mid images quiet left.left });
+            (record { mid = left.mid; lead = left.lead; left = quiet_after follows.last calls left.mid images quiet left.left });
         held = follows.held;
         holds = λ going_on goes name file is_owned becomes.
-            let apart : BecomesBy (of_file name before ++ of_file name calls) (begun name) file =
+            let separate : BecomesBy (of_file name before ++ of_file name calls) (begun name) file =
             subst (λ (l : List Asked). BecomesBy l (begun name) file) (ap (of_file name) (sym joined) ∙ of_file-append name before calls) becomes in
             let parts : (mid : File) × BecomesBy (of_file name before) (begun name) mid × BecomesBy (of_file name calls) mid file =
-            split (of_file name before) (of_file name calls) (begun name) file apart in
+            split (of_file name before) (of_file name calls) (begun name) file separate in
             subst (λ (f : File). Holds seen.state name f) (sym (quiet_becomes name calls parts.0 file quiet parts.2))
             (follows.holds going goes name parts.0 is_owned parts.1);
       }
@@ -381,7 +381,7 @@ begins_to_follow F owned begun d seen none holds = record {
   holds = λ going_on going name file is_owned becomes. subst (λ (f : File). Holds seen.state name f) (sym becomes) (holds name is_owned);
 }
   where
-    at_first : (begun : LineFile → File) (images : LineFile → List ℕ) → AreLeftBehind [] [] begun images → (name : LineFile)
+    at_first : (begun : LineFile → File) (images : LineFile → List ℕ) → AreLeftAfter [] [] begun images → (name : LineFile)
         → StopImage (begun name).disk (images name)
     at_first begun images left name = subst (λ (f : File). StopImage f.disk (images name)) (left.lead name) (left.left name)
 
@@ -435,13 +435,13 @@ site_is_followed F d seen (following.has_followed so_far) owned begun holds =
 -- a power cut in a log is one in some piece of it
 in_some : (pieces : List (List Asked)) (last : List Asked) (files : LineFile → File) (images : LineFile → List ℕ)
     → AreLeft (calls_of pieces ++ last) files images
-    → ((place : ℕ) × (piece : List Asked) × (slice_get pieces place ≡ Some piece) × AreLeftBehind (calls_of (take place pieces)) piece files images)
-    ⊎ AreLeftBehind (calls_of pieces) last files images
+    → ((place : ℕ) × (piece : List Asked) × (slice_get pieces place ≡ Some piece) × AreLeftAfter (calls_of (take place pieces)) piece files images)
+    ⊎ AreLeftAfter (calls_of pieces) last files images
 in_some [] last files images left = inr (record { mid = files; lead = λ name. refl; left = left })
 in_some (first ∷ pieces) last files images left =
-    let apart : AreLeft (first ++ (calls_of pieces ++ last)) files images =
+    let separate : AreLeft (first ++ (calls_of pieces ++ last)) files images =
     subst (λ (l : List Asked). AreLeft l files images) (append_assoc first (calls_of pieces) last) left in
-    elim (earlier_or_later first (calls_of pieces ++ last) files images apart) [
+    elim (earlier_or_later first (calls_of pieces ++ last) files images separate) [
       | inl here ↦ inl (0, first, refl, record { mid = files; lead = λ name. refl; left = here })
       | inr late ↦ elim (in_some pieces last late.0 images late.2) [
         | inl one ↦ inl (
@@ -454,10 +454,10 @@ in_some (first ∷ pieces) last files images left =
             left = one.3.left;
           },
         )
-        | inr behind ↦ inr (record {
-          mid = behind.mid;
-          lead = lead_on first (calls_of pieces) files late.0 behind.mid late.1 behind.lead;
-          left = behind.left;
+        | inr afterwards ↦ inr (record {
+          mid = afterwards.mid;
+          lead = lead_on first (calls_of pieces) files late.0 afterwards.mid late.1 afterwards.lead;
+          left = afterwards.left;
         })
       ]
     ]
@@ -468,5 +468,5 @@ pub left_since : {F : Type 0} (owned : LineFile → Bool) (begun : LineFile → 
     → ShowOne owned (LeftSince seen 0) images
 left_since owned begun d seen follows images bytes left = elim (in_some follows.pieces follows.last begun images left) [
   | inl one ↦ (let shown = follows.leaves one.0 one.1 images bytes one.2 one.3 in (shown.0, towards_since seen (0 + one.0) shown.0 shown.1, shown.2))
-  | inr behind ↦ (let shown = follows.leaves_last images bytes behind in (shown.0, towards_since seen (0 + length follows.pieces) shown.0 shown.1, shown.2))
+  | inr afterwards ↦ (let shown = follows.leaves_last images bytes afterwards in (shown.0, towards_since seen (0 + length follows.pieces) shown.0 shown.1, shown.2))
 ]

@@ -25,10 +25,10 @@ go_on {begun} {held} {after} calls asks leads are = record {
   log = are.log ++ calls;
   has = goes_on asks are.log are.has;
   each = λ name later becomes.
-      let apart : BecomesBy (of_file name are.log ++ of_file name calls) (begun name) later =
+      let separate : BecomesBy (of_file name are.log ++ of_file name calls) (begun name) later =
       subst (λ (l : List Asked). BecomesBy l (begun name) later) (of_file-append name are.log calls) becomes in
       let parts : (mid : File) × BecomesBy (of_file name are.log) (begun name) mid × BecomesBy (of_file name calls) mid later =
-      split (of_file name are.log) (of_file name calls) (begun name) later apart in
+      split (of_file name are.log) (of_file name calls) (begun name) later separate in
       leads name parts.0 later (are.each name parts.0 parts.1) parts.2;
 }
 
@@ -40,9 +40,9 @@ one_leads held file new calls all leads name mid later mid_is becomes = by_name 
   where
     by_name : (b : Bool) → is_same name file ≡ b → later ≡ (if b then new else held name)
     by_name true same =
-        let whole : BecomesBy calls mid later = subst (λ (l : List Asked). BecomesBy l mid later) (of_file-same name file calls all same) becomes in
+        let entire : BecomesBy calls mid later = subst (λ (l : List Asked). BecomesBy l mid later) (of_file-same name file calls all same) becomes in
         let from : mid ≡ held file = mid_is ∙ ap held (is_same-true name file same) in
-        leads later (subst (λ (f : File). BecomesBy calls f later) from whole)
+        leads later (subst (λ (f : File). BecomesBy calls f later) from entire)
     by_name false other =
         let none : BecomesBy [] mid later = subst (λ (l : List Asked). BecomesBy l mid later) (of_file-other name file calls all other) becomes in
         none ∙ mid_is

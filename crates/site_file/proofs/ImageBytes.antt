@@ -29,7 +29,7 @@ word_inside (w ∷ ws) (suc n) inside = let more : n * 2 ≤ length (bytes_of ws
 further : (at n place : ℕ) → at ≡ suc (suc (n * 2)) → IsOutside place (record { start = n * 2; count = 2 })
     → IsOutside (suc (suc place)) (record { start = at; count = 2 })
 further at n place at_is (inl before) = inl (omega arith)
-further at n place at_is (inr behind) = inr (omega arith)
+further at n place at_is (inr after) = inr (omega arith)
 
 -- bytes that are those of words but for the two bytes of one of them are those of a list with another word there
 pub word_left : (words : List ℕ) (word at : ℕ) (image : List ℕ) → at ≡ word * 2 → word < length words → length (bytes_of words) ≤ length image

@@ -1,4 +1,4 @@
--- What a power cut may leave of a file behind a sync.
+-- What a power cut may leave of a file after a sync.
 use Rattle.std.proofs.Common.{◌≡◌, ℕ, ◌≤◌, min, Bool, true, false, List, length, IsTrue, sym, subst, ◌∙◌, arith}
 use Rattle.site_core.specs.Disk.{StopImage, synced}
 use Rattle.site_core.proofs.StopImages.{StopImage-same, StopImage-synced}

@@ -11,10 +11,10 @@ write_follows shadow at bytes later becomes = becomes.2 ∙ becomes.1
 
 pub write_may_hold_anything : WriteMayHoldAnything
 write_may_hold_anything shadow at bytes done image inside (inl stop) = stop
-write_may_hold_anything shadow at bytes true image inside (inr behind) =
-    StopImage-written shadow at bytes image inside (subst (λ (f : File). StopImage f.disk image) behind.1 behind.2)
-write_may_hold_anything shadow at bytes false image inside (inr behind) =
-    StopImage-failed shadow behind.0.disk at (length bytes) image behind.1.disk behind.2
+write_may_hold_anything shadow at bytes true image inside (inr after) =
+    StopImage-written shadow at bytes image inside (subst (λ (f : File). StopImage f.disk image) after.1 after.2)
+write_may_hold_anything shadow at bytes false image inside (inr after) =
+    StopImage-failed shadow after.0.disk at (length bytes) image after.1.disk after.2
 
 -- an image of a disk whose write has begun is one of the disk whose write has failed
 after_failure : (shadow after : Disk) (at count : ℕ) (image : List ℕ) → shadow.synced_length ≤ length shadow.bytes
@@ -38,4 +38,4 @@ sync_follows shadow later becomes = becomes.2 ∙ becomes.1.all refl
 
 pub sync_leaves_no_more : SyncLeavesNoMore
 sync_leaves_no_more shadow done image (inl stop) = stop
-sync_leaves_no_more shadow done image (inr behind) = sync_image done (sound shadow) behind.0 image refl behind.1 behind.2
+sync_leaves_no_more shadow done image (inr after) = sync_image done (sound shadow) after.0 image refl after.1 after.2

@@ -104,14 +104,14 @@ begun words word value image inside stop =
 
 pub word_may_hold_anything : WordMayHoldAnything
 word_may_hold_anything file half write calls done image flying unwritten bytes (inl stop) = left_of half write image flying bytes stop
-word_may_hold_anything file half write calls done image flying unwritten bytes (inr behind) =
-    left_of half write image flying bytes (StopImage-failed (image_of half.words).disk behind.0.disk (write.word * 2) 2 image behind.1.disk behind.2)
+word_may_hold_anything file half write calls done image flying unwritten bytes (inr after) =
+    left_of half write image flying bytes (StopImage-failed (image_of half.words).disk after.0.disk (write.word * 2) 2 image after.1.disk after.2)
 word_may_hold_anything file half write calls done image flying (reaches_sync d) bytes (inl stop) = left_of half write image flying bytes stop
 word_may_hold_anything file half write calls done image flying (reaches_sync d) bytes (inr (mid, is, inl stop)) =
     let there : StopImage (laid half.words write.word write.value).disk image = subst (λ (f : File). StopImage f.disk image) is stop in
     left_of half write image flying bytes (begun half.words write.word write.value image flying.inside there)
-word_may_hold_anything file half write calls done image flying (reaches_sync d) bytes (inr (mid, is, inr behind)) =
+word_may_hold_anything file half write calls done image flying (reaches_sync d) bytes (inr (mid, is, inr after)) =
     let old : File = laid half.words write.word write.value in
-    let same : Becomes syncs done old behind.0 = subst (λ (f : File). Becomes syncs done f behind.0) is behind.1 in
-    let there : StopImage old.disk image = sync_image done old behind.0 image refl same behind.2 in
+    let same : Becomes syncs done old after.0 = subst (λ (f : File). Becomes syncs done f after.0) is after.1 in
+    let there : StopImage old.disk image = sync_image done old after.0 image refl same after.2 in
     left_of half write image flying bytes (begun half.words write.word write.value image flying.inside there)

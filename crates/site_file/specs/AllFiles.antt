@@ -22,7 +22,7 @@ use Rattle.site_file.specs.Held.{is_same, of_file, with_file}
 abbrev pub at_call : Asked → (LineFile → File) → LineFile → Disk
 at_call call files name = if is_same name call.file then under_way call.call (files name) else (files name).disk
 
--- A power cut before one of these calls, in it, or behind the last one, may leave these images of the files, all at the same moment.
+-- A power cut before one of these calls, in it, or after the last one, may leave these images of the files, all at the same moment.
 abbrev pub AreLeft : List Asked → (LineFile → File) → (LineFile → List ℕ) → Type 0
 AreLeft [] files images = (name : LineFile) → StopImage (files name).disk (images name)
 AreLeft (call ∷ calls) files images =
@@ -38,8 +38,8 @@ calls_of (piece ∷ pieces) = piece ++ calls_of pieces
 abbrev pub LeadTo : List Asked → (files laters : LineFile → File) → Type 0
 LeadTo calls files laters = (name : LineFile) → BecomesBy (of_file name calls) (files name) (laters name)
 
--- The same behind other calls: a power cut before one of `calls`, in it, or behind the last one, may leave these images.
-pub record AreLeftBehind (before calls : List Asked) (files : LineFile → File) (images : LineFile → List ℕ) : Type 0 where
+-- The same behind other calls: a power cut before one of `calls`, in it, or after the last one, may leave these images.
+pub record AreLeftAfter (before calls : List Asked) (files : LineFile → File) (images : LineFile → List ℕ) : Type 0 where
   pub mid : LineFile → File
   pub lead : LeadTo before files mid
   pub left : AreLeft calls mid images
@@ -75,9 +75,9 @@ ShowOne owned Q images = (pair : Pair) × Q pair × ((name : LineFile) → IsTru
 
 -- A device stands behind a site that owns some of the files. Whatever the files were, as its log began, that held the site's parts: its log
 -- falls into pieces, one for each time of the site's clock since then and one for now, in order. A power cut in a piece has left of the files
--- a pair that it may have left of the site towards the time of that piece: in the call that ended then, or then. Behind each piece but the
+-- a pair that it may have left of the site towards the time of that piece: in the call that ended then, or then. After each piece but the
 -- last one the files hold the site's parts as they were at its time. As long as no call on a file has failed and the site goes on, there is a
--- piece for each time, and the files hold the site's parts; behind a failure, nothing is asked any more.
+-- piece for each time, and the files hold the site's parts; after a failure, nothing is asked any more.
 pub record FilesFollow
     {F : Type 0} (since : ℕ) (owned : LineFile → Bool) (begun : LineFile → File) (device : FileDevice F) (seen : Seen) : Type 0 where
   pub pieces : List (List Asked)
@@ -86,10 +86,10 @@ pub record FilesFollow
   pub few : since + length pieces ≤ clock seen
   pub all : device.has_failed ≡ false → ¬ IsTrue seen.is_stopped → since + length pieces ≡ clock seen
   pub leaves : (place : ℕ) (piece : List Asked) (images : LineFile → List ℕ) → ((name : LineFile) → IsBytes (images name))
-      → slice_get pieces place ≡ Some piece → AreLeftBehind (calls_of (take place pieces)) piece begun images
+      → slice_get pieces place ≡ Some piece → AreLeftAfter (calls_of (take place pieces)) piece begun images
       → ShowOne owned (LeftTowards seen (since + place)) images
   pub leaves_last : (images : LineFile → List ℕ) → ((name : LineFile) → IsBytes (images name))
-      → AreLeftBehind (calls_of pieces) last begun images → ShowOne owned (LeftTowards seen (since + length pieces)) images
+      → AreLeftAfter (calls_of pieces) last begun images → ShowOne owned (LeftTowards seen (since + length pieces)) images
   pub held : (place : ℕ) (files : LineFile → File) (name : LineFile) → place < length pieces
       → LeadTo (calls_of (take (place + 1) pieces)) begun files → IsTrue (owned name) → Holds (state_at seen (since + place)) name (files name)
   pub holds : device.has_failed ≡ false → ¬ IsTrue seen.is_stopped → (name : LineFile) (later : File) → IsTrue (owned name)

@@ -3,7 +3,7 @@ use Rattle.std.specs.Prelude.{◌≡◌, ℕ, Bool, true, false, List, [], ◌�
 use Rattle.site_file.specs.declared.asking.LineFile.{LineFile}
 use Rattle.site_file.specs.declared.asking.Log.{Log}
 use Rattle.site_file.specs.declared.asking.Asking.{Asking}
-use Rattle.site_file.specs.declared.asking.FileTold.{FileTold}
+use Rattle.site_file.specs.declared.asking.FileLog.{FileLog}
 use Rattle.site_file.specs.Calls.{Asked, asked, reads, writes_word, syncs}
 
 -- Since its log began a device has asked this of its files, in this order, and nothing else.
@@ -12,12 +12,12 @@ HasLog calls log = calls.all ≡ calls.begun.value ++ log
 
 -- This is told of what a device has asked: all since its log began, or nothing.
 abbrev pub TellsLog : Log → Option (List Asked) → Type 0
-TellsLog calls told = IfSome told (HasLog calls)
+TellsLog calls reported = IfSome reported (HasLog calls)
 
 -- The same, and of which part the files are.
-pub record TellsFiles (asking : Asking) (told : FileTold) : Type 0 where
-  pub calls : TellsLog asking.calls told.calls
-  pub part : told.part ≡ asking.part
+pub record TellsFiles (asking : Asking) (reported : FileLog) : Type 0 where
+  pub calls : TellsLog asking.calls reported.calls
+  pub part : reported.part ≡ asking.part
 
 -- Then it asks its files this, in this order, and nothing else.
 pub record Asks (old new : Log) (calls : List Asked) : Type 0 where

@@ -1,4 +1,4 @@
--- What the calls of a device ask of the files, and how that is answered. Behind a failure nothing is asked any more, and the site stops.
+-- What the calls of a device ask of the files, and how that is answered. After a failure nothing is asked any more, and the site stops.
 use Rattle.std.specs.Prelude.{◌≡◌, ◌⊎◌, ℕ, true, false, [], ◌∷◌, Option, Some, None, is_some, IsTrue}
 use Rattle.esc_model.specs.declared.rest.WordWrite.{WordWrite}
 use Rattle.site_shadow.specs.declared.device.Passing.{Passing}

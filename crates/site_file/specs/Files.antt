@@ -61,7 +61,7 @@ under_way (reads at count) file = file.disk
 under_way (writes at bytes) file = write_begun file.disk at (length bytes)
 under_way syncs file = file.disk
 
--- A power cut before one of these calls, in it, or behind the last one, may leave this image of the file.
+-- A power cut before one of these calls, in it, or after the last one, may leave this image of the file.
 abbrev pub MayBeLeft : List Asked → File → List ℕ → Type 0
 MayBeLeft [] file image = StopImage file.disk image
 MayBeLeft (call ∷ calls) file image =

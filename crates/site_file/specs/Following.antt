@@ -8,7 +8,7 @@ use Rattle.site_core.specs.Calls.{WritesDisk, SyncsDisk}
 use Rattle.site_shadow.specs.declared.device.Passing.{Passing}
 use Rattle.site_shadow.specs.declared.device.Resting.{Resting}
 use Rattle.site_shadow.specs.Resting.{RestsAs}
-use Rattle.site_shadow.specs.Following.{Extends, GoesOn, IsUnasked, IsTold}
+use Rattle.site_shadow.specs.Following.{Extends, GoesOn, IsUnasked, IsReported}
 use Rattle.site_file.specs.declared.files.FileDevice.{FileDevice}
 use Rattle.site_file.specs.Calls.{writes, syncs}
 use Rattle.site_file.specs.Asking.{HasLog}
@@ -30,11 +30,11 @@ pub data Step {F : Type 0} (old : Seen) (before : FileDevice F) (new : Seen) (af
   goes_on : GoesOn old new → ChangesNoFile before after → Step old before new after
   -- a write; where the device passes it, the site has done it
   write : (at : ℕ) (bytes : List ℕ) (passing : Passing) (given : Result (Unit {0}) DeviceFault) → old.is_stopped ≡ false
-      → at ≤ length old.state.disk.bytes → WritesDisk old at bytes given new → IsTold old.faults passing given
+      → at ≤ length old.state.disk.bytes → WritesDisk old at bytes given new → IsReported old.faults passing given
       → CallsJournal (writes at bytes) before passing after → Step old before new after
   -- a sync; where the device passes it, the site has done it
   sync : (passing : Passing) (given : Result (Unit {0}) DeviceFault) → old.is_stopped ≡ false
-      → SyncsDisk old given new → IsTold old.faults passing given
+      → SyncsDisk old given new → IsReported old.faults passing given
       → CallsJournal syncs before passing after → Step old before new after
   -- a half becomes idle as the device says, before it takes a datagram
   rest : (slave : ℕ) (half rested later : SlaveHalf) (resting : Resting) → old.is_stopped ≡ false

@@ -48,7 +48,7 @@ pub data WordsCalls (file : LineFile) (words : List ℕ) : (calls : List Asked) 
   more : (calls one : List Asked) (mid : List ℕ) (word value : ℕ) → WordsCalls file words calls mid → word < length mid → value < 2 ^ 16
       → WordCalls file word value one true → WordsCalls file words (calls ++ one) (slice_set mid word value)
 
--- Behind them the image holds the words, all synced.
+-- After them the image holds the words, all synced.
 abbrev pub WordsAreDurable : Type 0
 WordsAreDurable = (file : LineFile) (words laters : List ℕ) (calls : List Asked) (later : File) → WordsCalls file words calls laters
     → BecomesBy calls (image_of words) later → later ≡ image_of laters
@@ -61,12 +61,12 @@ WriteFollows = (shadow : Disk) (at : ℕ) (bytes : List ℕ) (later : File)
     → BecomesBy (asked Journal (writes at bytes) true ∷ []) (sound shadow) later
     → later ≡ sound (written (write_begun shadow at (length bytes)) at bytes)
 
--- Before, in and behind a write, a power cut leaves of the file what it may leave of the shadow in the middle of the write.
+-- Before, in and after a write, a power cut leaves of the file what it may leave of the shadow in the middle of the write.
 abbrev pub WriteMayHoldAnything : Type 0
 WriteMayHoldAnything = (shadow : Disk) (at : ℕ) (bytes : List ℕ) (done : Bool) (image : List ℕ) → at ≤ length shadow.bytes
     → MayBeLeft (asked Journal (writes at bytes) done ∷ []) (sound shadow) image → StopImage (write_begun shadow at (length bytes)) image
 
--- Behind a write that failed it leaves of the file what it may leave of the shadow, whatever that holds in the range then.
+-- After a write that failed it leaves of the file what it may leave of the shadow, whatever that holds in the range then.
 abbrev pub FailedWriteLeavesNoMore : Type 0
 FailedWriteLeavesNoMore = (shadow after : Disk) (at : ℕ) (bytes : List ℕ) (later : File) (image : List ℕ)
     → shadow.synced_length ≤ length shadow.bytes
@@ -77,7 +77,7 @@ FailedWriteLeavesNoMore = (shadow after : Disk) (at : ℕ) (bytes : List ℕ) (l
 abbrev pub SyncFollows : Type 0
 SyncFollows = (shadow : Disk) (later : File) → BecomesBy (asked Journal syncs true ∷ []) (sound shadow) later → later ≡ sound (synced shadow)
 
--- Before, in and behind a sync, also one that failed, a power cut leaves of the file what it may leave of the shadow before it.
+-- Before, in and after a sync, also one that failed, a power cut leaves of the file what it may leave of the shadow before it.
 abbrev pub SyncLeavesNoMore : Type 0
 SyncLeavesNoMore = (shadow : Disk) (done : Bool) (image : List ℕ) → MayBeLeft (asked Journal syncs done ∷ []) (sound shadow) image
     → StopImage shadow image

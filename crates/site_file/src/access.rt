@@ -25,7 +25,7 @@ pub trait RandomAccessFile {
     /// If they can't be written. Some of them may have been written then.
     fn write_all_at(&self, bytes: &[u8], at: u64) -> io::Result<()>;
 
-    /// Makes the file this long: it loses what is behind that, or grows by zeros.
+    /// Makes the file this long: it loses what is after that, or grows by zeros.
     ///
     /// # Errors
     ///

@@ -64,7 +64,7 @@ pub struct NamedFile<'f, F> {
     file: &'f F,
 }
 
-impl FileTold {
+impl FileLog {
     ghost use Rattle.std.specs.Prelude.{◌↔◌, Some, IsTrue};
 
     /// Whether it was the device of this part.
@@ -112,14 +112,14 @@ pub struct Asking {
     is_first: bool,
     /// The part of the line whose files may be asked. None: each file of the line may be.
     part: Option<LinePart>,
-    ghost told: { has_asked ≡ false → length calls.all ≡ 0 },
+    ghost reported: { has_asked ≡ false → length calls.all ≡ 0 },
     ghost first: { is_first ≡ true → length calls.begun.value ≡ 0 },
     ghost own: { AreOf part calls.all },
 }
 
 /// What a device tells of the calls on its files.
 #[derive(Drop)]
-pub struct FileTold {
+pub struct FileLog {
     /// All that it asked, in order. None where it stood behind two sites: then its log is not all.
     pub calls: Option<History<Asked>>,
     /// The part of the line whose device it was: it has asked the files of that part alone. None: the line's.
@@ -178,20 +178,20 @@ impl Asking {
     }
 
     /// All that was asked, unless a call was made before the log began: then that is not all in it.
-    pub fn told(self) -> FileTold
+    pub fn reported(self) -> FileLog
         ensures tells { TellsFiles self result }
         ensures some { is_some result.calls ≡ self.is_first }
         ensures all { IfSome result.calls (λ log. log ≡ self.calls.all) }
     {
         let part = self.part;
         if self.is_first {
-            FileTold {
+            FileLog {
                 calls: Some(self.into_all()),
                 part,
             }
         } else {
             drop(self);
-            FileTold { calls: None, part }
+            FileLog { calls: None, part }
         }
     }
 

@@ -12,7 +12,7 @@ ghost use Rattle.site_file.specs.Owned.{Lacks, LacksJournal, image_in};
 ghost use Rattle.site_file.specs.Parts.{is_of};
 
 use crate::access::RandomAccessFile;
-use crate::asking::{Asked, Asking, FileTold, LineFile, NamedFile};
+use crate::asking::{Asked, Asking, FileLog, LineFile, NamedFile};
 use crate::owned::{OpenFiles, OwnedFiles};
 use ecat_frame::Frame;
 use esc_model::{RomHalf, WordWrite};
@@ -132,7 +132,7 @@ impl<F: Drop> FileDevice<F> {
             asking,
             has_failed: _,
         } = self;
-        let FileTold { calls, part: _ } = asking.told();
+        let FileLog { calls, part: _ } = asking.reported();
         match calls {
             Some(log) => Some(Finished { files: held, log }),
             None => {
@@ -443,9 +443,9 @@ impl<F: RandomAccessFile + Drop> Lends for FileDevice<F> {
     ghost use Rattle.site_file.specs.Asking.{TellsFiles};
     ghost use Rattle.site_file.specs.Owned.{PutsBack, Takes};
 
-    type Told = FileTold;
+    type Logged = FileLog;
 
-    ghost tells = { λ device told. TellsFiles device.asking told };
+    ghost tells = { λ device reported. TellsFiles device.asking reported };
 
     fn lend(&mut self, part: LinePart) -> FileDevice<F>
         ensures files { Takes part self.old.held result.held self.new.held }
@@ -461,7 +461,7 @@ impl<F: RandomAccessFile + Drop> Lends for FileDevice<F> {
         }
     }
 
-    fn take_back(&mut self, lent: FileDevice<F>) -> FileTold
+    fn take_back(&mut self, lent: FileDevice<F>) -> FileLog
         ensures tells { TellsFiles lent.asking result }
         ensures files { PutsBack self.old.held lent.held self.new.held }
         ensures failed { self.new.has_failed ≡ (self.old.has_failed || lent.has_failed) }
@@ -474,10 +474,10 @@ impl<F: RandomAccessFile + Drop> Lends for FileDevice<F> {
         } = lent;
         self.held.put_back(held);
         self.has_failed = self.has_failed || has_failed;
-        asking.told()
+        asking.reported()
     }
 
-    fn tell(&mut self) -> FileTold
+    fn tell(&mut self) -> FileLog
         ensures tells { TellsFiles self.old.asking result }
         ensures files { self.new.held ≡ self.old.held }
         ensures nothing { (self.new.asking.calls.all ≡ []) × HasLog self.new.asking.calls [] }
@@ -486,6 +486,6 @@ impl<F: RandomAccessFile + Drop> Lends for FileDevice<F> {
     {
         let part = self.asking.part();
         let asking = mem::replace(&mut self.asking, Asking::new(part));
-        asking.told()
+        asking.reported()
     }
 }

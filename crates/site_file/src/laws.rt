@@ -7,7 +7,7 @@ ghost use Rattle.site_file.specs.Laws.{OneFileIsAsked, WordIsDurable, WordMayHol
 ghost use Rattle.site_file.specs.Laws.{FailedWriteLeavesNoMore, SyncFollows, SyncLeavesNoMore, SomethingBecomes, AnyWordMayBeLeft};
 
 /// Once a half has come to rest on a device of files, the image of its slave holds its words, the new one among them, all of it synced; so it is
-/// behind any number of words. Until then, whatever fails, a power cut leaves in the image what it may leave of the half: anything in the
+/// after any number of words. Until then, whatever fails, a power cut leaves in the image what it may leave of the half: anything in the
 /// two bytes of the word in flight, and no other change. No other file is asked anything.
 pub fn word_is_kept()
     ensures others { OneFileIsAsked }
@@ -17,7 +17,7 @@ pub fn word_is_kept()
 {}
 
 /// As long as no call has failed the journal's file is the shadow's disk: its bytes, and which of them are synced. While a call is under way, and
-/// behind one that failed, a power cut leaves of the file what it may leave of the shadow.
+/// after one that failed, a power cut leaves of the file what it may leave of the shadow.
 pub fn journal_follows()
     ensures write { WriteFollows }
     ensures in_a_write { WriteMayHoldAnything }
@@ -54,7 +54,7 @@ pub fn device_leaves_no_more<F>()
 
 /// Files that hold the parts of a site, as its device is put behind it before its first call, follow the site from then on, call by call: what the
 /// device asks in a call of the site is a piece of its log, and a power cut in this piece leaves of the files, all at once, a pair that it may
-/// have left of the site in this call or right behind it. As long as no call on a file fails and the site goes on, they hold its bytes and words,
+/// have left of the site in this call or right after it. As long as no call on a file fails and the site goes on, they hold its bytes and words,
 /// and what is synced of the site is synced in them. Of a part of a line this holds for the files that it owns.
 pub fn files_follow<F>()
     ensures begins { BeginsToFollow F }

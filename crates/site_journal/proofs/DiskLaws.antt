@@ -18,7 +18,7 @@ use Rattle.book_model.specs.declared.next.DiskNext.TheVariants as next
 use Rattle.book_model.specs.Entries.{live_runs, entries_from}
 use Rattle.book_model.specs.Book.{Book, Doing, Resting, Payload, PayloadSync, OpenGate, OpenSync, CloseGate, CloseSync, FarGate, Mark, MarkSync, Version, VersionSync, all_cells, appended, base_of, being_appended, is_closed, is_version_2, queued}
 use Rattle.book_model.specs.Open.{migrate}
-use Rattle.book_model.specs.DiskSteps.{action_of, begun, behind_far_gate, can_migrate, can_retire, doing_next, disk_next, disk_done, went_on}
+use Rattle.book_model.specs.DiskSteps.{action_of, begun, after_far_gate, can_migrate, can_retire, doing_next, disk_next, disk_done, went_on}
 use Rattle.book_model.specs.Reading.{runs_settled}
 use Rattle.book_model.specs.Machine.{Machine}
 use Rattle.book_model.specs.Frame.{JournalFrame}
@@ -108,12 +108,12 @@ older-none (b ∷ older) newer is = absurd cc
 none-halves : (halves : Halves) → live halves ≡ [] → halves_calls halves ≡ 0
 none-halves halves none = let both = older-none halves.older halves.newer none in omega (arith, none-half halves.older both.0, none-half halves.newer both.1)
 
-far-step : (halves : Halves) (form : Form) → live halves ≡ [] → IsStep (behind_far_gate form) halves form
+far-step : (halves : Halves) (form : Form) → live halves ≡ [] → IsStep (after_far_gate form) halves form
 far-step halves One none = none
 far-step halves Two none = none
 far-step halves Moving none = none
 
-far-calls : (halves : Halves) (form : Form) → is_version_2 form ≡ false → disk_calls (behind_far_gate form) halves form + 1 ≤ disk_calls FarGate halves form
+far-calls : (halves : Halves) (form : Form) → is_version_2 form ≡ false → disk_calls (after_far_gate form) halves form + 1 ≤ disk_calls FarGate halves form
 far-calls halves One old = omega arith
 far-calls halves Two old = absurd cc
 far-calls halves Moving old = omega arith
@@ -274,10 +274,10 @@ some-next book Version action is idle = absurd cc
 some-next book VersionSync action is idle = absurd cc
 
 idle-none : (book : Book) (doing : Doing) (action : Option DiskNext) → action_of book doing ≡ action → (disk_next book).0 ≡ next.Idle → book.is_handed_out ≡ false → is_some book.fault ≡ false → doing_next book book.doing ≡ doing → doing ≡ Resting
-idle-none book doing None is idle free ok to = no-action book doing is
-idle-none book doing (Some action) is idle free ok to =
+idle-none book doing None is idle vacant ok to = no-action book doing is
+idle-none book doing (Some action) is idle vacant ok to =
     let here : action_of book (doing_next book book.doing) ≡ Some action = ap (action_of book) to ∙ is in
-    let said : (disk_next book).0 ≡ action = rw (free, ok, here) refl in
+    let said : (disk_next book).0 ≡ action = rw (vacant, ok, here) refl in
     absurd (some-next book doing action is (sym said ∙ idle))
 
 -- where nothing is handed out for the disk, the book rests and begins nothing

@@ -26,7 +26,7 @@ zeros_halved capacity is =
         equal = refl;
         last = replicate r 0;
         odd = omega (arith, length-replicate {A = ℕ} r 0);
-        whole = ap (λ (n : ℕ). replicate {A = ℕ} n 0) sum ∙ sym (replicate-append-replicate {A = ℕ} h (h + r) 0)
+        entire = ap (λ (n : ℕ). replicate {A = ℕ} n 0) sum ∙ sym (replicate-append-replicate {A = ℕ} h (h + r) 0)
             ∙ ap (λ (l : List ℕ). replicate h 0 ++ l) (sym (replicate-append-replicate {A = ℕ} h r 0));
       };
       first_gate = zeros_closed h some;

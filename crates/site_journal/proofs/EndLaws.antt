@@ -10,7 +10,7 @@ use Rattle.sii_edit.proofs.FoldLaws.{none-taken}
 use Rattle.jrn_format.specs.declared.journal.Batch.{Batch}
 use Rattle.jrn_format.specs.declared.journal.Spelling.{Spelling}
 use Rattle.jrn_format.specs.Area.{spelt_batches}
-use Rattle.jrn_format.specs.Batch.{spelt_behind}
+use Rattle.jrn_format.specs.Batch.{spelt_after}
 use Rattle.jrn_format.specs.Halves.{live}
 use Rattle.site_core.specs.State.{State, Pair, Leaves}
 use Rattle.book_model.specs.Cells.{Cell, is_any, cell_of}
@@ -18,7 +18,7 @@ use Rattle.book_model.specs.Pending as pending
 use Rattle.book_model.specs.Pending.{last_of, namings_settled, values_of}
 use Rattle.book_model.specs.declared.next.RomNext.TheVariants as next
 use Rattle.book_model.specs.Entries.{live_runs, namings}
-use Rattle.book_model.specs.Book.{Book, Slave, Errand, Free, Issuing, Unsettled, Settling, all_cells, base_of, nobody, own, slave_at}
+use Rattle.book_model.specs.Book.{Book, Slave, Operation, NoOperation, Issuing, Unsettled, Settling, all_cells, base_of, nobody, own, slave_at}
 use Rattle.book_model.specs.RomSteps.{rom_next, to_do}
 use Rattle.book_model.specs.Reading.{applied, live_bytes, planned, runs_settled, settled_from, spelling_of}
 use Rattle.book_model.specs.Machine.{Machine}
@@ -43,8 +43,8 @@ named-quiet cells at [] is all = absurd cc
 named-quiet cells at (n ∷ ns) is all = one (n.0 == at) refl (λ later. named-quiet cells at ns later all.1)
   where
     one : (c : Bool) → (n.0 == at) ≡ c → (is_any (values_of at ns) ≡ true → is_any (cell_of cells at).owed ≡ false) → is_any (cell_of cells at).owed ≡ false
-    one true same behind = let here : n.0 ≡ at = grind (arith, nat_tests) in subst (λ (k : ℕ). is_any (cell_of cells k).owed ≡ false) here all.0
-    one false other behind = behind (rw other at is)
+    one true same after = let here : n.0 ≡ at = grind (arith, nat_tests) in subst (λ (k : ℕ). is_any (cell_of cells k).owed ≡ false) here all.0
+    one false other after = after (rw other at is)
 
 filter-first : (cells : List Cell) (n : ℕ × ℕ) (ns : List (ℕ × ℕ)) (c : Bool) → is_any (cell_of cells n.0).owed ≡ c → filter (λ (k : ℕ × ℕ). is_any (cell_of cells k.0).owed) (n ∷ ns) ≡ []
     → IsQuiet cells n × (filter (λ (k : ℕ × ℕ). is_any (cell_of cells k.0).owed) ns ≡ [])
@@ -59,23 +59,23 @@ all-quiet cells [] none = tt
 all-quiet cells (n ∷ ns) none = one (is_any (values_of n.0 ns)) refl (λ later. all-quiet cells ns later)
   where
     one : (c : Bool) → is_any (values_of n.0 ns) ≡ c → (pending.to_do cells ns ≡ [] → AllByRecursion (IsQuiet cells) ns) → AllByRecursion (IsQuiet cells) (n ∷ ns)
-    one true again behind =
-        let rest = behind (rw again at none) in
+    one true again after =
+        let rest = after (rw again at none) in
         (named-quiet cells n.0 ns again rest, rest)
-    one false last behind =
+    one false last after =
         let both = filter-first cells n (last_of ns) (is_any (cell_of cells n.0).owed) refl (rw last at none) in
-        (both.0, behind both.1)
+        (both.0, after both.1)
 
 none-owed : (owed : List ℕ) → is_any owed ≡ false → length owed ≡ 0
 none-owed [] is = refl
 none-owed (v ∷ owed) is = absurd cc
 
-quiet-settled : (cells : List Cell) (behind ns : List (ℕ × ℕ)) → AllByRecursion (IsQuiet cells) ns → namings_settled cells behind ns ≡ true
-quiet-settled cells behind [] all = refl
-quiet-settled cells behind (n ∷ ns) all =
+quiet-settled : (cells : List Cell) (after ns : List (ℕ × ℕ)) → AllByRecursion (IsQuiet cells) ns → namings_settled cells after ns ≡ true
+quiet-settled cells after [] all = refl
+quiet-settled cells after (n ∷ ns) all =
     let none = none-owed (cell_of cells n.0).owed all.0 in
-    let le : nat_le (length (cell_of cells n.0).owed) (length (values_of n.0 behind)) ≡ true = grind (arith, nat_tests) in
-    rw le (quiet-settled cells behind ns all.1)
+    let le : nat_le (length (cell_of cells n.0).owed) (length (values_of n.0 after)) ≡ true = grind (arith, nat_tests) in
+    rw le (quiet-settled cells after ns all.1)
 
 all-front : (cells : List Cell) (xs ys : List (ℕ × ℕ)) → AllByRecursion (IsQuiet cells) (xs ++ ys) → AllByRecursion (IsQuiet cells) xs
 all-front cells [] ys all = tt
@@ -87,21 +87,21 @@ all-front cells (x ∷ xs) ys all = (all.0, all-front cells xs ys all.1)
 abbrev QuietFrom : (first : ℕ) → List Slave → List Run → Type 0
 QuietFrom first slaves runs = (i k : ℕ) → i < length slaves → k ≡ first + i → AllByRecursion (IsQuiet (get_or slaves i nobody).cells) (namings runs k)
 
-all-settled : (first : ℕ) (slaves : List Slave) (behind runs : List Run) → QuietFrom first slaves runs → settled_from first (all_cells slaves) behind runs ≡ true
-all-settled first [] behind runs quiet = refl
-all-settled first (s ∷ slaves) behind runs quiet =
-    let here : namings_settled s.cells (namings behind first) (namings runs first) ≡ true = quiet-settled s.cells (namings behind first) (namings runs first) (quiet 0 first (omega arith) (omega arith)) in
-    rw here (all-settled (suc first) slaves behind runs (λ i k within is. quiet (suc i) k (omega arith) (omega arith)))
+all-settled : (first : ℕ) (slaves : List Slave) (after runs : List Run) → QuietFrom first slaves runs → settled_from first (all_cells slaves) after runs ≡ true
+all-settled first [] after runs quiet = refl
+all-settled first (s ∷ slaves) after runs quiet =
+    let here : namings_settled s.cells (namings after first) (namings runs first) ≡ true = quiet-settled s.cells (namings after first) (namings runs first) (quiet 0 first (omega arith) (omega arith)) in
+    rw here (all-settled (suc first) slaves after runs (λ i k within is. quiet (suc i) k (omega arith) (omega arith)))
 
 -- ---- nothing is handed out
 
 module _ (book : Book) (i : ℕ) (there : nat_lt i (length book.slaves) ≡ true) (ok : is_some book.fault ≡ false) (idle : (rom_next book i).0 ≡ next.Idle) where
-  idle-free : (work : List (ℕ × ℕ)) → (slave_at book i).errand ≡ Free → to_do book i ≡ work → to_do book i ≡ []
-  idle-free [] is todo = todo
-  idle-free (w ∷ others) is todo = let goes : (rom_next book i).0 ≡ next.Issue w.0 w.1 = rw (there, is, ok, todo) refl in absurd cc
+  idle-vacant : (work : List (ℕ × ℕ)) → (slave_at book i).operation ≡ NoOperation → to_do book i ≡ work → to_do book i ≡ []
+  idle-vacant [] is todo = todo
+  idle-vacant (w ∷ others) is todo = let goes : (rom_next book i).0 ≡ next.Issue w.0 w.1 = rw (there, is, ok, todo) refl in absurd cc
 
-  idle-as : (errand : Errand) → (slave_at book i).errand ≡ errand → IsBetween errand → to_do book i ≡ []
-  idle-as Free is between = idle-free (to_do book i) is refl
+  idle-as : (operation : Operation) → (slave_at book i).operation ≡ operation → IsBetween operation → to_do book i ≡ []
+  idle-as NoOperation is between = idle-vacant (to_do book i) is refl
   idle-as (Issuing word value) is between = absurd between
   idle-as (Unsettled word value taken) is between = let goes : (rom_next book i).0 ≡ next.Settle taken = rw (there, is, ok) refl in absurd cc
   idle-as (Settling word value taken) is between = absurd between
@@ -110,7 +110,7 @@ module _ (book : Book) (recovering : IsRecovering book) (ok : is_some book.fault
   quiet : QuietFrom 0 book.slaves (live_runs book.halves.older)
   quiet i k within is =
       let same : k ≡ i = omega arith in
-      let none = idle-as book i (grind (arith, nat_tests)) ok (nothing.slaves i within) (slave_at book i).errand refl (recovering.between i within) in
+      let none = idle-as book i (grind (arith, nat_tests)) ok (nothing.slaves i within) (slave_at book i).operation refl (recovering.between i within) in
       let older = live_runs book.halves.older in
       let split : namings (live_runs (live book.halves)) i ≡ namings older i ++ namings (live_runs book.halves.newer) i =
       ap (λ (runs : List Run). namings runs i) (live_runs-append book.halves.older book.halves.newer) ∙ namings-append older (live_runs book.halves.newer) i in
@@ -138,24 +138,24 @@ module _ (book : Book) (recovering : IsRecovering book) (ok : is_some book.fault
 -- ---- nobody stops
 
 module _ (book : Book) (i : ℕ) (there : nat_lt i (length book.slaves) ≡ true) (recovering : IsRecovering book) (ok : is_some book.fault ≡ false) (stop : (rom_next book i).0 ≡ next.Stop) where
-  stops-free : (work : List (ℕ × ℕ)) → (slave_at book i).errand ≡ Free → to_do book i ≡ work → ⊥
-  stops-free [] is todo = let goes : (rom_next book i).0 ≡ next.Idle = rw (there, is, ok, todo, recovering.going) refl in absurd cc
-  stops-free (w ∷ others) is todo = let goes : (rom_next book i).0 ≡ next.Issue w.0 w.1 = rw (there, is, ok, todo) refl in absurd cc
+  stops-vacant : (work : List (ℕ × ℕ)) → (slave_at book i).operation ≡ NoOperation → to_do book i ≡ work → ⊥
+  stops-vacant [] is todo = let goes : (rom_next book i).0 ≡ next.Idle = rw (there, is, ok, todo, recovering.going) refl in absurd cc
+  stops-vacant (w ∷ others) is todo = let goes : (rom_next book i).0 ≡ next.Issue w.0 w.1 = rw (there, is, ok, todo) refl in absurd cc
 
-  stops-as : (errand : Errand) → (slave_at book i).errand ≡ errand → ⊥
-  stops-as Free is = stops-free (to_do book i) is refl
+  stops-as : (operation : Operation) → (slave_at book i).operation ≡ operation → ⊥
+  stops-as NoOperation is = stops-vacant (to_do book i) is refl
   stops-as (Issuing word value) is = let goes : (rom_next book i).0 ≡ next.Idle = rw (there, is) refl in absurd cc
   stops-as (Unsettled word value taken) is = let goes : (rom_next book i).0 ≡ next.Settle taken = rw (there, is, ok) refl in absurd cc
   stops-as (Settling word value taken) is = let goes : (rom_next book i).0 ≡ next.Idle = rw (there, is) refl in absurd cc
 
 pub slave-goes : (book : Book) (i : ℕ) → IsRecovering book → is_some book.fault ≡ false → i < length book.slaves → (rom_next book i).0 ≢ next.Stop
-slave-goes book i recovering ok within stop = stops-as book i (grind (arith, nat_tests)) recovering ok stop (slave_at book i).errand refl
+slave-goes book i recovering ok within stop = stops-as book i (grind (arith, nat_tests)) recovering ok stop (slave_at book i).operation refl
 
 -- ---- no byte is live
 
 no-byte : (spelling : Spelling) (batches : List Batch) → length (spelt_batches spelling batches) ≡ 0 → batches ≡ []
 no-byte spelling [] none = refl
-no-byte spelling (b ∷ batches) none = absurd (omega (arith, length-append (0xA5 ∷ spelt_behind spelling b.generation b.entries) (spelt_batches spelling batches)))
+no-byte spelling (b ∷ batches) none = absurd (omega (arith, length-append (0xA5 ∷ spelt_after spelling b.generation b.entries) (spelt_batches spelling batches)))
 
 pub without-byte : (book : Book) → (live_bytes book ≡ 0) ↔ (live book.halves ≡ [])
 without-byte book = (no-byte (spelling_of book.form) (live book.halves), λ none. ap (λ (l : List Batch). length (spelt_batches (spelling_of book.form) l)) none)

@@ -1,4 +1,4 @@
--- The file gate is closed, an area is written behind it, and the gate is opened: what a stop leaves on the way, and in the end.
+-- The file gate is closed, an area is written after it, and the gate is opened: what a stop leaves on the way, and in the end.
 use Rattle.std.proofs.Common.{◌≡◌, ℕ, ◌+◌, ◌≤◌, suc, List, [], ◌∷◌, ◌++◌, length, drop, replicate, slice_get, Some, Result, Ok, Err, refl, sym, ap, subst, ◌∙◌, inl, inr, arith, append_assoc, length-append}
 use Rattle.std.proofs.lemmas.List.{drop-drop, length-replicate}
 use Rattle.esc_model.specs.SlaveHalf.{SlaveHalf}
@@ -11,24 +11,24 @@ use Rattle.site_core.specs.Calls.{begin_write}
 use Rattle.site_core.proofs.StopImages.{StopImage-synced, equal_by_elements}
 use Rattle.world_law.specs.Happenings.{with_synced}
 use Rattle.site_journal.specs.Runs.{MakesCalls}
-use Rattle.site_journal.specs.Formatting.{formatted, behind_gate, pieces, PutsDown, IsPairOnTheWay, Formats}
+use Rattle.site_journal.specs.Formatting.{formatted, after_gate, pieces, PutsDown, IsPairOnTheWay, Formats}
 use Rattle.site_journal.proofs.Laying.{made}
 use Rattle.site_journal.proofs.CallRuns.{runs_weaker, runs_then}
 
-behind_long : (slaves capacity : ℕ) → length (behind_gate slaves capacity) ≡ 7 + capacity
-behind_long slaves capacity = omega (arith, length-append (drop 1 (header_bytes 2 slaves capacity)) (replicate capacity 0), length-replicate {A = ℕ} capacity 0, seven)
+after_long : (slaves capacity : ℕ) → length (after_gate slaves capacity) ≡ 7 + capacity
+after_long slaves capacity = omega (arith, length-append (drop 1 (header_bytes 2 slaves capacity)) (replicate capacity 0), length-replicate {A = ℕ} capacity 0, seven)
   where
     seven : length (drop 1 (header_bytes 2 slaves capacity)) ≡ 7
     seven = refl
 
 -- and with the area laid
-second_bytes : (slaves capacity gate : ℕ) (bytes : List ℕ) → overlaid (gate ∷ drop 1 bytes) 1 (behind_gate slaves capacity) ≡ gate ∷ drop 1 (formatted slaves capacity bytes)
+second_bytes : (slaves capacity gate : ℕ) (bytes : List ℕ) → overlaid (gate ∷ drop 1 bytes) 1 (after_gate slaves capacity) ≡ gate ∷ drop 1 (formatted slaves capacity bytes)
 second_bytes slaves capacity gate bytes =
     let rest = drop 1 (header_bytes 2 slaves capacity) in
-    let long : 1 + length (behind_gate slaves capacity) ≡ suc (7 + capacity) = omega (arith, behind_long slaves capacity) in
-    let e : drop (1 + length (behind_gate slaves capacity)) (gate ∷ drop 1 bytes) ≡ drop (8 + capacity) bytes =
+    let long : 1 + length (after_gate slaves capacity) ≡ suc (7 + capacity) = omega (arith, after_long slaves capacity) in
+    let e : drop (1 + length (after_gate slaves capacity)) (gate ∷ drop 1 bytes) ≡ drop (8 + capacity) bytes =
     ap (λ (n : ℕ). drop n (gate ∷ drop 1 bytes)) long ∙ further in
-    ap (λ (l : List ℕ). gate ∷ (behind_gate slaves capacity ++ l)) e
+    ap (λ (l : List ℕ). gate ∷ (after_gate slaves capacity ++ l)) e
     ∙ ap (λ (l : List ℕ). gate ∷ l) (append_assoc rest (replicate capacity 0) (drop (8 + capacity) bytes))
   where
     further : drop (suc (7 + capacity)) (gate ∷ drop 1 bytes) ≡ drop (8 + capacity) bytes
@@ -47,7 +47,7 @@ closed_of : (image : List ℕ) → slice_get image 0 ≡ Some 0 → IsClosed ima
 closed_of [] is = absurd cc
 closed_of (x ∷ xs) is = (x, xs, (λ e. absurd (let zero_is : x ≡ 0 = cc in omega arith)), refl)
 
--- of a disk that begins with a 0, while what is behind it is written
+-- of a disk that begins with a 0, while what is after it is written
 closed_meanwhile : (bytes : List ℕ) (halves : List SlaveHalf) (count : ℕ) (pair : Pair) → Leaves (begin_write (made (0 ∷ bytes) halves) 1 count) pair → IsClosed pair.disk
 closed_meanwhile bytes halves count pair leaves = closed_of pair.disk (leaves.disk.bytes 0 (inl (omega arith), tt))
 
@@ -59,16 +59,16 @@ but_first gate bytes (x ∷ xs) stop = (x, ap (λ (l : List ℕ). x ∷ l) (equa
 
 -- ---- the whole
 
--- the states behind each of the three parts
+-- the states after each of the three parts
 pub record Parts (slaves capacity : ℕ) (a b c : State) : Type 0 where
   pub second : b ≡ made (0 ∷ drop 1 a.disk.bytes) a.halves
   pub third : c ≡ made (0 ∷ drop 1 (formatted slaves capacity a.disk.bytes)) a.halves
 
 parts : (slaves capacity : ℕ) (a b c : State) → b ≡ with_synced (record a { disk = written a.disk 0 (0 ∷ []) })
-    → c ≡ with_synced (record b { disk = written b.disk 1 (behind_gate slaves capacity) }) → Parts slaves capacity a b c
+    → c ≡ with_synced (record b { disk = written b.disk 1 (after_gate slaves capacity) }) → Parts slaves capacity a b c
 parts slaves capacity a b c first next = record {
   second = first;
-  third = put_state c b 1 (behind_gate slaves capacity) (0 ∷ drop 1 a.disk.bytes) a.halves first next
+  third = put_state c b 1 (after_gate slaves capacity) (0 ∷ drop 1 a.disk.bytes) a.halves first next
       ∙ ap (λ (l : List ℕ). made l a.halves) (second_bytes slaves capacity 0 a.disk.bytes);
 }
 
@@ -93,19 +93,19 @@ pub first_runs : (slaves capacity most : ℕ) (a b : Seen) (result : Result (Uni
 first_runs slaves capacity most a b result few puts =
     runs_weaker (Leaves (begin_write a.state 0 1)) (IsPairOnTheWay slaves capacity a.state) a 2 most result b few (λ pair leaves. first_on_the_way slaves capacity a.state pair leaves) puts.runs
 
--- the area is laid behind it, or not
+-- the area is laid after it, or not
 pub second_runs : (slaves capacity most : ℕ) (a b c : Seen) (result : Result (Unit {0}) DeviceFault) → 4 + pieces capacity ≤ most → PutsDown a 0 (0 ∷ []) 2 (Ok tt) b
-    → PutsDown b 1 (behind_gate slaves capacity) (2 + pieces capacity) result c → MakesCalls (IsPairOnTheWay slaves capacity a.state) a most result c
+    → PutsDown b 1 (after_gate slaves capacity) (2 + pieces capacity) result c → MakesCalls (IsPairOnTheWay slaves capacity a.state) a most result c
 second_runs slaves capacity most a b c result few first second =
     let n : ℕ = 2 + pieces capacity in
-    let count : ℕ = length (behind_gate slaves capacity) in
+    let count : ℕ = length (after_gate slaves capacity) in
     let Q : Pair → Type 0 = IsPairOnTheWay slaves capacity a.state in
     runs_then Q a b c 2 n most tt result (omega arith) (first_runs slaves capacity 2 a b (Ok tt) (omega arith) first)
     (runs_weaker (Leaves (begin_write b.state 1 count)) Q b n n result c (omega arith) (λ pair leaves. second_on_the_way slaves capacity count a.state b.state pair first.put leaves) second.runs)
 
 -- the gate is opened, or not
 pub third_runs : (slaves capacity : ℕ) (a b c d : Seen) (result : Result (Unit {0}) DeviceFault) → PutsDown a 0 (0 ∷ []) 2 (Ok tt) b
-    → PutsDown b 1 (behind_gate slaves capacity) (2 + pieces capacity) (Ok tt) c → PutsDown c 0 (0xA5 ∷ []) 2 result d
+    → PutsDown b 1 (after_gate slaves capacity) (2 + pieces capacity) (Ok tt) c → PutsDown c 0 (0xA5 ∷ []) 2 result d
     → MakesCalls (IsPairOnTheWay slaves capacity a.state) a (6 + pieces capacity) result d
 third_runs slaves capacity a b c d result first second third =
     let m : ℕ = 4 + pieces capacity in
@@ -133,7 +133,7 @@ formats_so slaves capacity a c d (Ok done) is third runs =
 formats_so slaves capacity a c d (Err fault) is third runs = record { runs = runs; bytes = tt; only = tt; halves = tt }
 
 pub formats : (slaves capacity : ℕ) (a b c d : Seen) (result : Result (Unit {0}) DeviceFault) → PutsDown a 0 (0 ∷ []) 2 (Ok tt) b
-    → PutsDown b 1 (behind_gate slaves capacity) (2 + pieces capacity) (Ok tt) c → PutsDown c 0 (0xA5 ∷ []) 2 result d → Formats slaves capacity a result d
+    → PutsDown b 1 (after_gate slaves capacity) (2 + pieces capacity) (Ok tt) c → PutsDown c 0 (0xA5 ∷ []) 2 result d → Formats slaves capacity a result d
 formats slaves capacity a b c d result first second third =
     formats_so slaves capacity a c d result (parts slaves capacity a.state b.state c.state first.put second.put).third third
     (third_runs slaves capacity a b c d result first second third)

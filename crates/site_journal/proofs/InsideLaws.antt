@@ -54,7 +54,7 @@ place_of (Some (next.Write at bytes)) = at
 place_of (Some (next.Gate at closed)) = at
 place_of (Some other) = 0
 
--- the gate behind the batches, and the byte behind it
+-- the gate after the batches, and the byte after it
 gate-inside : (frame : JournalFrame) (book : Book) (place : Place) (gate : ℕ) (rest beside bytes : List ℕ) → book.capacity ≡ frame.capacity → book.halves.at ≤ 1
     → IsFramed frame (half_of book.halves place) (spelt_batches WithGeneration (batches_in book.halves place) ++ (gate ∷ rest)) beside bytes → place_at book place + 1 ≤ length bytes
 gate-inside frame book place gate rest beside bytes same le framed =

@@ -20,7 +20,7 @@ use Rattle.site_journal.proofs.ReadLaws.{sync_runs}
 length-laid : (bytes over : List ℕ) (at : ℕ) → at ≤ length bytes → length (take at bytes ++ over) ≡ at + length over
 length-laid bytes over at within = omega (arith, length-append (take at bytes) over, length-take at bytes)
 
--- one part behind the other
+-- one part after the other
 pub overlaid-then : (bytes over more : List ℕ) (at : ℕ) → at ≤ length bytes → overlaid (overlaid bytes at over) (at + length over) more ≡ overlaid bytes at (over ++ more)
 overlaid-then bytes over more at within =
     let front : List ℕ = take at bytes ++ over in
@@ -69,11 +69,11 @@ lies_then old mid new at over more within first second = record {
   where
     outside_last : (place : ℕ) → IsOutside place (record { start = at; count = length (over ++ more) }) → IsOutside place (record { start = at + length over; count = length more })
     outside_last place (inl below) = inl (omega arith)
-    outside_last place (inr behind) = inr (omega (arith, length-append over more))
+    outside_last place (inr after) = inr (omega (arith, length-append over more))
 
     outside_first : (place : ℕ) → IsOutside place (record { start = at; count = length (over ++ more) }) → IsOutside place (record { start = at; count = length over })
     outside_first place (inl below) = inl below
-    outside_first place (inr behind) = inr (omega (arith, length-append over more))
+    outside_first place (inr after) = inr (omega (arith, length-append over more))
 
 -- What a stop leaves as a further write begins is what it leaves as one write of all begins.
 pub begun_within : (old mid : Disk) (at : ℕ) (over : List ℕ) (more count : ℕ) (image : List ℕ) → at ≤ length old.bytes → length over + more ≤ count → LiesOver old at over mid
@@ -91,11 +91,11 @@ begun_within old mid at over more count image within fits lies stop = record {
   where
     outside_last : (place : ℕ) → IsOutside place (record { start = at; count = count }) → IsOutside place (record { start = at + length over; count = more })
     outside_last place (inl below) = inl (omega arith)
-    outside_last place (inr behind) = inr (omega arith)
+    outside_last place (inr after) = inr (omega arith)
 
     outside_first : (place : ℕ) → IsOutside place (record { start = at; count = count }) → IsOutside place (record { start = at; count = length over })
     outside_first place (inl below) = inl below
-    outside_first place (inr behind) = inr (omega arith)
+    outside_first place (inr after) = inr (omega arith)
 
 -- ---- the calls
 

@@ -30,10 +30,10 @@ use Rattle.site_journal.proofs.NamedLaws.{words_of_runs, named_among, named-few}
 abbrev found_slaves : List Run → ℕ → List (List ℕ) → List Slave
 found_slaves runs k words = owing_slaves runs k (map opened_slave words)
 
-free-found : (runs : List Run) (k : ℕ) (words : List (List ℕ)) (i : ℕ) → i < length (found_slaves runs k words) → IsBetween (get_or (found_slaves runs k words) i nobody).errand
-free-found runs k [] i within = absurd (omega arith)
-free-found runs k (w ∷ words) zero within = tt
-free-found runs k (w ∷ words) (suc i) within = free-found runs (suc k) words i (omega arith)
+vacant-found : (runs : List Run) (k : ℕ) (words : List (List ℕ)) (i : ℕ) → i < length (found_slaves runs k words) → IsBetween (get_or (found_slaves runs k words) i nobody).operation
+vacant-found runs k [] i within = absurd (omega arith)
+vacant-found runs k (w ∷ words) zero within = tt
+vacant-found runs k (w ∷ words) (suc i) within = vacant-found runs (suc k) words i (omega arith)
 
 calls-found : (entries : List Entry) (runs : List Run) (first k : ℕ) (words : List (List ℕ)) → slaves_calls entries first (found_slaves runs k words) ≡ 30006 * named_among (runs_of entries) first (found_slaves runs k words)
 calls-found entries runs first k [] = refl
@@ -52,7 +52,7 @@ half-few (b ∷ batches) = omega arith
 
 pub recovering-opened : (words : List (List ℕ)) (capacity : ℕ) (journal : Journal) → IsRecovering (open_book words capacity journal)
 recovering-opened words capacity journal =
-    record { none = refl; step = tt; rests = refl; going = refl; between = free-found (live_runs journal.batches) 0 words; worn = worn-opened words capacity journal }
+    record { none = refl; step = tt; rests = refl; going = refl; between = vacant-found (live_runs journal.batches) 0 words; worn = worn-opened words capacity journal }
 
 pub few-calls : (words : List (List ℕ)) (capacity : ℕ) (journal : Journal) → calls_left (open_book words capacity journal) ≤ 4 + migration_calls journal.form + 30006 * words_named journal.batches
 few-calls words capacity journal =

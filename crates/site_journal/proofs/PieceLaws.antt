@@ -48,7 +48,7 @@ pub zeros-more : (a b c : Seen) (at size : ℕ) (bytes : List ℕ) (result : Res
 zeros-more a b c at size bytes result is few sofar writes =
     pieces-then a b c sofar (piece-written b c at bytes result (omega (arith, few, ap (λ (l : List ℕ). length l) is, length-replicate {A = ℕ} size 0)) writes)
 
--- the header behind its gate is shorter than a piece
+-- the header after its gate is shorter than a piece
 pub header-short : (slaves capacity : ℕ) → length (drop 1 (header_bytes 2 slaves capacity)) ≤ 4096
 header-short slaves capacity =
     let seven : length (drop 1 (header_bytes 2 slaves capacity)) ≡ 7 = refl in

@@ -130,8 +130,8 @@ reads_all bytes_of a b c d count n value bytes same is syncs gives reads = recor
       let bytes_are : c.state.disk.bytes ≡ a.state.disk.bytes = ap (λ (s : State). s.disk.bytes) (is_synced a b c count syncs gives) in
       let before : b.state.disk.bytes ≡ a.state.disk.bytes = ap (λ (s : State). s.disk.bytes) syncs.ok in
       let long : count ≡ length b.state.disk.bytes = gives.length in
-      let whole : 0 + n ≡ length c.state.disk.bytes = omega (arith, same, long, ap (λ (l : List ℕ). length l) before, ap (λ (l : List ℕ). length l) bytes_are) in
-      let read_is : bytes ≡ c.state.disk.bytes = reads.bytes_read ∙ all_of c.state.disk.bytes (0 + n) whole in
-      let full : length bytes ≡ count = omega (arith, same, whole, ap (λ (l : List ℕ). length l) read_is) in
+      let entire : 0 + n ≡ length c.state.disk.bytes = omega (arith, same, long, ap (λ (l : List ℕ). length l) before, ap (λ (l : List ℕ). length l) bytes_are) in
+      let read_is : bytes ≡ c.state.disk.bytes = reads.bytes_read ∙ all_of c.state.disk.bytes (0 + n) entire in
+      let full : length bytes ≡ count = omega (arith, same, entire, ap (λ (l : List ℕ). length l) read_is) in
       is full ∙ read_is ∙ bytes_are;
 }

@@ -19,7 +19,7 @@ use Rattle.book_model.specs.declared.next.RomNext.TheVariants as next
 use Rattle.book_model.specs.declared.next.RomOutcome.{RomOutcome}
 use Rattle.book_model.specs.declared.next.RomOutcome.TheVariants as outcomes
 use Rattle.book_model.specs.Entries.{live_runs}
-use Rattle.book_model.specs.Book.{Book, Doing, Resting, Payload, PayloadSync, OpenGate, OpenSync, CloseGate, CloseSync, FarGate, Mark, MarkSync, Version, VersionSync, Errand, Free, Issuing, Unsettled, Settling, slave_at}
+use Rattle.book_model.specs.Book.{Book, Doing, Resting, Payload, PayloadSync, OpenGate, OpenSync, CloseGate, CloseSync, FarGate, Mark, MarkSync, Version, VersionSync, Operation, NoOperation, Issuing, Unsettled, Settling, slave_at}
 use Rattle.book_model.specs.DiskSteps.{went_on, disk_next, disk_done}
 use Rattle.book_model.specs.RomSteps.{is_last, with_again, rom_next, rom_done}
 use Rattle.book_model.specs.Machine.{Machine}
@@ -100,14 +100,14 @@ module _ (book : Book) (i : ℕ) (within : i < length book.slaves) where
   there = grind (arith, nat_tests)
 
   -- in a fault nothing is asked of a slave
-  fault-idle : (errand : Errand) → (slave_at book i).errand ≡ errand → is_some book.fault ≡ true → events.IsNothing (rom_next book i).0
-  fault-idle Free is fault = let a : (rom_next book i).0 ≡ next.Stop = rw (there, is, fault) refl in subst events.IsNothing (sym a) tt
+  fault-idle : (operation : Operation) → (slave_at book i).operation ≡ operation → is_some book.fault ≡ true → events.IsNothing (rom_next book i).0
+  fault-idle NoOperation is fault = let a : (rom_next book i).0 ≡ next.Stop = rw (there, is, fault) refl in subst events.IsNothing (sym a) tt
   fault-idle (Issuing word value) is fault = let a : (rom_next book i).0 ≡ next.Idle = rw (there, is) refl in subst events.IsNothing (sym a) tt
   fault-idle (Unsettled word value taken) is fault = let a : (rom_next book i).0 ≡ next.Stop = rw (there, is, fault) refl in subst events.IsNothing (sym a) tt
   fault-idle (Settling word value taken) is fault = let a : (rom_next book i).0 ≡ next.Idle = rw (there, is) refl in subst events.IsNothing (sym a) tt
 
   sound-by : (failed : Bool) → is_some book.fault ≡ failed → (events.IsNothing (rom_next book i).0 → ⊥) → is_some book.fault ≡ false
-  sound-by true fault some = absurd (some (fault-idle (slave_at book i).errand refl fault))
+  sound-by true fault some = absurd (some (fault-idle (slave_at book i).operation refl fault))
   sound-by false fault some = fault
 
   pub asked-sound : (events.IsNothing (rom_next book i).0 → ⊥) → is_some book.fault ≡ false
@@ -119,14 +119,14 @@ module _ (book : Book) (i : ℕ) (within : i < length book.slaves) where
   asked-rests : events.Asks book i → Rests (rom_next book i)
   asked-rests (events.nothing answer none is) = subst Rests (sym is) refl
   asked-rests (events.issue w others todo is) = subst Rests (sym is) refl
-  asked-rests (events.settle word value taken errand is) = subst Rests (sym is) refl
+  asked-rests (events.settle word value taken operation is) = subst Rests (sym is) refl
 
 again-rests : (book : Book) (i word : ℕ) (last : Bool) → is_last (cell_of (slave_at book i).cells word).known ≡ last → (with_again book i word).is_handed_out ≡ book.is_handed_out
 again-rests book i word true is = rw is refl
 again-rests book i word false is = rw is refl
 
-back-rests : (book : Book) (i : ℕ) (errand : Errand) (outcome : RomOutcome) → (slave_at book i).errand ≡ errand → (rom_done book i outcome).is_handed_out ≡ book.is_handed_out
-back-rests book i Free outcome is = rw is refl
+back-rests : (book : Book) (i : ℕ) (operation : Operation) (outcome : RomOutcome) → (slave_at book i).operation ≡ operation → (rom_done book i outcome).is_handed_out ≡ book.is_handed_out
+back-rests book i NoOperation outcome is = rw is refl
 back-rests book i (Unsettled word value taken) outcome is = rw is refl
 back-rests book i (Issuing word value) (outcomes.Issued how) is = rw is refl
 back-rests book i (Issuing word value) (outcomes.Settled how) is = rw is refl
@@ -144,7 +144,7 @@ module _ (book : Book) (old new : Seen) (ready : IsReady book old) (i : ℕ) (wi
   later = (rom_next book i).1
 
   back : (outcome : RomOutcome) → (rom_done later i outcome).is_handed_out ≡ false
-  back outcome = back-rests later i (slave_at later i).errand outcome refl ∙ asked-rests book i within (handed book i within) ∙ ready.rests
+  back outcome = back-rests later i (slave_at later i).operation outcome refl ∙ asked-rests book i within (handed book i within) ∙ ready.rests
 
   module _ (word value : ℕ) (is : (rom_next book i).0 ≡ next.Issue word value) where
     issued : (result : Result Issued DeviceFault) → IssuesWord old i word value result new → is_some book.fault ≡ false → IsReady (rom_done later i (issue_outcome result)) new

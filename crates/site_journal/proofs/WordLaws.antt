@@ -20,7 +20,7 @@ use Rattle.book_model.specs.declared.next.RomNext.TheVariants as next
 use Rattle.book_model.specs.declared.next.RomOutcome.{RomOutcome}
 use Rattle.book_model.specs.declared.next.RomOutcome.TheVariants.{Issued, Settled, Stopped}
 use Rattle.book_model.specs.Entries.{entries_from, namings, runs_of}
-use Rattle.book_model.specs.Book.{Book, Free, Issuing, Unsettled, Settling, Slave, base_of, nobody, first_fault, slave_at, with_slave}
+use Rattle.book_model.specs.Book.{Book, NoOperation, Issuing, Unsettled, Settling, Slave, base_of, nobody, first_fault, slave_at, with_slave}
 use Rattle.book_model.specs.RomSteps.{is_last, rom_done, rom_next, was_taken, with_again, with_issue}
 use Rattle.book_model.specs.Reading.{all_entries}
 use Rattle.book_model.specs.Machine.{Machine}
@@ -33,7 +33,7 @@ use Rattle.book_model.proofs.SlaveEventLaws.{IsNothing, asks, up-asks}
 use Rattle.book_model.specs.Worn.{named_for, Worn}
 use Rattle.book_model.proofs.WornBooks.{worn-rom_next, worn-rom_done}
 use Rattle.book_model.proofs.WornSlaves.{few-issues}
-use Rattle.site_journal.specs.Left.{errand_calls, slave_calls, words_issued}
+use Rattle.site_journal.specs.Left.{operation_calls, slave_calls, words_issued}
 use Rattle.site_journal.specs.Recovering.{IsBetween, IsRecovering, GetsNearer, IsOfIssue, IsOfSettle, MayFail}
 use Rattle.site_journal.proofs.CallLaws.{calls-with, issued-with}
 use Rattle.site_journal.proofs.NamedLaws.{words_of_runs, named_among, named-few}
@@ -50,8 +50,8 @@ record Ends (book : Book) (i most words : ℕ) (outcome : RomOutcome) (new : Boo
   slave : Slave
   fault : Option Fault
   is : new ≡ with book i slave fault
-  between : IsBetween slave.errand
-  few : errand_calls slave.errand ≤ most
+  between : IsBetween slave.operation
+  few : operation_calls slave.operation ≤ most
   issues : slave.issues ≡ (slave_at book i).issues + words
   may_fail : MayFail i outcome book.fault fault
 
@@ -74,14 +74,14 @@ ends-from book i most words more slave outcome new within counted ends =
 
 -- ---- the book goes on
 
-between-with : (book : Book) (i : ℕ) (slave : Slave) → i < length book.slaves → IsBetween slave.errand → ((k : ℕ) → k < length book.slaves → IsBetween (slave_at book k).errand)
-    → (k : ℕ) → k < length (set book.slaves i slave) → IsBetween (get_or (set book.slaves i slave) k nobody).errand
+between-with : (book : Book) (i : ℕ) (slave : Slave) → i < length book.slaves → IsBetween slave.operation → ((k : ℕ) → k < length book.slaves → IsBetween (slave_at book k).operation)
+    → (k : ℕ) → k < length (set book.slaves i slave) → IsBetween (get_or (set book.slaves i slave) k nobody).operation
 between-with book i slave within here others k inside = elim (cases_eq k i) [
   | inl same ↦
-      subst (λ (n : ℕ). IsBetween (get_or (set book.slaves i slave) n nobody).errand) (sym same)
-      (subst (λ (s : Slave). IsBetween s.errand) (sym (get_or-set_same book.slaves i slave nobody within)) here)
+      subst (λ (n : ℕ). IsBetween (get_or (set book.slaves i slave) n nobody).operation) (sym same)
+      (subst (λ (s : Slave). IsBetween s.operation) (sym (get_or-set_same book.slaves i slave nobody within)) here)
   | inr other ↦
-      subst (λ (s : Slave). IsBetween s.errand) (sym (get_or-set_other book.slaves i k slave nobody other))
+      subst (λ (s : Slave). IsBetween s.operation) (sym (get_or-set_other book.slaves i k slave nobody other))
       (others k (omega (arith, inside, length-set book.slaves i slave)))
 ]
 
@@ -92,7 +92,7 @@ few-with book i slave fault within worn =
     let few = few-issues (named_for (all_entries book) i) (is_some fault) (get_or (set book.slaves i slave) i nobody) (worn i (omega (arith, within, length-set book.slaves i slave))) in
     omega (arith, few, ap (λ (s : Slave). s.issues) here)
 
-goes-with : (book : Book) (i calls words : ℕ) (slave : Slave) (fault : Option Fault) → i < length book.slaves → IsRecovering book → IsBetween slave.errand → slave.issues ≡ (slave_at book i).issues + words
+goes-with : (book : Book) (i calls words : ℕ) (slave : Slave) (fault : Option Fault) → i < length book.slaves → IsRecovering book → IsBetween slave.operation → slave.issues ≡ (slave_at book i).issues + words
     → slave_calls (named_for (all_entries book) i) slave + calls ≤ slave_calls (named_for (all_entries book) i) (slave_at book i) → Worn (with book i slave fault) → GetsNearer calls words book (with book i slave fault)
 goes-with book i calls words slave fault within r between issues fewer worn = record {
   recovering = record { none = r.none; step = r.step; rests = r.rests; going = r.going; between = between-with book i slave within between r.between; worn = worn };
@@ -119,7 +119,7 @@ issue-goes book i outcome new within r worn ends =
     let now : 10002 * (3 * named - slave.issues) ≡ 10002 * (3 * named - ((slave_at book i).issues + 1)) = ap (λ (n : ℕ). 10002 * (3 * named - n)) count in
     subst (Came 1 1 i outcome book) (sym ends.is) (goes-with book i 1 1 slave ends.fault within r ends.between count (omega (arith, less, now, few)) worn_is, ends.may_fail)
 
-settle-goes : (book : Book) (i : ℕ) (outcome : RomOutcome) (new : Book) → i < length book.slaves → IsRecovering book → Worn new → errand_calls (slave_at book i).errand ≡ 10001 → Ends book i 0 0 outcome new → Came 10001 0 i outcome book new
+settle-goes : (book : Book) (i : ℕ) (outcome : RomOutcome) (new : Book) → i < length book.slaves → IsRecovering book → Worn new → operation_calls (slave_at book i).operation ≡ 10001 → Ends book i 0 0 outcome new → Came 10001 0 i outcome book new
 settle-goes book i outcome new within r worn waits ends =
     let slave = ends.slave in
     let named = named_for (all_entries book) i in
@@ -130,24 +130,24 @@ settle-goes book i outcome new within r worn waits ends =
 
 -- ---- the outcome
 
-freed : (book : Book) (i : ℕ) (fault : Option Fault) (outcome : RomOutcome) (new : Book) → new ≡ with book i (record (slave_at book i) { errand = Free }) fault → MayFail i outcome book.fault fault → Ends book i 0 0 outcome new
-freed book i fault outcome new is may = record { slave = record (slave_at book i) { errand = Free }; fault = fault; is = is; between = tt; few = omega arith; issues = omega arith; may_fail = may }
+freed : (book : Book) (i : ℕ) (fault : Option Fault) (outcome : RomOutcome) (new : Book) → new ≡ with book i (record (slave_at book i) { operation = NoOperation }) fault → MayFail i outcome book.fault fault → Ends book i 0 0 outcome new
+freed book i fault outcome new is may = record { slave = record (slave_at book i) { operation = NoOperation }; fault = fault; is = is; between = tt; few = omega arith; issues = omega arith; may_fail = may }
 
-issue-ends : (book : Book) (i word value : ℕ) (outcome : RomOutcome) → (slave_at book i).errand ≡ Issuing word value → IsOfIssue outcome → Ends book i 10001 0 outcome (rom_done book i outcome)
-issue-ends book i word value (Issued how) errand of = record {
-  slave = record (slave_at book i) { errand = Unsettled word value (was_taken how) };
+issue-ends : (book : Book) (i word value : ℕ) (outcome : RomOutcome) → (slave_at book i).operation ≡ Issuing word value → IsOfIssue outcome → Ends book i 10001 0 outcome (rom_done book i outcome)
+issue-ends book i word value (Issued how) operation of = record {
+  slave = record (slave_at book i) { operation = Unsettled word value (was_taken how) };
   fault = book.fault;
-  is = rw errand refl;
+  is = rw operation refl;
   between = tt;
   few = omega arith;
   issues = omega arith;
   may_fail = refl;
 }
-issue-ends book i word value (Settled how) errand of = absurd of
-issue-ends book i word value Stopped errand of = record {
-  slave = record (slave_at book i) { errand = Free };
+issue-ends book i word value (Settled how) operation of = absurd of
+issue-ends book i word value Stopped operation of = record {
+  slave = record (slave_at book i) { operation = NoOperation };
   fault = Some (first_fault book.fault faults.Stopped);
-  is = rw errand refl;
+  is = rw operation refl;
   between = tt;
   few = omega arith;
   issues = omega arith;
@@ -158,23 +158,23 @@ again-ends : (book : Book) (i word : ℕ) (last : Bool) → is_last (cell_of (sl
 again-ends book i word true last = freed book i (Some (first_fault book.fault (faults.SlaveDead i))) (Settled settled.Again) (with_again book i word) (rw last refl) (inr refl)
 again-ends book i word false last = freed book i book.fault (Settled settled.Again) (with_again book i word) (rw last refl) (inl refl)
 
-settle-ends : (book : Book) (i word value : ℕ) (taken : Bool) (outcome : RomOutcome) → (slave_at book i).errand ≡ Settling word value taken → IsOfSettle outcome → Ends book i 0 0 outcome (rom_done book i outcome)
-settle-ends book i word value taken (Issued how) errand of = absurd of
-settle-ends book i word value taken (Settled settled.Written) errand of = record {
-  slave = record (slave_at book i) { cells = set (slave_at book i).cells word (written (cell_of (slave_at book i).cells word) value); errand = Free };
+settle-ends : (book : Book) (i word value : ℕ) (taken : Bool) (outcome : RomOutcome) → (slave_at book i).operation ≡ Settling word value taken → IsOfSettle outcome → Ends book i 0 0 outcome (rom_done book i outcome)
+settle-ends book i word value taken (Issued how) operation of = absurd of
+settle-ends book i word value taken (Settled settled.Written) operation of = record {
+  slave = record (slave_at book i) { cells = set (slave_at book i).cells word (written (cell_of (slave_at book i).cells word) value); operation = NoOperation };
   fault = book.fault;
-  is = rw errand refl;
+  is = rw operation refl;
   between = tt;
   few = omega arith;
   issues = omega arith;
   may_fail = inl refl;
 }
-settle-ends book i word value taken (Settled settled.Again) errand of =
-    let goes : rom_done book i (Settled settled.Again) ≡ with_again book i word = rw errand refl in
+settle-ends book i word value taken (Settled settled.Again) operation of =
+    let goes : rom_done book i (Settled settled.Again) ≡ with_again book i word = rw operation refl in
     subst (Ends book i 0 0 (Settled settled.Again)) (sym goes) (again-ends book i word (is_last (cell_of (slave_at book i).cells word).known) refl)
-settle-ends book i word value taken (Settled settled.Dead) errand of =
-    freed book i (Some (first_fault book.fault (faults.SlaveDead i))) (Settled settled.Dead) (rom_done book i (Settled settled.Dead)) (rw errand refl) (inr refl)
-settle-ends book i word value taken Stopped errand of = freed book i (Some (first_fault book.fault faults.Stopped)) Stopped (rom_done book i Stopped) (rw errand refl) refl
+settle-ends book i word value taken (Settled settled.Dead) operation of =
+    freed book i (Some (first_fault book.fault (faults.SlaveDead i))) (Settled settled.Dead) (rom_done book i (Settled settled.Dead)) (rw operation refl) (inr refl)
+settle-ends book i word value taken Stopped operation of = freed book i (Some (first_fault book.fault faults.Stopped)) Stopped (rom_done book i Stopped) (rw operation refl) refl
 
 -- ---- what is handed out
 
@@ -184,8 +184,8 @@ begins-same (next.Settle taken) i half = refl
 begins-same next.Idle i half = refl
 begins-same next.Stop i half = refl
 
-errand-set : (book : Book) (i : ℕ) (slave : Slave) → i < length book.slaves → (slave_at (with_slave book i slave) i).errand ≡ slave.errand
-errand-set book i slave within = ap (λ (s : Slave). s.errand) (get_or-set_same book.slaves i slave nobody within)
+operation-set : (book : Book) (i : ℕ) (slave : Slave) → i < length book.slaves → (slave_at (with_slave book i slave) i).operation ≡ slave.operation
+operation-set book i slave within = ap (λ (s : Slave). s.operation) (get_or-set_same book.slaves i slave nobody within)
 
 module _ (frame : JournalFrame) (book : Book) (state : State) (took : List Bool) (m : Machine) (i : ℕ) (up : Up frame book state took m) (recovering : IsRecovering book) (within : i < length book.slaves) where
   abbrev later : Book
@@ -204,26 +204,26 @@ module _ (frame : JournalFrame) (book : Book) (state : State) (took : List Bool)
   issued-as : (word value : ℕ) (outcome : RomOutcome) → IsOfIssue outcome → (rom_next book i).0 ≡ next.Issue word value → events.Asks book i → Gone 1 1 outcome (rom_next book i)
   issued-as word value outcome of is (events.nothing answer none same) = let no : answer ≡ next.Issue word value = sym (ap (λ (a : RomNext × Book). a.0) same) ∙ is in absurd (subst IsNothing no none)
   issued-as word value outcome of is (events.issue w others todo same) =
-      let slave : Slave = record { cells = set (slave_at book i).cells w.0 (asked (cell_of (slave_at book i).cells w.0)); errand = Issuing w.0 w.1; issues = (slave_at book i).issues + 1 } in
-      let ends = issue-ends (with_slave book i slave) i w.0 w.1 outcome (errand-set book i slave within) of in
+      let slave : Slave = record { cells = set (slave_at book i).cells w.0 (asked (cell_of (slave_at book i).cells w.0)); operation = Issuing w.0 w.1; issues = (slave_at book i).issues + 1 } in
+      let ends = issue-ends (with_slave book i slave) i w.0 w.1 outcome (operation-set book i slave within) of in
       subst (Gone 1 1 outcome) (sym same)
       (λ worn. issue-goes book i outcome (rom_done (with_issue book i w) i outcome) within recovering worn (ends-from book i 10001 0 1 slave outcome (rom_done (with_issue book i w) i outcome) within refl ends))
-  issued-as word value outcome of is (events.settle w v taken errand same) = let no : next.Settle taken ≡ next.Issue word value = sym (ap (λ (a : RomNext × Book). a.0) same) ∙ is in absurd cc
+  issued-as word value outcome of is (events.settle w v taken operation same) = let no : next.Settle taken ≡ next.Issue word value = sym (ap (λ (a : RomNext × Book). a.0) same) ∙ is in absurd cc
 
   pub issue-done : (word value : ℕ) (outcome : RomOutcome) → (rom_next book i).0 ≡ next.Issue word value → IsOfIssue outcome → Came 1 1 i outcome book (rom_done later i outcome)
-  issue-done word value outcome is of = issued-as word value outcome of is (asks book i (grind (arith, nat_tests)) (slave_at book i).errand refl) (worn-after outcome)
+  issue-done word value outcome is of = issued-as word value outcome of is (asks book i (grind (arith, nat_tests)) (slave_at book i).operation refl) (worn-after outcome)
 
   settled-as : (taken : Bool) (outcome : RomOutcome) → IsOfSettle outcome → (rom_next book i).0 ≡ next.Settle taken → events.Asks book i → Gone 10001 0 outcome (rom_next book i)
   settled-as taken outcome of is (events.nothing answer none same) = let no : answer ≡ next.Settle taken = sym (ap (λ (a : RomNext × Book). a.0) same) ∙ is in absurd (subst IsNothing no none)
   settled-as taken outcome of is (events.issue w others todo same) = let no : next.Issue w.0 w.1 ≡ next.Settle taken = sym (ap (λ (a : RomNext × Book). a.0) same) ∙ is in absurd cc
-  settled-as taken outcome of is (events.settle word value t errand same) =
-      let slave : Slave = record (slave_at book i) { errand = Settling word value t } in
-      let ends = settle-ends (with_slave book i slave) i word value t outcome (errand-set book i slave within) of in
+  settled-as taken outcome of is (events.settle word value t operation same) =
+      let slave : Slave = record (slave_at book i) { operation = Settling word value t } in
+      let ends = settle-ends (with_slave book i slave) i word value t outcome (operation-set book i slave within) of in
       subst (Gone 10001 0 outcome) (sym same)
-      (λ worn. settle-goes book i outcome (rom_done (with_slave book i slave) i outcome) within recovering worn (ap errand_calls errand) (ends-from book i 0 0 0 slave outcome (rom_done (with_slave book i slave) i outcome) within (omega arith) ends))
+      (λ worn. settle-goes book i outcome (rom_done (with_slave book i slave) i outcome) within recovering worn (ap operation_calls operation) (ends-from book i 0 0 0 slave outcome (rom_done (with_slave book i slave) i outcome) within (omega arith) ends))
 
   pub settle-done : (taken : Bool) (outcome : RomOutcome) → (rom_next book i).0 ≡ next.Settle taken → IsOfSettle outcome → Came 10001 0 i outcome book (rom_done later i outcome)
-  settle-done taken outcome is of = settled-as taken outcome of is (asks book i (grind (arith, nat_tests)) (slave_at book i).errand refl) (worn-after outcome)
+  settle-done taken outcome is of = settled-as taken outcome of is (asks book i (grind (arith, nat_tests)) (slave_at book i).operation refl) (worn-after outcome)
 
 -- ---- how many words were issued
 

@@ -18,7 +18,7 @@ use Rattle.book_model.specs.Cells.{Cell, cell_of}
 use Rattle.book_model.specs.declared.next.RomNext.{RomNext}
 use Rattle.book_model.specs.declared.next.RomNext.TheVariants as next
 use Rattle.book_model.specs.declared.next.RomOutcome.TheVariants as outcomes
-use Rattle.book_model.specs.Book.{Book, Slave, Errand, Free, Issuing, Settling, nobody, slave_at, all_cells, cell_at}
+use Rattle.book_model.specs.Book.{Book, Slave, Operation, NoOperation, Issuing, Settling, nobody, slave_at, all_cells, cell_at}
 use Rattle.book_model.specs.RomSteps.{was_taken, rom_next, rom_done}
 use Rattle.book_model.specs.Machine.{Machine}
 use Rattle.book_model.specs.Kept.{Kept}
@@ -28,7 +28,7 @@ use Rattle.book_model.specs.Plants.{MayHoldAll}
 use Rattle.book_model.specs.Frame.{JournalFrame}
 use Rattle.book_model.proofs.BookLaws.{cells_of}
 use Rattle.book_model.proofs.FormLaws.{journal-kept}
-use Rattle.book_model.specs.Slaves.{Asks, ErrandFits}
+use Rattle.book_model.specs.Slaves.{Asks, OperationFits}
 use Rattle.book_model.specs.Steps.{TakesOrNot, MayBegin, took_after}
 use Rattle.book_model.specs.Up.{Up}
 use Rattle.book_model.proofs.LineLaws.{half-there, holds-all}
@@ -43,33 +43,33 @@ use Rattle.site_journal.proofs.HoldLaws.{holds-torn}
 
 -- ---- what the book does with the slave then
 
-abbrev pub errand_for : RomNext → Errand
-errand_for (next.Issue word value) = Issuing word value
-errand_for other = Free
+abbrev pub operation_for : RomNext → Operation
+operation_for (next.Issue word value) = Issuing word value
+operation_for other = NoOperation
 
 module _ (book : Book) (i : ℕ) (within : i < length book.slaves) where
   pub handed : events.Asks book i
-  handed = asks book i (grind (arith, nat_tests)) (slave_at book i).errand refl
+  handed = asks book i (grind (arith, nat_tests)) (slave_at book i).operation refl
 
   -- a word is issued
   abbrev pub IssuesAs : ℕ → ℕ → RomNext × Book → Type 0
-  IssuesAs word value a = a.0 ≡ next.Issue word value → (slave_at a.1 i).errand ≡ Issuing word value
+  IssuesAs word value a = a.0 ≡ next.Issue word value → (slave_at a.1 i).operation ≡ Issuing word value
 
   pub issues-as : (word value : ℕ) → events.Asks book i → IssuesAs word value (rom_next book i)
   issues-as word value (events.nothing answer none is) = subst (IssuesAs word value) (sym is) (λ same. absurd (subst IsNothing same none))
   issues-as word value (events.issue w others todo is) =
-      subst (IssuesAs word value) (sym is) (λ same. ap (λ (s : Slave). s.errand) (get_or-set_same book.slaves i _ nobody within) ∙ ap errand_for same)
-  issues-as word value (events.settle w v taken errand is) = subst (IssuesAs word value) (sym is) (λ same. absurd cc)
+      subst (IssuesAs word value) (sym is) (λ same. ap (λ (s : Slave). s.operation) (get_or-set_same book.slaves i _ nobody within) ∙ ap operation_for same)
+  issues-as word value (events.settle w v taken operation is) = subst (IssuesAs word value) (sym is) (λ same. absurd cc)
 
   -- a word is settled
   abbrev pub SettlesAs : Bool → RomNext × Book → Type 0
-  SettlesAs taken a = a.0 ≡ next.Settle taken → (word : ℕ) × (value : ℕ) × ((slave_at a.1 i).errand ≡ Settling word value taken)
+  SettlesAs taken a = a.0 ≡ next.Settle taken → (word : ℕ) × (value : ℕ) × ((slave_at a.1 i).operation ≡ Settling word value taken)
 
   pub settles-as : (taken : Bool) → events.Asks book i → SettlesAs taken (rom_next book i)
   settles-as taken (events.nothing answer none is) = subst (SettlesAs taken) (sym is) (λ same. absurd (subst IsNothing same none))
   settles-as taken (events.issue w others todo is) = subst (SettlesAs taken) (sym is) (λ same. absurd cc)
-  settles-as taken (events.settle w v t errand is) =
-      subst (SettlesAs taken) (sym is) (λ same. let t_is : t ≡ taken = cc in (w, v, ap (λ (s : Slave). s.errand) (get_or-set_same book.slaves i _ nobody within) ∙ ap (Settling w v) t_is))
+  settles-as taken (events.settle w v t operation is) =
+      subst (SettlesAs taken) (sym is) (λ same. let t_is : t ≡ taken = cc in (w, v, ap (λ (s : Slave). s.operation) (get_or-set_same book.slaves i _ nobody within) ∙ ap (Settling w v) t_is))
 
 module _ (frame : JournalFrame) (book : Book) (took : List Bool) (m : Machine) (old : Seen) (i : ℕ) (up : Up frame book old.state took m) (within : i < length book.slaves) where
   abbrev later : Book
@@ -87,8 +87,8 @@ module _ (frame : JournalFrame) (book : Book) (took : List Bool) (m : Machine) (
         subst (λ (a : RomNext). Up frame later (with_half old.state i after) (took_after a took i t) m) is
         (up-asks frame book old.state took m i half after t up within here (subst (λ (a : RomNext). MayBegin a i t half after) (sym is) takes))
 
-    errand : (slave_at later i).errand ≡ Issuing word value
-    errand = issues-as book i within word value (handed book i within) is
+    operation : (slave_at later i).operation ≡ Issuing word value
+    operation = issues-as book i within word value (handed book i within) is
 
     -- nothing has happened to the slave yet
     begun : Up frame later old.state (set took i false) m
@@ -101,7 +101,7 @@ module _ (frame : JournalFrame) (book : Book) (took : List Bool) (m : Machine) (
         let h = half-there old.state.halves i (omega (arith, within, up.slaves.count)) in
         let slave = slave_at later i in
         let fits = begun.slaves.each i h.0 h.1 in
-        let asks : Asks i word value (get_or (set took i false) i false) h.0 slave.cells = subst (λ (e : Errand). ErrandFits i e (get_or (set took i false) i false) h.0 slave.cells) errand fits.asks in
+        let asks : Asks i word value (get_or (set took i false) i false) h.0 slave.cells = subst (λ (e : Operation). OperationFits i e (get_or (set took i false) i false) h.0 slave.cells) operation fits.asks in
         subst (λ (l : List Cell). IsUnsure (cell_of l word).known) (sym (cells_of later.slaves i)) asks.unsure
 
     kept-with : (pair : Pair) (left : List (List ℕ)) (before : Pair) → Leaves old.state before → pair.disk ≡ before.disk → pair.words ≡ left → MayHoldAll later.words (all_cells later.slaves) left → Kept pair.disk pair.words m
@@ -127,7 +127,7 @@ module _ (frame : JournalFrame) (book : Book) (took : List Bool) (m : Machine) (
         let long = up.slaves.took_count in (
           t,
           subst (λ (s : State). Up frame (rom_done later i (outcomes.Issued issued)) s (set took i t) m) (sym new_is)
-              (up-issued frame later state (set took i t) m i word value issued now there errand (λ said. said-so t issued said never (get_or-set_same took i t false (omega (arith, long, within))))),
+              (up-issued frame later state (set took i t) m i word value issued now there operation (λ said. said-so t issued said never (get_or-set_same took i t false (omega (arith, long, within))))),
         )
       where
         said-so : (t : Bool) (issued : Issued) → was_taken issued ≡ true → (t ≡ false → issued ≡ Taken → ⊥) → get_or (set took i t) i false ≡ t → get_or (set took i t) i false ≡ true

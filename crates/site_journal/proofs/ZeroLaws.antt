@@ -1,4 +1,4 @@
--- Zeros are written piece by piece, and so is an area behind the rest of a header.
+-- Zeros are written piece by piece, and so is an area after the rest of a header.
 use Rattle.std.proofs.Common.{◌≡◌, ℕ, ◌+◌, ◌*◌, ◌-◌, ◌<◌, ◌≤◌, min, List, ◌++◌, length, replicate, Result, Ok, IsTrue, sym, ap, subst, ◌∙◌, inl, inr, arith, length-append}
 use Rattle.std.proofs.lemmas.List.{length-replicate, replicate-append-replicate}
 use Rattle.site_core.specs.declared.fault.DeviceFault.{DeviceFault}
@@ -56,7 +56,7 @@ zeros_all a b at total n most all few laid =
     laid_all a b at (zeros_in n total) (replicate total 0) total most (ap (λ (k : ℕ). replicate {A = ℕ} k 0) full) (sym (length-replicate {A = ℕ} total 0))
     (record { runs = runs_weaker {T = Unit {0}} Q Q a n most (Ok tt) b few (λ pair leaves. leaves) laid.runs; lies = laid.lies; halves = laid.halves })
 
--- ---- an area behind the rest of a header
+-- ---- an area after the rest of a header
 
 -- a longer write leaves more
 leaves_longer : (state : State) (at few many : ℕ) (pair : Pair) → few ≤ many → Leaves (begin_write state at few) pair → Leaves (begin_write state at many) pair
@@ -67,7 +67,7 @@ leaves_longer state at few many pair more leaves = record {
   where
     narrow : (place : ℕ) → IsOutside place (record { start = at; count = many }) → IsOutside place (record { start = at; count = few })
     narrow place (inl below) = inl below
-    narrow place (inr behind) = inr (omega arith)
+    narrow place (inr after) = inr (omega arith)
 
 pub area_first : (a b : Seen) (front zeros : List ℕ) (result : Result (Unit {0}) DeviceFault) → 1 ≤ length a.state.disk.bytes → WritesDisk a 1 front result b
     → MakesCalls (Leaves (begin_write a.state 1 (length (front ++ zeros)))) a 1 result b

@@ -7,7 +7,7 @@ use Rattle.book_model.specs.declared.next.DiskNext.{DiskNext}
 use Rattle.book_model.specs.declared.next.DiskNext.TheVariants as next
 use Rattle.book_model.specs.Events.{gate_byte}
 
--- What is written begins inside the disk, or right behind its last byte.
+-- What is written begins inside the disk, or right after its last byte.
 abbrev pub BeginsInside : DiskNext → Seen → Type 0
 BeginsInside (next.Write at bytes) old = at ≤ length old.state.disk.bytes
 BeginsInside (next.Gate at closed) old = at ≤ length old.state.disk.bytes

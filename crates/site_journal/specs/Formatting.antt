@@ -12,7 +12,7 @@ use Rattle.jrn_format.specs.Journal.{AreHalves}
 use Rattle.world_law.specs.Happenings.{with_synced}
 use Rattle.site_journal.specs.Runs.{MakesCalls}
 
--- The bytes of a formatted disk: a header for `slaves` slaves, an area of `capacity` zeros, and what the disk held behind them.
+-- The bytes of a formatted disk: a header for `slaves` slaves, an area of `capacity` zeros, and what the disk held after them.
 abbrev pub formatted : (slaves capacity : ℕ) → List ℕ → List ℕ
 formatted slaves capacity bytes = header_bytes 2 slaves capacity ++ (replicate capacity 0 ++ drop (8 + capacity) bytes)
 
@@ -24,9 +24,9 @@ pub record HasClosedHalves (area : List ℕ) : Type 0 where
   pub first_gate : IsClosed first
   pub second_gate : IsClosed second
 
--- What is written behind the file gate.
-abbrev pub behind_gate : (slaves capacity : ℕ) → List ℕ
-behind_gate slaves capacity = drop 1 (header_bytes 2 slaves capacity) ++ replicate capacity 0
+-- What is written after the file gate.
+abbrev pub after_gate : (slaves capacity : ℕ) → List ℕ
+after_gate slaves capacity = drop 1 (header_bytes 2 slaves capacity) ++ replicate capacity 0
 
 -- The number of pieces in which the area is written.
 abbrev pub pieces : ℕ → ℕ

@@ -8,22 +8,22 @@ use Rattle.jrn_format.specs.declared.journal.Form.{Form}
 use Rattle.jrn_format.specs.declared.journal.Form.TheVariants.{One, Two, Moving}
 use Rattle.jrn_format.specs.Halves.{Halves}
 use Rattle.book_model.specs.Entries.{live_runs}
-use Rattle.book_model.specs.Book.{Book, Doing, CloseSync, Mark, MarkSync, Version, VersionSync, Slave, Errand, Free, Issuing, Unsettled, Settling}
+use Rattle.book_model.specs.Book.{Book, Doing, CloseSync, Mark, MarkSync, Version, VersionSync, Slave, Operation, NoOperation, Issuing, Unsettled, Settling}
 use Rattle.book_model.specs.Reading.{all_entries}
 use Rattle.book_model.specs.Worn.{named_for}
 
 -- ---- the slaves
 
 -- The calls left for the word that the slave is at.
-abbrev pub errand_calls : Errand → ℕ
-errand_calls Free = 0
-errand_calls (Issuing word value) = 10002
-errand_calls (Unsettled word value taken) = 10001
-errand_calls (Settling word value taken) = 10001
+abbrev pub operation_calls : Operation → ℕ
+operation_calls NoOperation = 0
+operation_calls (Issuing word value) = 10002
+operation_calls (Unsettled word value taken) = 10001
+operation_calls (Settling word value taken) = 10001
 
 -- The calls left for a slave of which `named` words are named: three issues for each, less those made.
 abbrev pub slave_calls : (named : ℕ) → Slave → ℕ
-slave_calls named slave = 10002 * (3 * named - slave.issues) + errand_calls slave.errand
+slave_calls named slave = 10002 * (3 * named - slave.issues) + operation_calls slave.operation
 
 -- The calls left for the slaves, counted from slave i on.
 abbrev pub slaves_calls : List Entry → ℕ → List Slave → ℕ

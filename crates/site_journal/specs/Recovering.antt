@@ -10,7 +10,7 @@ use Rattle.book_model.specs.declared.next.DiskNext.TheVariants as disk
 use Rattle.book_model.specs.declared.next.RomNext.TheVariants as rom
 use Rattle.book_model.specs.declared.next.RomOutcome.{RomOutcome}
 use Rattle.book_model.specs.declared.next.RomOutcome.TheVariants.{Issued, Settled, Stopped}
-use Rattle.book_model.specs.Book.{Book, Doing, Resting, CloseGate, CloseSync, FarGate, Mark, MarkSync, Version, VersionSync, Errand, Free, Issuing, Unsettled, Settling, first_fault, is_version_2, slave_at}
+use Rattle.book_model.specs.Book.{Book, Doing, Resting, CloseGate, CloseSync, FarGate, Mark, MarkSync, Version, VersionSync, Operation, NoOperation, Issuing, Unsettled, Settling, first_fault, is_version_2, slave_at}
 use Rattle.book_model.specs.DiskSteps.{disk_next}
 use Rattle.book_model.specs.RomSteps.{rom_next}
 use Rattle.book_model.specs.Worn.{Worn}
@@ -29,8 +29,8 @@ IsStep VersionSync halves form = live halves ≡ []
 IsStep appending halves form = ⊥
 
 -- Nothing is handed out for the slave, though a word that was issued may wait for its settle.
-abbrev pub IsBetween : Errand → Type 0
-IsBetween Free = Unit {0}
+abbrev pub IsBetween : Operation → Type 0
+IsBetween NoOperation = Unit {0}
 IsBetween (Issuing word value) = ⊥
 IsBetween (Unsettled word value taken) = Unit {0}
 IsBetween (Settling word value taken) = ⊥
@@ -41,7 +41,7 @@ pub record IsRecovering (book : Book) : Type 0 where
   pub step : IsStep book.doing book.halves book.form
   pub rests : book.is_handed_out ≡ false
   pub going : book.is_finished ≡ false
-  pub between : (i : ℕ) → i < length book.slaves → IsBetween (slave_at book i).errand
+  pub between : (i : ℕ) → i < length book.slaves → IsBetween (slave_at book i).operation
   pub worn : Worn book
 
 -- The book is still recovering: at least `calls` device calls fewer are left, and `words` more words were issued.

@@ -28,7 +28,7 @@ KeepsAll machine old new = StaysWithin (KeptFor machine) old new
 
 -- ---- the disk
 
--- A write that begins inside the disk or right behind its last byte.
+-- A write that begins inside the disk or right after its last byte.
 pub record WritesInside (old : Seen) (at : ℕ) (bytes : List ℕ) (result : Result (Unit {0}) DeviceFault) (new : Seen) : Type 0 where
   pub inside : at ≤ length old.state.disk.bytes
   pub writes : WritesDisk old at bytes result new

@@ -17,7 +17,7 @@ fn gate_byte(closed: bool) -> u8
 
 /// Carries out an action that a book handed out for the disk: one write, or one sync. `Idle` and `Stop` make no device call.
 ///
-/// The site must have a disk, and a write must begin inside it or right behind its last byte.
+/// The site must have a disk, and a write must begin inside it or right after its last byte.
 ///
 /// # Errors
 ///

@@ -2,7 +2,7 @@
 
 ghost use Rattle.std.specs.Prelude.{◌≡◌, ◌+◌, ◌≤◌, ◌∷◌, [], length, replicate, IsTrue};
 ghost use Rattle.jrn_format.specs.Header.{IsCapacity};
-ghost use Rattle.site_journal.specs.Formatting.{behind_gate, pieces, PutsDown, LaysDown, Formats, WritesPieces};
+ghost use Rattle.site_journal.specs.Formatting.{after_gate, pieces, PutsDown, LaysDown, Formats, WritesPieces};
 
 use jrn_format::{AREA_START, CLOSED, OPEN, header};
 use site_core::{DeviceFault, Site};
@@ -41,12 +41,12 @@ fn lay_zeros<S: Site>(site: &mut S, at: usize, count: u32) -> Result<(), DeviceF
     Ok(())
 }
 
-/// Writes the header behind the file gate and an area of zeros, and syncs both.
+/// Writes the header after the file gate and an area of zeros, and syncs both.
 fn put_area<S: Site>(site: &mut S, slaves: u16, capacity: u32) -> Result<(), DeviceFault>
     requires disk { IsTrue (S.line site.old).has_disk }
     requires some { 1 ≤ length (S.seen site.old).state.disk.bytes }
     requires capacity { IsCapacity capacity }
-    ensures puts { PutsDown (S.seen site.old) 1 (behind_gate slaves capacity) (2 + pieces capacity) result (S.seen site.new) }
+    ensures puts { PutsDown (S.seen site.old) 1 (after_gate slaves capacity) (2 + pieces capacity) result (S.seen site.new) }
     ensures pieces { WritesPieces (S.seen site.old) (S.seen site.new) }
     ensures line { S.line site.new ≡ S.line site.old }
 {
@@ -55,7 +55,7 @@ fn put_area<S: Site>(site: &mut S, slaves: u16, capacity: u32) -> Result<(), Dev
     site.disk_sync()
 }
 
-/// Formats the disk as an empty journal of version 2 for the slaves of the site. Bytes behind the journal's area stay.
+/// Formats the disk as an empty journal of version 2 for the slaves of the site. Bytes after the journal's area stay.
 ///
 /// The area has `capacity` bytes, which must be 4,096 to 4,194,304. The site must have a disk.
 ///

@@ -29,7 +29,7 @@ pub fn a_run_with_commands_keeps()
         → KeepsWith machine commands old new }
 {}
 
-/// What is kept while these commands are accepted stays kept if more are accepted behind them.
+/// What is kept while these commands are accepted stays kept if more are accepted after them.
 pub fn more_commands_may_come()
     ensures { (machine : Machine) (commands more : List Command) (old new : Seen) → KeepsWith machine commands old new
         → KeepsWith machine (commands ++ more) old new }

@@ -1,5 +1,5 @@
 //! What a station does with its disk, on any site that owns one: it formats a journal, reads it, and carries out the book's actions. Each
-//! contract says what a power cut may leave on the way. Behind it the laws of a station on a site: what each device call leaves, and that a
+//! contract says what a power cut may leave on the way. After it the laws of a station on a site: what each device call leaves, and that a
 //! recovery ends and what it has reached then. A law is a function with an empty body: its contract is the theorem.
 #![tactic(auto)]
 

@@ -24,7 +24,7 @@ pub fn an_action_of_the_disk_runs()
         → CallsDisk (disk_next book).0 old result new → KeepsAll machine old new × UpAfterDisk frame (disk_next book).1 took machine new result }
 {}
 
-/// A write that the book hands out begins inside the disk or right behind its last byte, as a site requires.
+/// A write that the book hands out begins inside the disk or right after its last byte, as a site requires.
 pub fn an_action_of_the_disk_lies_inside()
     ensures bytes { (frame : JournalFrame) (book : Book) (took : List Bool) (machine : Machine) (old : Seen) (at : ℕ) (written : List ℕ)
         → Up frame book old.state took machine

@@ -17,7 +17,7 @@ StaysSo {D} follows = (device : D) (old new : Seen) → GoesOn old new → (¬ I
 
 module _ {D : Type 0} (follows : D → Seen → Type 0) (stays : StaysSo follows) (before after : D) (keeps : Keeps follows before after) where
   pub ask_keeps : (passing : Passing) → AskKeeps follows before passing after
-  ask_keeps passing old new given running call same told followed =
+  ask_keeps passing old new given running call same reported followed =
       stays after old new (GoesOn-by old new [] given call same)
       (λ going. ap (λ (s : State). s.halves)
       (same (λ e. going (call.stopped.1 (subst (λ (r : Result (Unit {0}) DeviceFault). IsErrOf r faults.Stopped) (sym e) refl)))))

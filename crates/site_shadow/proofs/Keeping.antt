@@ -17,7 +17,7 @@ use Rattle.site_shadow.specs.Line.{halves_of}
 use Rattle.site_shadow.specs.Going.{HalfTakes}
 use Rattle.site_shadow.specs.Stopping.{noted, begun, HasStopped, CountsFault, counted, stops}
 use Rattle.site_shadow.specs.Following as steps
-use Rattle.site_shadow.specs.Following.{Extends, KeepsContents, GoesOn, IsUnasked, IsTold, Asks, RestKeeps, FollowsBehind, TakenKeeps, TakeKeeps}
+use Rattle.site_shadow.specs.Following.{Extends, KeepsContents, GoesOn, IsUnasked, IsReported, Asks, RestKeeps, FollowsAfter, TakenKeeps, TakeKeeps}
 use Rattle.site_shadow.proofs.Calling.{WritesDisk-fails}
 use Rattle.site_shadow.proofs.LineHalves.{halves_of-get, halves_of-set}
 use Rattle.site_shadow.proofs.GoingThrough.{served_as}
@@ -72,15 +72,15 @@ pub Asks-keeps : {D : Type 0} (follows : D → Seen → Type 0)
     → ((device : D) (old new : Seen) → IsUnasked old new → follows device old → follows device new)
     → (before after : D) (old new : Seen) (passing : Passing) (given : Result (Unit {0}) DeviceFault) → Asks follows before old passing after
     → Calls old [] given new → (given ≢ Err faults.Stopped → new.state ≡ old.state)
-    → (old.is_stopped ≡ false → IsTold old.faults passing given) → follows before old → follows after new
-Asks-keeps {D} follows goes_on before after old new passing given asks call same told followed = by old.is_stopped refl
+    → (old.is_stopped ≡ false → IsReported old.faults passing given) → follows before old → follows after new
+Asks-keeps {D} follows goes_on before after old new passing given asks call same reported followed = by old.is_stopped refl
   where
     by : (over : Bool) → old.is_stopped ≡ over → follows after new
-    by false going = asks.asked going old new given going call same (told going) followed
+    by false going = asks.asked going old new given going call same (reported going) followed
     by true over =
         goes_on after old new (Unasked-over old new [] given call over) (subst (λ (d : D). follows d old) (sym (asks.unasked over)) followed)
 
--- the same behind which a turn is noted
+-- the same after which a turn is noted
 pub Calls-turned : {T : Type 0} (old mid new : Seen) (middle : List State) (result : Result T DeviceFault) (turns : List CycleTurn)
     → Calls old middle result mid → new ≡ record mid { turns = turns } → Calls old middle result new
 Calls-turned old mid new middle result turns call is = subst (Calls old middle result) (sym is) (record {
@@ -165,11 +165,11 @@ Unasked-unbegun old at over given new going fails =
 
 -- ONE DATAGRAM
 
--- where the site doesn't stop behind it
-pub FollowsBehind-none : {D : Type 0} (follows : D → Seen → Type 0) (device : D) (torn : Option Pattern) (seen : Seen) → is_some torn ≡ false
-    → FollowsBehind follows device torn seen → follows device seen
-FollowsBehind-none follows device None seen none behind = behind
-FollowsBehind-none follows device (Some pattern) seen none behind = absurd cc
+-- where the site doesn't stop after it
+pub FollowsAfter-none : {D : Type 0} (follows : D → Seen → Type 0) (device : D) (torn : Option Pattern) (seen : Seen) → is_some torn ≡ false
+    → FollowsAfter follows device torn seen → follows device seen
+FollowsAfter-none follows device None seen none after = after
+FollowsAfter-none follows device (Some pattern) seen none after = absurd cc
 
 -- what the device was asked about the half, which then has taken the datagram
 pub TakeKeeps-of : {D : Type 0} (follows : D → Seen → Type 0) (before mid after : D) (state : State) (items new : List (Option SlaveHalf)) (slave k : ℕ) (resting : Resting)

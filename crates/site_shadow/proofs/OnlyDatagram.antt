@@ -44,13 +44,13 @@ put_back old slave sent answer left header buffer new only takes left_is =
 pub Passed-only : (old : Seen) (slave : ℕ) (sent answer : List Pdu) (stops : Bool) (middle : List State) (left : List Pdu) (new : Seen)
     → 0 < words_held old slave → length sent ≡ 1 → TakesOne old slave 0 sent answer new → middle ≡ new.state ∷ []
     → (stops ≡ false → left ≡ answer) → (stops ≡ true → left ≡ sent) → Passed old slave sent stops middle left new
-Passed-only old slave sent answer stops middle left new owned one takes middle_is whole kept =
+Passed-only old slave sent answer stops middle left new owned one takes middle_is entire kept =
     let held = held-half old slave owned in
     let went : Went old slave sent 1 (new.state ∷ []) answer new = Went-more old slave sent 0 [] sent old answer new (omega arith) (Went-none old slave held.0 sent held.1) takes in
     record {
       count = 1;
       answer = answer;
       went = subst (λ (m : List State). Went old slave sent 1 m answer new) (sym middle_is) went;
-      whole = λ going. (sym one, whole going);
+      entire = λ going. (sym one, entire going);
       kept = kept;
     }

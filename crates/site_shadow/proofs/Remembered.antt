@@ -8,13 +8,13 @@ pub Remembers-begun : (old new : List Range) (disk : Disk) (at count : ℕ) → 
     → Remembers new (write_begun disk at count)
 Remembers-begun old new disk at count keeps marks = record {
   unmarked = λ place synced. marks place synced.0 (keeps.unmarked place synced.1);
-  behind = λ place synced. keeps.behind place synced.1;
+  after = λ place synced. keeps.after place synced.1;
 }
 
-behind_laid : (disk : Disk) (at place : ℕ) (over : List ℕ) → at ≤ length disk.bytes → IsOutside place (record { start = at; count = length over })
+after_laid : (disk : Disk) (at place : ℕ) (over : List ℕ) → at ≤ length disk.bytes → IsOutside place (record { start = at; count = length over })
     → place < length (overlaid disk.bytes at over) → place < length disk.bytes
-behind_laid disk at place over within (inl below) inside = omega arith
-behind_laid disk at place over within (inr behind) inside =
+after_laid disk at place over within (inl below) inside = omega arith
+after_laid disk at place over within (inr after) inside =
     omega (arith, length-append (take at disk.bytes ++ over) (drop (at + length over) disk.bytes), length-append (take at disk.bytes) over, length-take at disk.bytes, length-drop (at + length over) disk.bytes)
 
 -- bytes that were laid over an unsynced range
@@ -22,8 +22,8 @@ pub Remembers-laid : (before : List Range) (disk : Disk) (at : ℕ) (over new : 
     → Remembers before disk → new ≡ overlaid disk.bytes at over → Remembers before (record disk { bytes = new })
 Remembers-laid before disk at over new within covers keeps is = record {
   unmarked = keeps.unmarked;
-  behind = λ place synced inside.
-      keeps.behind place synced (behind_laid disk at place over within (covers place synced) (subst (λ (b : List ℕ). place < length b) is inside));
+  after = λ place synced inside.
+      keeps.after place synced (after_laid disk at place over within (covers place synced) (subst (λ (b : List ℕ). place < length b) is inside));
 }
 
 -- A STOP
@@ -59,7 +59,7 @@ StopImage-cut before disk image keeps torn = record {
     | inl below ↦ slice_get-take image disk.synced_length place below ∙ torn.same place (keeps.unmarked place synced)
     | inr past ↦ slice_get-past (take disk.synced_length image) place (omega (arith, length-take disk.synced_length image))
         ∙ sym (slice_get-past disk.bytes place (elim (below_or place (length disk.bytes)) [
-          | inl inside ↦ let below : place < disk.synced_length = keeps.behind place synced inside in absurd (omega arith)
+          | inl inside ↦ let below : place < disk.synced_length = keeps.after place synced inside in absurd (omega arith)
           | inr out ↦ out
         ]))
   ];

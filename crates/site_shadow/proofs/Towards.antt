@@ -37,7 +37,7 @@ last_left seen past moment pair is left =
     ap (λ (p : List Moment). slice_get p (length past)) is ∙ slice_get-seam past (moment ∷ []) in
     subst (λ (t : ℕ). LeftTowards seen t pair) (sym long) (inl (moment, there, left))
 
--- what a power cut could leave before a step, it could have left towards the time behind it
+-- what a power cut could leave before a step, it could have left towards the time after it
 pub Extends-now : (old new : Seen) (pair : Pair) → Extends old new → Leaves old.state pair → LeftTowards new (clock new) pair
 Extends-now old new pair extends leaves = by extends.goes
   where
@@ -49,7 +49,7 @@ Extends-now old new pair extends leaves = by extends.goes
 
 -- ---- what could have been left stays so
 
--- a time at which both sites have the same call behind them and the same state
+-- a time at which both sites have the same call after them and the same state
 same_there : (old new : Seen) (time : ℕ) (pair : Pair) → state_at new time ≡ state_at old time
     → ((before : ℕ) (moment : Moment) → time ≡ suc before → slice_get old.past before ≡ Some moment → slice_get new.past before ≡ Some moment)
     → LeftTowards old time pair → LeftTowards new time pair

@@ -84,10 +84,10 @@ IsFollowedBy {D} follows well seen = (device : D) × follows device seen × well
 
 -- The outcome of a call is as the device answers, with this number of faults before it: the call succeeds where the device passes it. Where
 -- the device fails it, it fails, and stops the site only if no fault can be counted any more.
-abbrev pub IsTold : (count : ℕ) → Passing → Result (Unit {0}) DeviceFault → Type 0
-IsTold count Passes given = given ≡ Ok tt
-IsTold count Fails given = IsErr given × (given ≡ Err faults.Stopped → count ≡ 2 ^ 64 - 1)
-IsTold count (Stops pattern) given = given ≡ Err faults.Stopped
+abbrev pub IsReported : (count : ℕ) → Passing → Result (Unit {0}) DeviceFault → Type 0
+IsReported count Passes given = given ≡ Ok tt
+IsReported count Fails given = IsErr given × (given ≡ Err faults.Stopped → count ≡ 2 ^ 64 - 1)
+IsReported count (Stops pattern) given = given ≡ Err faults.Stopped
 
 -- The shadow changes nothing by this call.
 abbrev pub Keeps : {D : Type 0} → (D → Seen → Type 0) → D → D → Type 0
@@ -96,7 +96,7 @@ Keeps follows before after = (seen : Seen) → follows before seen → follows a
 -- The shadow is asked and changes nothing, unless it stops. The outcome is as the device answers.
 abbrev pub AskKeeps : {D : Type 0} → (D → Seen → Type 0) → D → Passing → D → Type 0
 AskKeeps follows before passing after = (old new : Seen) (given : Result (Unit {0}) DeviceFault) → old.is_stopped ≡ false
-    → Calls old [] given new → (given ≢ Err faults.Stopped → new.state ≡ old.state) → IsTold old.faults passing given
+    → Calls old [] given new → (given ≢ Err faults.Stopped → new.state ≡ old.state) → IsReported old.faults passing given
     → follows before old → follows after new
 
 -- The device is asked, unless the site has stopped.
@@ -107,12 +107,12 @@ pub record Asks {D : Type 0} (follows : D → Seen → Type 0) (before : D) (old
 -- The shadow writes, as the device answers.
 abbrev pub WriteKeeps : {D : Type 0} → (D → Seen → Type 0) → ℕ → List ℕ → D → Passing → D → Type 0
 WriteKeeps follows at bytes before passing after = (old new : Seen) (given : Result (Unit {0}) DeviceFault) → old.is_stopped ≡ false
-    → at ≤ length old.state.disk.bytes → WritesDisk old at bytes given new → IsTold old.faults passing given → follows before old → follows after new
+    → at ≤ length old.state.disk.bytes → WritesDisk old at bytes given new → IsReported old.faults passing given → follows before old → follows after new
 
 -- The shadow syncs, as the device answers.
 abbrev pub SyncKeeps : {D : Type 0} → (D → Seen → Type 0) → D → Passing → D → Type 0
 SyncKeeps follows before passing after = (old new : Seen) (given : Result (Unit {0}) DeviceFault) → old.is_stopped ≡ false
-    → SyncsDisk old given new → IsTold old.faults passing given → follows before old → follows after new
+    → SyncsDisk old given new → IsReported old.faults passing given → follows before old → follows after new
 
 -- A frame for a half goes out where the device passes it. Else the call has this outcome.
 abbrev pub ExchangeKeeps : {D : Type 0} → (D → Seen → Type 0) → D → Passing → D → Type 0
@@ -129,20 +129,20 @@ RestKeeps follows slave half frame k before resting after = (old new : Seen) (re
 -- IN THE MIDDLE OF AN EXCHANGE, with these states in its middle so far
 
 -- The device follows the site behind a datagram; where it says that the site stops then, once that has stopped.
-abbrev pub FollowsBehind : {D : Type 0} → (D → Seen → Type 0) → D → Option Pattern → Seen → Type 0
-FollowsBehind follows device None seen = follows device seen
-FollowsBehind follows device (Some pattern) seen = (new : Seen) → GoesOn seen new → IsTrue new.is_stopped → follows device new
+abbrev pub FollowsAfter : {D : Type 0} → (D → Seen → Type 0) → D → Option Pattern → Seen → Type 0
+FollowsAfter follows device None seen = follows device seen
+FollowsAfter follows device (Some pattern) seen = (new : Seen) → GoesOn seen new → IsTrue new.is_stopped → follows device new
 
 -- The shadow changes nothing by this call, but the site stops if the device says so.
 abbrev pub TakenKeeps : {D : Type 0} → (D → Seen → Type 0) → D → Option Pattern → D → Type 0
-TakenKeeps follows before stops after = (seen : Seen) → follows before seen → FollowsBehind follows after stops seen
+TakenKeeps follows before stops after = (seen : Seen) → follows before seen → FollowsAfter follows after stops seen
 
 -- one datagram more is taken
 abbrev pub TakeKeeps : {D : Type 0} → (D → Seen → Type 0) → D → State → Option Pattern → D → State → Type 0
 TakeKeeps follows before state stops after later = (old : Seen) (middle : List State) → old.is_stopped ≡ false → last_of old.state middle ≡ state
-    → follows before (noted old middle state) → FollowsBehind follows after stops (noted old (middle ++ later ∷ []) later)
+    → follows before (noted old middle state) → FollowsAfter follows after stops (noted old (middle ++ later ∷ []) later)
 
 -- a frame is taken
 abbrev pub PassKeeps : {D : Type 0} → (D → Seen → Type 0) → Seen → D → List State → Option Pattern → D → State → Type 0
 PassKeeps follows old before middle stops after state =
-    old.is_stopped ≡ false → follows before (noted old [] old.state) → FollowsBehind follows after stops (noted old middle state)
+    old.is_stopped ≡ false → follows before (noted old [] old.state) → FollowsAfter follows after stops (noted old middle state)

@@ -16,10 +16,10 @@ Covers disk at count = (place : ℕ) → IsSynced disk place → IsOutside place
 abbrev pub IsUnmarked : List Range → ℕ → Type 0
 IsUnmarked before place = AllByRecursion (IsOutside place) before
 
--- The invariant: only writes to unsynced places are remembered, and each place behind the synced length is unsynced.
+-- The invariant: only writes to unsynced places are remembered, and each place after the synced length is unsynced.
 pub record Remembers (before : List Range) (disk : Disk) : Type 0 where
   pub unmarked : (place : ℕ) → IsSynced disk place → IsUnmarked before place
-  pub behind : (place : ℕ) → IsSynced disk place → place < length disk.bytes → place < disk.synced_length
+  pub after : (place : ℕ) → IsSynced disk place → place < length disk.bytes → place < disk.synced_length
 
 -- No write but one to this range becomes remembered.
 abbrev pub MarksOnly : List Range → Range → List Range → Type 0

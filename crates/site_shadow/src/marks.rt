@@ -24,7 +24,7 @@ impl Model for Replaced {
     ghost view = { λ r. record { start = r.start; count = r.count } };
 }
 
-/// Remembers the bytes of a range, behind what is remembered already.
+/// Remembers the bytes of a range, after what is remembered already.
 ///
 /// # Errors
 ///
@@ -79,8 +79,8 @@ pub fn lay_over(bytes: &mut Vec<u8>, at: usize, over: &[u8]) -> Result<(), Alloc
 {
     let front = at.min(bytes.len());
     let inside = over.len().min(bytes.len() - front);
-    let (kept, behind) = over.split_at(inside);
-    bytes.extend_from_slice(behind)?;
+    let (kept, after) = over.split_at(inside);
+    bytes.extend_from_slice(after)?;
     bytes[front..front + inside].copy_from_slice(kept);
     Ok(())
 }

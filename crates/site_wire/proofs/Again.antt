@@ -17,11 +17,11 @@ use Rattle.site_wire.specs.Due.{WritesControl, is_command, IsFit, NamesInside, n
 use Rattle.site_wire.specs.Likeness.{IsLike, MayBe}
 use Rattle.site_wire.proofs.Liking.{like_is_possible, MayBe-refl, MayBe-rests, MayBe-as}
 use Rattle.site_wire.proofs.Stored.{offered_same, forced_same, offered_again, forced_again}
-use Rattle.site_wire.proofs.Judged.{judged, Doing, Nothing, Fetches, Writes, doing_of, done, begun_is, begun_as, SameCommand, Needs}
-use Rattle.site_wire.proofs.Judged.{none as no_command, reads as a_read, writes as a_write, needs_covers, judged_same, address_needed, first_needed}
-use Rattle.site_wire.proofs.Judged.{nothing_alike, fetching_alike, writing_alike}
+use Rattle.site_wire.proofs.Validated.{validated, Doing, Nothing, Fetches, Writes, doing_of, done, begun_is, begun_as, SameCommand, Needs}
+use Rattle.site_wire.proofs.Validated.{none as no_command, reads as a_read, writes as a_write, needs_covers, validated_same, address_needed, first_needed}
+use Rattle.site_wire.proofs.Validated.{nothing_alike, fetching_alike, writing_alike}
 use Rattle.site_wire.proofs.Taking.{true_or_false, HasAll, writes_code, writes_inside, writes_here, writes_same, served_other, served_write}
-use Rattle.site_wire.proofs.Taking.{written_quiet, written_idle, written_ignored, judges, stores}
+use Rattle.site_wire.proofs.Taking.{written_quiet, written_idle, written_ignored, validates, stores}
 
 -- WHAT IS SENT
 
@@ -45,9 +45,9 @@ quiet_or_idle half d may writes = by (true_or_false (is_busy half.activity)) (le
         → ((nat_le (place_of d + length d.content) 2 ≡ true) × (place_of d + length d.content ≤ 2))
         ⊎ ((nat_le (place_of d + length d.content) 2 ≡ false) × (2 < place_of d + length d.content))
         → (place_of d + length d.content ≤ 2) ⊎ (half.activity ≡ Idle)
-    by (inr free) _ = inr (idle_not_busy half.activity free)
+    by (inr vacant) _ = inr (idle_not_busy half.activity vacant)
     by (inl busy) (inl quiet) = inl quiet.1
-    by (inl busy) (inr past) = absurd (may busy (record { write = writes_code half d writes; behind = omega (arith, inside, past.1) }))
+    by (inl busy) (inr past) = absurd (may busy (record { write = writes_code half d writes; afterwards = omega (arith, inside, past.1) }))
 
 -- what is fit has all that its command needs
 pub fit_all : (shadow : SlaveHalf) (d : Pdu) → IsFit shadow d → (half : SlaveHalf) → writes_here half (command_of d.command) d.address d.content ≡ true
@@ -178,50 +178,50 @@ module _ (half : SlaveHalf) (at : ℕ) (over : List ℕ) (bytes : (k : ℕ) → 
 module _ (half : SlaveHalf) (over : List ℕ) (bytes : (k : ℕ) → slice_index over k < 256) (needs : Needs over) where
   -- a half that has the access bits that the command left
   pub command_again : (other : SlaveHalf) → other.station ≡ half.station
-      → other.registers.offered ≡ (judged half 2 over).registers.offered
-      → other.registers.forced ≡ (judged half 2 over).registers.forced
+      → other.registers.offered ≡ (validated half 2 over).registers.offered
+      → other.registers.forced ≡ (validated half 2 over).registers.forced
       → length other.words ≡ length half.words
-      → SameCommand (judged half 2 over) (judged other 2 over)
+      → SameCommand (validated half 2 over) (validated other 2 over)
   command_again other station offered forced count =
-      judged_same half other over needs station
+      validated_same half other over needs station
       (offered_again half other 2 over bytes offered forced) (forced_again half other 2 over bytes offered forced) count
 
   pub both : (nat_le 2 2 && nat_le 4 (2 + length over)) ≡ true
   both = rw (le-leb 2 2 (omega arith), le-leb 4 (2 + length over) (omega (arith, needs_covers over needs))) refl
 
-  done_again : (d : Doing) → doing_of (judged half 2 over) ≡ d → (other : SlaveHalf) → other.activity ≡ Idle
-      → SameCommand (judged half 2 over) (judged other 2 over) → (written other 2 over).half ≡ done d (judged other 2 over)
+  done_again : (d : Doing) → doing_of (validated half 2 over) ≡ d → (other : SlaveHalf) → other.activity ≡ Idle
+      → SameCommand (validated half 2 over) (validated other 2 over) → (written other 2 over).half ≡ done d (validated other 2 over)
   done_again d is other idle same =
-      written_idle other 2 over idle ∙ judges other 2 over both ∙ begun_as (judged half 2 over) (judged other 2 over) same
-      ∙ ap (λ (e : Doing). done e (judged other 2 over)) is
+      written_idle other 2 over idle ∙ validates other 2 over both ∙ begun_as (validated half 2 over) (validated other 2 over) same
+      ∙ ap (λ (e : Doing). done e (validated other 2 over)) is
 
-  nothing_again : half.activity ≡ Idle → doing_of (judged half 2 over) ≡ Nothing → MayBe (judged half 2 over) (written (judged half 2 over) 2 over).half
+  nothing_again : half.activity ≡ Idle → doing_of (validated half 2 over) ≡ Nothing → MayBe (validated half 2 over) (written (validated half 2 over) 2 over).half
   nothing_again idle is =
-      let mine : SlaveHalf = judged half 2 over in
+      let mine : SlaveHalf = validated half 2 over in
       let same = command_again mine refl refl refl refl in
       subst (MayBe mine) (sym (done_again Nothing is mine idle same))
-      (like_is_possible mine (judged mine 2 over) (nothing_alike mine (judged mine 2 over) same refl (MayHold-same half.activity half.words)))
+      (like_is_possible mine (validated mine 2 over) (nothing_alike mine (validated mine 2 over) same refl (MayHold-same half.activity half.words)))
 
-  read_again : doing_of (judged half 2 over) ≡ Fetches → (command_error enable_error : Bool)
-      → MayBe (fetching (judged half 2 over))
-      (written (with_errors (record (fetching (judged half 2 over)) { activity = Idle }) command_error enable_error) 2 over).half
+  read_again : doing_of (validated half 2 over) ≡ Fetches → (command_error enable_error : Bool)
+      → MayBe (fetching (validated half 2 over))
+      (written (with_errors (record (fetching (validated half 2 over)) { activity = Idle }) command_error enable_error) 2 over).half
   read_again is command_error enable_error =
-      let mine : SlaveHalf = judged half 2 over in
+      let mine : SlaveHalf = validated half 2 over in
       let other : SlaveHalf = with_errors (record (fetching mine) { activity = Idle }) command_error enable_error in
       let same = command_again other refl refl refl refl in
       subst (MayBe (fetching mine)) (sym (done_again Fetches is other refl same))
-      (like_is_possible (fetching mine) (fetching (judged other 2 over)) (fetching_alike mine (judged other 2 over) same refl))
+      (like_is_possible (fetching mine) (fetching (validated other 2 over)) (fetching_alike mine (validated other 2 over) same refl))
 
-  write_again : doing_of (judged half 2 over) ≡ Writes → (left : ℕ) (command_error enable_error : Bool)
-      → MayBe (writing (judged half 2 over))
-      (written (with_errors (settled (writing (judged half 2 over)) (judged half 2 over).registers.address left) command_error enable_error) 2 over).half
+  write_again : doing_of (validated half 2 over) ≡ Writes → (left : ℕ) (command_error enable_error : Bool)
+      → MayBe (writing (validated half 2 over))
+      (written (with_errors (settled (writing (validated half 2 over)) (validated half 2 over).registers.address left) command_error enable_error) 2 over).half
   write_again is left command_error enable_error =
-      let mine : SlaveHalf = judged half 2 over in
+      let mine : SlaveHalf = validated half 2 over in
       let other : SlaveHalf = with_errors (settled (writing mine) mine.registers.address left) command_error enable_error in
       let same = command_again other refl refl refl (length-set mine.words mine.registers.address left) in
       subst (MayBe (writing mine)) (sym (done_again Writes is other refl same))
-      (like_is_possible (writing mine) (writing (judged other 2 over))
-      (writing_alike mine (judged other 2 over) same
+      (like_is_possible (writing mine) (writing (validated other 2 over))
+      (writing_alike mine (validated other 2 over) same
       (address_needed half other over needs Writes is (λ e. absurd cc)) (first_needed half other over needs is) (left, refl)))
 
   -- while it is busy it takes nothing
@@ -231,24 +231,24 @@ module _ (half : SlaveHalf) (over : List ℕ) (bytes : (k : ℕ) → slice_index
       (subst (MayBe mine) (sym (written_ignored mine 2 over busy (omega (arith, needs_covers over needs)))) (MayBe-refl mine))
 
   -- the half that the command left has come to rest, and takes it again
-  judged_again : half.activity ≡ Idle → (d : Doing) → doing_of (judged half 2 over) ≡ d → (later : SlaveHalf)
-      → MayRest (done d (judged half 2 over)) later → MayBe (done d (judged half 2 over)) (written later 2 over).half
-  judged_again idle Nothing is later rests =
-      subst (λ (h : SlaveHalf). MayBe (judged half 2 over) (written h 2 over).half) (sym (MayRest-idle (judged half 2 over) later idle rests))
+  validated_again : half.activity ≡ Idle → (d : Doing) → doing_of (validated half 2 over) ≡ d → (later : SlaveHalf)
+      → MayRest (done d (validated half 2 over)) later → MayBe (done d (validated half 2 over)) (written later 2 over).half
+  validated_again idle Nothing is later rests =
+      subst (λ (h : SlaveHalf). MayBe (validated half 2 over) (written h 2 over).half) (sym (MayRest-idle (validated half 2 over) later idle rests))
       (nothing_again idle is)
-  judged_again idle Fetches is later (inl same) = busy_again (fetching (judged half 2 over)) later refl same
-  judged_again idle Fetches is later (inr (inl well)) =
-      subst (λ (h : SlaveHalf). MayBe (fetching (judged half 2 over)) (written h 2 over).half) (sym well)
-      (read_again is (judged half 2 over).registers.command_error (judged half 2 over).registers.enable_error)
-  judged_again idle Fetches is later (inr (inr fails)) =
-      subst (λ (h : SlaveHalf). MayBe (fetching (judged half 2 over)) (written h 2 over).half) (sym fails.rested_is)
+  validated_again idle Fetches is later (inl same) = busy_again (fetching (validated half 2 over)) later refl same
+  validated_again idle Fetches is later (inr (inl well)) =
+      subst (λ (h : SlaveHalf). MayBe (fetching (validated half 2 over)) (written h 2 over).half) (sym well)
+      (read_again is (validated half 2 over).registers.command_error (validated half 2 over).registers.enable_error)
+  validated_again idle Fetches is later (inr (inr fails)) =
+      subst (λ (h : SlaveHalf). MayBe (fetching (validated half 2 over)) (written h 2 over).half) (sym fails.rested_is)
       (read_again is later.registers.command_error later.registers.enable_error)
-  judged_again idle Writes is later (inl same) = busy_again (writing (judged half 2 over)) later refl same
-  judged_again idle Writes is later (inr (inl well)) =
-      subst (λ (h : SlaveHalf). MayBe (writing (judged half 2 over)) (written h 2 over).half) (sym well)
-      (write_again is (judged half 2 over).registers.first false false)
-  judged_again idle Writes is later (inr (inr fails)) =
-      subst (λ (h : SlaveHalf). MayBe (writing (judged half 2 over)) (written h 2 over).half) (sym fails.ends.rested_is)
+  validated_again idle Writes is later (inl same) = busy_again (writing (validated half 2 over)) later refl same
+  validated_again idle Writes is later (inr (inl well)) =
+      subst (λ (h : SlaveHalf). MayBe (writing (validated half 2 over)) (written h 2 over).half) (sym well)
+      (write_again is (validated half 2 over).registers.first false false)
+  validated_again idle Writes is later (inr (inr fails)) =
+      subst (λ (h : SlaveHalf). MayBe (writing (validated half 2 over)) (written h 2 over).half) (sym fails.ends.rested_is)
       (write_again is fails.left later.registers.command_error later.registers.enable_error)
 
 -- a half that is at rest after it took what may be sent is one that may be at rest once it took it again
@@ -283,13 +283,13 @@ module _ (half later : SlaveHalf) (d : Pdu) (may : MaySend half d)
             ⊎ ((nat_le (place_of d) 2 && nat_le 4 (place_of d + length d.content)) ≡ false)
             → MayBe (served_datagram half d).half (served_datagram later d).half
         by (inl covers) =
-            let doing = doing_of (judged half (place_of d) d.content) in
-            let first : (served_datagram half d).half ≡ done doing (judged half (place_of d) d.content) =
-            first_time ∙ written_idle half (place_of d) d.content idle ∙ judges half (place_of d) d.content covers ∙ begun_is (judged half (place_of d) d.content) in
+            let doing = doing_of (validated half (place_of d) d.content) in
+            let first : (served_datagram half d).half ≡ done doing (validated half (place_of d) d.content) =
+            first_time ∙ written_idle half (place_of d) d.content idle ∙ validates half (place_of d) d.content covers ∙ begun_is (validated half (place_of d) d.content) in
             may_be_as _ _ _ _ first next_time
-            (subst (λ (n : ℕ). MayBe (done (doing_of (judged half n d.content)) (judged half n d.content)) (written later n d.content).half) (sym (all half writes covers).0)
-            (judged_again half d.content bytes (all half writes covers).1 idle (doing_of (judged half 2 d.content)) refl later
-            (subst (λ (n : ℕ). MayRest (done (doing_of (judged half n d.content)) (judged half n d.content)) later) (all half writes covers).0
+            (subst (λ (n : ℕ). MayBe (done (doing_of (validated half n d.content)) (validated half n d.content)) (written later n d.content).half) (sym (all half writes covers).0)
+            (validated_again half d.content bytes (all half writes covers).1 idle (doing_of (validated half 2 d.content)) refl later
+            (subst (λ (n : ℕ). MayRest (done (doing_of (validated half n d.content)) (validated half n d.content)) later) (all half writes covers).0
             (subst (λ (h : SlaveHalf). MayRest h later) first rests))))
         by (inr part) =
             let first : (served_datagram half d).half ≡ with_stored half (place_of d) d.content =

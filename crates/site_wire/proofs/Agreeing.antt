@@ -12,13 +12,13 @@ use Rattle.site_wire.specs.Due.{WritesControl}
 use Rattle.site_wire.specs.Likeness.{IsLike, MayBe}
 use Rattle.site_wire.specs.Answers.{AnswersAlike, has_status}
 use Rattle.site_wire.specs.Exchanges.{IsSent, Takes, Takings, rested_well, rested_failed, rested_as, rested_by_answer, Agrees, alike, unconfirmed}
-use Rattle.site_wire.specs.Exchanges.{unsent, reads_alone, shows_alone, answered, start, next, silent, told}
+use Rattle.site_wire.specs.Exchanges.{unsent, reads_alone, shows_alone, answered, start, next, silent, reported}
 use Rattle.site_wire.specs.Laws.{AgreedIsPossible, StopLeavesNoMore, RunIsPossible}
 use Rattle.site_wire.proofs.Liking.{IsLike-then, like_is_possible, possible_leaves_no_more}
 use Rattle.site_wire.proofs.Alone.{read_alone}
 use Rattle.site_wire.proofs.Taking.{true_or_false, served_other, writes_here, writes_inside, served_write, written_ignored}
 use Rattle.site_wire.proofs.Again.{MaySend, place_of}
-use Rattle.site_wire.proofs.Chain.{takings, told_once, more_takings, served_leaves}
+use Rattle.site_wire.proofs.Chain.{takings, reported_once, more_takings, served_leaves}
 use Rattle.site_wire.proofs.Showing.{flags, same_flags, ShowsStatus, shows_status, status_in, reads_only, status_shown}
 
 -- HOW THE SHADOW RESTS
@@ -50,9 +50,9 @@ how_rested found half = by (true_or_false (has_status found))
         ap (λ (b : Bool). rested_as (if b then Some (status_in found) else None) half) has in
         elim (leb_tells 0x80 (status_in found)) [
           | inl busy ↦ stays (is ∙ ap (λ (b : Bool). if b then half else if nat_le 0x20 (status_in found) then rested_failed half.activity half else rested_well half.activity half) busy.0)
-          | inr free ↦
+          | inr vacant ↦
               let next_is : rested_by_answer found half ≡ (if nat_le 0x20 (status_in found) then rested_failed half.activity half else rested_well half.activity half) =
-              is ∙ ap (λ (b : Bool). if b then half else if nat_le 0x20 (status_in found) then rested_failed half.activity half else rested_well half.activity half) free.0 in
+              is ∙ ap (λ (b : Bool). if b then half else if nat_le 0x20 (status_in found) then rested_failed half.activity half else rested_well half.activity half) vacant.0 in
               elim (leb_tells 0x20 (status_in found)) [
                 | inl error ↦ failed (shows_status found has) (next_is ∙ ap (λ (b : Bool). if b then rested_failed half.activity half else rested_well half.activity half) error.0) half.activity refl
                 | inr fine ↦ well (shows_status found has) fine.1 (next_is ∙ ap (λ (b : Bool). if b then rested_failed half.activity half else rested_well half.activity half) fine.0) half.activity refl
@@ -112,7 +112,7 @@ word_ended half later word value writing rests idle first second = by rests
 module _ (base shadow real mid later : SlaveHalf) (d found : Pdu) (sent : IsSent base d) (may : MaySend shadow d) (be : MayBe shadow real)
     (before : Takings d real mid) (answer : Takes d mid found later) where
   stayed : MayBe (served_datagram shadow d).half later
-  stayed = told_once base shadow d sent may real mid later found be before answer
+  stayed = reported_once base shadow d sent may real mid later found be before answer
 
   module _ (shows : ShowsStatus found) where
     reads : d.command ≡ 4
@@ -187,14 +187,14 @@ module _ (base shadow real mid later : SlaveHalf) (d found : Pdu) (sent : IsSent
       by (word_ends word value shows writing low is) = λ busy. absurd (let no : is_busy (rested_by_answer found shadow).activity ≡ false = ap (λ (h : SlaveHalf). is_busy h.activity) is in cc)
 
   -- and takes it again
-  module _ (last : SlaveHalf) (behind : Takings d later last) where
-    pub agreed_behind : (after : SlaveHalf) → Agrees after (reply_of d (served_datagram (rested_by_answer found shadow) d)) found
+  module _ (last : SlaveHalf) (afterwards : Takings d later last) where
+    pub agreed_after : (after : SlaveHalf) → Agrees after (reply_of d (served_datagram (rested_by_answer found shadow) d)) found
         → MayBe (served_datagram (rested_by_answer found shadow) d).half last
-    agreed_behind after agrees = more_takings base (rested_by_answer found shadow) d sent may_rested later last (agreed after agrees) behind
+    agreed_after after agrees = more_takings base (rested_by_answer found shadow) d sent may_rested later last (agreed after agrees) afterwards
 
     module _ (left : List ℕ) (leaves : MayLeave last left) where
       stayed_last : MayBe (served_datagram shadow d).half last
-      stayed_last = more_takings base shadow d sent may later last stayed behind
+      stayed_last = more_takings base shadow d sent may later last stayed afterwards
 
       pub stayed_leaves : MayLeave (served_datagram shadow d).half left
       stayed_leaves = possible_leaves_no_more (served_datagram shadow d).half last left stayed_last leaves
@@ -215,7 +215,7 @@ module _ (base shadow real mid later : SlaveHalf) (d found : Pdu) (sent : IsSent
               possible_leaves_no_more (served_datagram (rested_by_answer found shadow) d).half last left
               (more_takings base (rested_by_answer found shadow) d sent may_rested later last
               (subst (λ (h : SlaveHalf). MayBe h later) (sym (unchanged shows (rested_by_answer found shadow) ∙ is))
-              (word_agrees shows word value writing low)) behind)
+              (word_agrees shows word value writing low)) afterwards)
               leaves
 
 -- THE LAWS
@@ -226,7 +226,7 @@ ignored shadow d busy writes = elim (true_or_false (writes_here shadow (command_
   | inr other ↦ served_other shadow (command_of d.command) d.address d.content other
   | inl here ↦
       served_write shadow (command_of d.command) d.address d.content here
-      ∙ written_ignored shadow (place_of d) d.content busy (omega (arith, writes.behind, writes_inside shadow (command_of d.command) d.address d.content here))
+      ∙ written_ignored shadow (place_of d) d.content busy (omega (arith, writes.afterwards, writes_inside shadow (command_of d.command) d.address d.content here))
 ]
 
 pub agreed_is_possible : AgreedIsPossible
@@ -241,7 +241,7 @@ agreed_is_possible shadow real shadow_after real_after be (shows_alone d reads i
     (sym (is ∙ served_other shadow (command_of d.command) d.address d.content (reads_only shadow d reads))) (subst (MayBe shadow) (sym same) be)
 agreed_is_possible shadow real shadow_after real_after be (answered d found sent may answers is agrees) =
     subst (λ (h : SlaveHalf). MayBe h real_after) (sym is)
-    (agreed_behind shadow shadow real answers.mid answers.after d found sent may be answers.before answers.told real_after answers.behind shadow_after agrees)
+    (agreed_after shadow shadow real answers.mid answers.after d found sent may be answers.before answers.reported real_after answers.afterwards shadow_after agrees)
 
 pub run_is_possible : RunIsPossible
 run_is_possible shadow real shadow_after real_after like start = like_is_possible shadow real like
@@ -255,9 +255,9 @@ stop_leaves_no_more shadow real shadow_after real_after left be (silent d sent m
       | inl never ↦ served_leaves shadow d left (possible_leaves_no_more shadow real_after left never leaves)
       | inr once ↦ possible_leaves_no_more (served_datagram shadow d).half real_after left once leaves
     ])
-stop_leaves_no_more shadow real shadow_after real_after left be (told d found sent may answers (inl rested)) leaves =
+stop_leaves_no_more shadow real shadow_after real_after left be (reported d found sent may answers (inl rested)) leaves =
     subst (λ (h : SlaveHalf). MayLeave h left) (sym rested)
-    (rested_leaves shadow shadow real answers.mid answers.after d found sent may be answers.before answers.told real_after answers.behind left leaves)
-stop_leaves_no_more shadow real shadow_after real_after left be (told d found sent may answers (inr same)) leaves =
+    (rested_leaves shadow shadow real answers.mid answers.after d found sent may be answers.before answers.reported real_after answers.afterwards left leaves)
+stop_leaves_no_more shadow real shadow_after real_after left be (reported d found sent may answers (inr same)) leaves =
     subst (λ (h : SlaveHalf). MayLeave h left) (sym same)
-    (stayed_leaves shadow shadow real answers.mid answers.after d found sent may be answers.before answers.told real_after answers.behind left leaves)
+    (stayed_leaves shadow shadow real answers.mid answers.after d found sent may be answers.before answers.reported real_after answers.afterwards left leaves)

@@ -10,9 +10,9 @@ use Rattle.site_wire.specs.Likeness.{IsLike, MayBe}
 use Rattle.site_wire.specs.Exchanges.{BeginsToRead}
 use Rattle.site_wire.specs.Laws.{ReadAloneIsPossible}
 use Rattle.site_wire.proofs.Again.{place_of, fit_all}
-use Rattle.site_wire.proofs.Judged.{judged, Doing, Nothing, Fetches, Writes, doing_of, done, begun_is, fetches_well}
+use Rattle.site_wire.proofs.Validated.{validated, Doing, Nothing, Fetches, Writes, doing_of, done, begun_is, fetches_well}
 use Rattle.site_wire.proofs.Stored.{offered_kept, forced_kept}
-use Rattle.site_wire.proofs.Taking.{true_or_false, served_other, writes_here, served_write, written_idle, judges, stores}
+use Rattle.site_wire.proofs.Taking.{true_or_false, served_other, writes_here, served_write, written_idle, validates, stores}
 
 idle_reads_nothing : (activity : Activity) → activity ≡ Idle → activity ≡ Reading → ⊥
 idle_reads_nothing Idle idle reading = absurd cc
@@ -22,12 +22,12 @@ idle_reads_nothing (Writing word value) idle reading = absurd cc
 module _ (shadow real : SlaveHalf) (like : IsLike shadow real) (idle : shadow.activity ≡ Idle)
     (command_error : shadow.registers.command_error ≡ false) (enable_error : shadow.registers.enable_error ≡ false) where
   -- once it was judged to read
-  fetched : (over : List ℕ) (d : Doing) → doing_of (judged shadow 2 over) ≡ d → (done d (judged shadow 2 over)).activity ≡ Reading
-      → IsLike (record (done d (judged shadow 2 over)) { activity = Idle }) real
+  fetched : (over : List ℕ) (d : Doing) → doing_of (validated shadow 2 over) ≡ d → (done d (validated shadow 2 over)).activity ≡ Reading
+      → IsLike (record (done d (validated shadow 2 over)) { activity = Idle }) real
   fetched over Nothing is reads = absurd (idle_reads_nothing shadow.activity idle reads)
   fetched over Writes is reads = absurd cc
   fetched over Fetches is reads =
-      let well = fetches_well (judged shadow 2 over) is in
+      let well = fetches_well (validated shadow 2 over) is in
       record {
         station = like.station;
         activity = like.activity ∙ idle;
@@ -67,10 +67,10 @@ read_alone shadow real d be begins = by (true_or_false (writes_here shadow (comm
     write here (inl covers) =
         let is =
         served_write shadow (command_of d.command) d.address d.content here ∙ written_idle shadow at d.content begins.idle
-        ∙ judges shadow at d.content covers ∙ begun_is (judged shadow at d.content)
-        ∙ ap (λ (n : ℕ). done (doing_of (judged shadow n d.content)) (judged shadow n d.content)) (fit_all shadow d begins.fits shadow here covers).0 in
-        rested (done (doing_of (judged shadow 2 d.content)) (judged shadow 2 d.content)) is
-        (fetched shadow real like begins.idle begins.command_error begins.enable_error d.content (doing_of (judged shadow 2 d.content)) refl (reading _ is))
+        ∙ validates shadow at d.content covers ∙ begun_is (validated shadow at d.content)
+        ∙ ap (λ (n : ℕ). done (doing_of (validated shadow n d.content)) (validated shadow n d.content)) (fit_all shadow d begins.fits shadow here covers).0 in
+        rested (done (doing_of (validated shadow 2 d.content)) (validated shadow 2 d.content)) is
+        (fetched shadow real like begins.idle begins.command_error begins.enable_error d.content (doing_of (validated shadow 2 d.content)) refl (reading _ is))
 
     by : (writes_here shadow (command_of d.command) d.address d.content ≡ true) ⊎ (writes_here shadow (command_of d.command) d.address d.content ≡ false)
         → IsLike (record (served_datagram shadow d).half { activity = Idle }) real

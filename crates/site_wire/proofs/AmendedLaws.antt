@@ -17,8 +17,8 @@ use Rattle.site_wire.specs.Amending.{IsAmended, start, next, PossibleIsAmended, 
 use Rattle.site_wire.specs.Amending.{OtherIsKept}
 use Rattle.site_wire.proofs.Liking.{MayHold-then, like_is_possible}
 use Rattle.site_wire.proofs.Stored.{offered_kept, forced_kept, command_given}
-use Rattle.site_wire.proofs.Judged.{judged, Doing, Nothing, Fetches, Writes, doing_of, done, begun_is, writes_command}
-use Rattle.site_wire.proofs.Taking.{true_or_false, writes_here, served_other, served_write, written_idle, written_ignored, judges}
+use Rattle.site_wire.proofs.Validated.{validated, Doing, Nothing, Fetches, Writes, doing_of, done, begun_is, writes_command}
+use Rattle.site_wire.proofs.Taking.{true_or_false, writes_here, served_other, served_write, written_idle, written_ignored, validates}
 use Rattle.site_wire.proofs.Showing.{reads_only}
 
 -- WHAT A HALF MAY HOLD, THROUGH WHAT THE REAL SLAVE DOES
@@ -85,8 +85,8 @@ amended_like shadow real later am like = record {
 module _ (half : SlaveHalf) (over : List ℕ) where
   -- what it begins is no more than what the shadow does
   begins : (shadow : SlaveHalf) → half.activity ≡ Idle → IsAmended shadow half
-      → (doing_of (judged half 2 over) ≡ Writes → Writing (judged half 2 over).registers.address (judged half 2 over).registers.first ≡ shadow.activity)
-      → (d : Doing) → doing_of (judged half 2 over) ≡ d → IsAmended shadow (done d (judged half 2 over))
+      → (doing_of (validated half 2 over) ≡ Writes → Writing (validated half 2 over).registers.address (validated half 2 over).registers.first ≡ shadow.activity)
+      → (d : Doing) → doing_of (validated half 2 over) ≡ d → IsAmended shadow (done d (validated half 2 over))
   begins shadow idle am same Nothing is =
       record { station = am.station; offered = offered_kept half over ∙ am.offered; forced = forced_kept half over ∙ am.forced; words = am.words; activity = inl idle }
   begins shadow idle am same Fetches is =
@@ -95,17 +95,17 @@ module _ (half : SlaveHalf) (over : List ℕ) where
       record { station = am.station; offered = offered_kept half over ∙ am.offered; forced = forced_kept half over ∙ am.forced; words = am.words; activity = inr (inr (same is)) }
 
 -- what the device sends of its own names no other word
-own_write : (shadow half : SlaveHalf) (d : Pdu) → IsOwn shadow d → doing_of (judged half 2 d.content) ≡ Writes
-    → Writing (judged half 2 d.content).registers.address (judged half 2 d.content).registers.first ≡ shadow.activity
+own_write : (shadow half : SlaveHalf) (d : Pdu) → IsOwn shadow d → doing_of (validated half 2 d.content) ≡ Writes
+    → Writing (validated half 2 d.content).registers.address (validated half 2 d.content).registers.first ≡ shadow.activity
 own_write shadow half d (clears at is) does =
-    absurd (let e : slice_index d.content 1 % 8 ≡ 2 = sym (command_given half half 2 d.content refl (let n : length d.content ≡ 2 = ap length is in omega arith)) ∙ writes_command (judged half 2 d.content) does in
+    absurd (let e : slice_index d.content 1 % 8 ≡ 2 = sym (command_given half half 2 d.content refl (let n : length d.content ≡ 2 = ap length is in omega arith)) ∙ writes_command (validated half 2 d.content) does in
     let z : slice_index d.content 1 % 8 ≡ 0 = ap (λ (l : List ℕ). slice_index l 1 % 8) is in omega arith)
 own_write shadow half d (reads word rest at is) does =
-    absurd (let e : slice_index d.content 1 % 8 ≡ 2 = sym (command_given half half 2 d.content refl (let n : 2 ≤ length d.content = subst (λ (l : List ℕ). 2 ≤ length l) (sym is) (omega arith) in n)) ∙ writes_command (judged half 2 d.content) does in
+    absurd (let e : slice_index d.content 1 % 8 ≡ 2 = sym (command_given half half 2 d.content refl (let n : 2 ≤ length d.content = subst (λ (l : List ℕ). 2 ≤ length l) (sym is) (omega arith) in n)) ∙ writes_command (validated half 2 d.content) does in
     let z : slice_index d.content 1 % 8 ≡ 1 = ap (λ (l : List ℕ). slice_index l 1 % 8) is in omega arith)
 own_write shadow half d (writes word value flying small fits at is) does =
-    let address : (judged half 2 d.content).registers.address ≡ word = ap (λ (l : List ℕ). (judged half 2 l).registers.address) is ∙ number_back word small in
-    let first : (judged half 2 d.content).registers.first ≡ value = ap (λ (l : List ℕ). (judged half 2 l).registers.first) is ∙ value_back value fits in
+    let address : (validated half 2 d.content).registers.address ≡ word = ap (λ (l : List ℕ). (validated half 2 l).registers.address) is ∙ number_back word small in
+    let first : (validated half 2 d.content).registers.first ≡ value = ap (λ (l : List ℕ). (validated half 2 l).registers.first) is ∙ value_back value fits in
     writing_is address first ∙ sym flying
   where
     writing_is : {p q r s : ℕ} → p ≡ q → r ≡ s → Writing p r ≡ Writing q s
@@ -137,11 +137,11 @@ module _ (shadow half : SlaveHalf) (d : Pdu) (am : IsAmended shadow half) where
       by (inl busy) =
           let e = (own_place shadow d own).1 in
           subst (IsAmended shadow) (sym (is_written ∙ written_ignored half 2 d.content busy (omega arith))) am
-      by (inr free) =
-          let idle : half.activity ≡ Idle = idle_not_busy half.activity free in
+      by (inr vacant) =
+          let idle : half.activity ≡ Idle = idle_not_busy half.activity vacant in
           subst (IsAmended shadow)
-          (sym (is_written ∙ written_idle half 2 d.content idle ∙ judges half 2 d.content covers ∙ begun_is (judged half 2 d.content)))
-          (begins half d.content shadow idle am (own_write shadow half d own) (doing_of (judged half 2 d.content)) refl)
+          (sym (is_written ∙ written_idle half 2 d.content idle ∙ validates half 2 d.content covers ∙ begun_is (validated half 2 d.content)))
+          (begins half d.content shadow idle am (own_write shadow half d own) (doing_of (validated half 2 d.content)) refl)
 
   pub served_amended : (d.command ≡ 4) ⊎ ((d.command ≡ 5) × IsOwn shadow d) → IsAmended shadow (served_datagram half d).half
   served_amended (inl read) = unchanged (reads_only half d read)

@@ -25,16 +25,16 @@ use Rattle.site_wire.specs.Known.{IsKnown, TellsNothing, begins, fetches, waits 
 use Rattle.site_wire.specs.Amending.{IsAmended}
 use Rattle.site_wire.specs.Sent.{Exchanged, exchanged}
 use Rattle.site_wire.specs.RealSlaves.{Serves, Lives, ends}
-use Rattle.site_wire.specs.Following.{IsOwnTo, RestsBy, stays, read_back, rests_with, Carries, waits, known, passes, follows_up, IsBehind}
+use Rattle.site_wire.specs.Following.{IsOwnTo, RestsBy, stays, read_back, rests_with, Carries, waits, known, passes, follows_up, IsAfter}
 use Rattle.site_wire.proofs.Stored.{offered_same, forced_same, offered_kept, forced_kept, command_given}
-use Rattle.site_wire.proofs.Judged.{judged, Doing, Nothing, Fetches, Writes, doing_of, done, begun_is, writes_command}
+use Rattle.site_wire.proofs.Validated.{validated, Doing, Nothing, Fetches, Writes, doing_of, done, begun_is, writes_command}
 use Rattle.site_wire.proofs.Taking.{true_or_false, writes_here, writes_same, writes_code, writes_inside, served_other, served_write, written_quiet}
-use Rattle.site_wire.proofs.Taking.{written_idle, written_ignored, judges}
+use Rattle.site_wire.proofs.Taking.{written_idle, written_ignored, validates}
 use Rattle.site_wire.proofs.Again.{MaySend, place_of, quiet_or_idle}
 use Rattle.site_wire.proofs.AmendedLaws.{ended_idle, amended_rests, amended_like, served_amended, held_is}
 use Rattle.site_wire.proofs.Due.{writing_by}
 use Rattle.site_wire.proofs.Living.{Between, lives_keep, lives_parts, lives_once, lives_station}
-use Rattle.site_wire.proofs.Behind.{answered_behind}
+use Rattle.site_wire.proofs.After.{answered_after}
 
 -- NOTHING IS SENT
 
@@ -51,20 +51,20 @@ takes_nothing half d busy writes_it = by (true_or_false (writes_here half (comma
     by (inl here) =
         let inside : 0x0500 ≤ register_of d.address = writes_inside half (command_of d.command) d.address d.content here in
         served_write half (command_of d.command) d.address d.content here
-        ∙ written_ignored half (place_of d) d.content busy (let past = writes_it.behind in omega arith)
+        ∙ written_ignored half (place_of d) d.content busy (let past = writes_it.afterwards in omega arith)
     by (inr other) = served_other half (command_of d.command) d.address d.content other
 
--- A shadow that ends its read has the slave behind it as before.
-read_ends : (half rested real : SlaveHalf) → MayEnd Reading half rested → half.activity ≡ Reading → IsBehind half real → IsBehind rested real
-read_ends half rested real ended reading behind =
+-- A shadow that ends its read has the slave after it as before.
+read_ends : (half rested real : SlaveHalf) → MayEnd Reading half rested → half.activity ≡ Reading → IsAfter half real → IsAfter rested real
+read_ends half rested real ended reading afterwards =
     let e = ended_idle Reading half rested ended in
-    let quiet : real.activity ≡ Idle = behind.idle (ap in_flight reading) in
-    let held : real.words ≡ half.words = subst (λ (a : Activity). MayHold a half.words real.words) reading behind.amended.words in
+    let quiet : real.activity ≡ Idle = afterwards.idle (ap in_flight reading) in
+    let held : real.words ≡ half.words = subst (λ (a : Activity). MayHold a half.words real.words) reading afterwards.amended.words in
     record {
       amended = record {
-        station = behind.amended.station ∙ sym (MayRest-station half rested (inr (subst (λ (a : Activity). MayEnd a half rested) (sym reading) ended)));
-        offered = behind.amended.offered ∙ sym e.1;
-        forced = behind.amended.forced ∙ sym e.2;
+        station = afterwards.amended.station ∙ sym (MayRest-station half rested (inr (subst (λ (a : Activity). MayEnd a half rested) (sym reading) ended)));
+        offered = afterwards.amended.offered ∙ sym e.1;
+        forced = afterwards.amended.forced ∙ sym e.2;
         words = subst (λ (a : Activity). MayHold a rested.words real.words) (sym e.0) (held ∙ sym (read_words ended));
         activity = inl quiet;
       };
@@ -75,15 +75,15 @@ read_ends half rested real ended reading behind =
     read_words (inl well) = ap (λ (h : SlaveHalf). h.words) well
     read_words (inr fails) = ap (λ (h : SlaveHalf). h.words) fails.rested_is
 
-rested_well : (half rested real : SlaveHalf) → in_flight half.activity ≡ None → RestsAs resting.Well half rested → IsBehind half real → IsBehind rested real
-rested_well half rested real quiet so behind = by half.activity refl quiet so
+rested_well : (half rested real : SlaveHalf) → in_flight half.activity ≡ None → RestsAs resting.Well half rested → IsAfter half real → IsAfter rested real
+rested_well half rested real quiet so afterwards = by half.activity refl quiet so
   where
-    by : (a : Activity) → half.activity ≡ a → in_flight a ≡ None → Ends a rests.Well false half rested → IsBehind rested real
-    by Idle is none same = subst (λ (h : SlaveHalf). IsBehind h real) (sym same) behind
-    by Reading is none ended = read_ends half rested real (inl ended) is behind
+    by : (a : Activity) → half.activity ≡ a → in_flight a ≡ None → Ends a rests.Well false half rested → IsAfter rested real
+    by Idle is none same = subst (λ (h : SlaveHalf). IsAfter h real) (sym same) afterwards
+    by Reading is none ended = read_ends half rested real (inl ended) is afterwards
     by (Writing word value) is none same = absurd cc
 
--- none is in flight behind it
+-- none is in flight after it
 still_quiet : (half rested : SlaveHalf) → in_flight half.activity ≡ None → RestsAs resting.Well half rested → in_flight rested.activity ≡ None
 still_quiet half rested quiet so = by half.activity refl quiet so
   where
@@ -94,67 +94,67 @@ still_quiet half rested quiet so = by half.activity refl quiet so
 
 -- the command to read words, which an idle shadow takes by itself
 reads_by_itself : (half real : SlaveHalf) (over : List ℕ) → in_flight half.activity ≡ None → half.activity ≡ Idle → 2 ≤ length over → slice_index over 1 % 8 ≡ 1
-    → IsBehind half real → IsBehind (begun (judged half 2 over)) real
-reads_by_itself half real over none idle long one behind =
-    subst (λ (h : SlaveHalf). IsBehind h real) (sym (begun_is (judged half 2 over))) (by (doing_of (judged half 2 over)) refl)
+    → IsAfter half real → IsAfter (begun (validated half 2 over)) real
+reads_by_itself half real over none idle long one afterwards =
+    subst (λ (h : SlaveHalf). IsAfter h real) (sym (begun_is (validated half 2 over))) (by (doing_of (validated half 2 over)) refl)
   where
     words : real.words ≡ half.words
-    words = subst (λ (a : Activity). MayHold a half.words real.words) idle behind.amended.words
+    words = subst (λ (a : Activity). MayHold a half.words real.words) idle afterwards.amended.words
 
-    by : (does : Doing) → doing_of (judged half 2 over) ≡ does → IsBehind (done does (judged half 2 over)) real
+    by : (does : Doing) → doing_of (validated half 2 over) ≡ does → IsAfter (done does (validated half 2 over)) real
     by Nothing is = record {
       amended = record {
-        station = behind.amended.station;
-        offered = behind.amended.offered ∙ sym (offered_kept half over);
-        forced = behind.amended.forced ∙ sym (forced_kept half over);
-        words = behind.amended.words;
-        activity = behind.amended.activity;
+        station = afterwards.amended.station;
+        offered = afterwards.amended.offered ∙ sym (offered_kept half over);
+        forced = afterwards.amended.forced ∙ sym (forced_kept half over);
+        words = afterwards.amended.words;
+        activity = afterwards.amended.activity;
       };
-      idle = behind.idle;
+      idle = afterwards.idle;
     }
     by Fetches is = record {
       amended = record {
-        station = behind.amended.station;
-        offered = behind.amended.offered ∙ sym (offered_kept half over);
-        forced = behind.amended.forced ∙ sym (forced_kept half over);
+        station = afterwards.amended.station;
+        offered = afterwards.amended.offered ∙ sym (offered_kept half over);
+        forced = afterwards.amended.forced ∙ sym (forced_kept half over);
         words = words;
-        activity = inl (behind.idle none);
+        activity = inl (afterwards.idle none);
       };
-      idle = λ quiet. behind.idle none;
+      idle = λ quiet. afterwards.idle none;
     }
     by Writes is =
-        absurd (let two : slice_index over 1 % 8 ≡ 2 = sym (command_given half half 2 over refl long) ∙ writes_command (judged half 2 over) is in omega arith)
+        absurd (let two : slice_index over 1 % 8 ≡ 2 = sym (command_given half half 2 over refl long) ∙ writes_command (validated half 2 over) is in omega arith)
 
 -- A datagram that the shadow answers by itself.
-known_behind : (half rested real : SlaveHalf) (d : Pdu) → IsKnown half d → IsFit half d → RestsAs resting.Well half rested → IsBehind half real
-    → IsBehind (served_datagram rested d).half real
-known_behind half rested real d is fits so behind =
+known_after : (half rested real : SlaveHalf) (d : Pdu) → IsKnown half d → IsFit half d → RestsAs resting.Well half rested → IsAfter half real
+    → IsAfter (served_datagram rested d).half real
+known_after half rested real d is fits so afterwards =
     by (true_or_false (writes_here rested (command_of d.command) d.address d.content)) is.tells
   where
-    was : IsBehind rested real
-    was = rested_well half rested real is.quiet so behind
+    was : IsAfter rested real
+    was = rested_well half rested real is.quiet so afterwards
 
     read_only : d.command ≡ 4 → writes_here rested (command_of d.command) d.address d.content ≡ true → ⊥
     read_only four here = let five : d.command ≡ 5 = writes_code rested d here in omega arith
 
     taken : register_of d.address ≡ 0x0502 → 2 ≤ length d.content → slice_index d.content 1 % 8 ≡ 1
         → writes_here rested (command_of d.command) d.address d.content ≡ true → (is_busy rested.activity ≡ true) ⊎ (is_busy rested.activity ≡ false)
-        → IsBehind (served_datagram rested d).half real
+        → IsAfter (served_datagram rested d).half real
     taken at long one here (inl busy) =
-        subst (λ (h : SlaveHalf). IsBehind h real)
+        subst (λ (h : SlaveHalf). IsAfter h real)
         (sym (served_write rested (command_of d.command) d.address d.content here ∙ written_ignored rested (place_of d) d.content busy (omega arith))) was
-    taken at long one here (inr free) =
-        let idle : rested.activity ≡ Idle = idle_not_busy rested.activity free in
+    taken at long one here (inr vacant) =
+        let idle : rested.activity ≡ Idle = idle_not_busy rested.activity vacant in
         let place : place_of d ≡ 2 = omega arith in
         let covers : (nat_le 2 2 && nat_le 4 (2 + length d.content)) ≡ true = rw (le-leb 2 2 (omega arith), le-leb 4 (2 + length d.content) (omega arith)) refl in
-        subst (λ (h : SlaveHalf). IsBehind h real)
+        subst (λ (h : SlaveHalf). IsAfter h real)
         (sym (served_write rested (command_of d.command) d.address d.content here ∙ ap (λ (n : ℕ). (written rested n d.content).half) place
-        ∙ written_idle rested 2 d.content idle ∙ judges rested 2 d.content covers))
+        ∙ written_idle rested 2 d.content idle ∙ validates rested 2 d.content covers))
         (reads_by_itself rested real d.content (still_quiet half rested is.quiet so) idle long one was)
 
     by : (writes_here rested (command_of d.command) d.address d.content ≡ true) ⊎ (writes_here rested (command_of d.command) d.address d.content ≡ false)
-        → TellsNothing half d → IsBehind (served_datagram rested d).half real
-    by (inr other) tells = subst (λ (h : SlaveHalf). IsBehind h real) (sym (served_other rested (command_of d.command) d.address d.content other)) was
+        → TellsNothing half d → IsAfter (served_datagram rested d).half real
+    by (inr other) tells = subst (λ (h : SlaveHalf). IsAfter h real) (sym (served_other rested (command_of d.command) d.address d.content other)) was
     by (inl here) (begins command long one) = taken (fits.from command) long one here (true_or_false (is_busy rested.activity))
     by (inl here) (fetches four register) = absurd (read_only four here)
     by (inl here) (waits_for four reading) = absurd (read_only four here)
@@ -220,10 +220,10 @@ ends_with half rested write value flying so = by (eqb_tells value write.value)
         EndsWith-errors half rested write.word value true half.registers.enable_error
         (with_test false other.0 ∙ ap (λ (a : Activity). rested_by a (rests.Failed value) half) flying)
 
-read_back_behind : (half rested later : SlaveHalf) (d : Pdu) (write : WordWrite) (value : ℕ) → half.activity ≡ Writing write.word write.value
+read_back_after : (half rested later : SlaveHalf) (d : Pdu) (write : WordWrite) (value : ℕ) → half.activity ≡ Writing write.word write.value
     → ¬ WritesControl d → EndsWith half write.word value rested → IsAmended (served_datagram half d).half later → later.activity ≡ Idle
-    → slice_index later.words write.word ≡ value → IsBehind (served_datagram rested d).half later
-read_back_behind half rested later d write value flying quiet ended am idle holds =
+    → slice_index later.words write.word ≡ value → IsAfter (served_datagram rested d).half later
+read_back_after half rested later d write value flying quiet ended am idle holds =
     by (true_or_false (writes_here half (command_of d.command) d.address d.content))
   where
     busy : IsTrue (is_busy half.activity)
@@ -242,7 +242,7 @@ read_back_behind half rested later d write value flying quiet ended am idle hold
         ∙ ap (λ (w : List ℕ). slice_set w write.word value) goes.words ∙ sym ended.words
 
     conclude : (taken : SlaveHalf) → taken.station ≡ half.station → taken.registers.offered ≡ (served_datagram half d).half.registers.offered
-        → taken.registers.forced ≡ (served_datagram half d).half.registers.forced → taken.words ≡ rested.words → taken.activity ≡ Idle → IsBehind taken later
+        → taken.registers.forced ≡ (served_datagram half d).half.registers.forced → taken.words ≡ rested.words → taken.activity ≡ Idle → IsAfter taken later
     conclude taken station offered forced of_words of_activity = record {
       amended = record {
         station = am.station ∙ goes.station ∙ sym station;
@@ -255,10 +255,10 @@ read_back_behind half rested later d write value flying quiet ended am idle hold
     }
 
     by : (writes_here half (command_of d.command) d.address d.content ≡ true) ⊎ (writes_here half (command_of d.command) d.address d.content ≡ false)
-        → IsBehind (served_datagram rested d).half later
+        → IsAfter (served_datagram rested d).half later
     by (inr other) =
         let mine : (served_datagram half d).half ≡ half = served_other half (command_of d.command) d.address d.content other in
-        subst (λ (h : SlaveHalf). IsBehind h later) (sym (served_other rested (command_of d.command) d.address d.content (same ∙ other)))
+        subst (λ (h : SlaveHalf). IsAfter h later) (sym (served_other rested (command_of d.command) d.address d.content (same ∙ other)))
         (conclude rested ended.station (ended.offered ∙ sym (ap (λ (h : SlaveHalf). h.registers.offered) mine))
         (ended.forced ∙ sym (ap (λ (h : SlaveHalf). h.registers.forced) mine)) refl ended.idle)
     by (inl here) = elim (quiet_or_idle half d (λ _. quiet) here) [
@@ -269,7 +269,7 @@ read_back_behind half rested later d write value flying quiet ended am idle hold
           served_write half (command_of d.command) d.address d.content here ∙ written_quiet half at d.content early in
           let its : (served_datagram rested d).half ≡ with_stored rested at d.content =
           served_write rested (command_of d.command) d.address d.content (same ∙ here) ∙ written_quiet rested at d.content early in
-          subst (λ (h : SlaveHalf). IsBehind h later) (sym its)
+          subst (λ (h : SlaveHalf). IsAfter h later) (sym its)
           (conclude (with_stored rested at d.content) ended.station
           (offered_same half rested at d.content ended.offered ended.forced ∙ sym (ap (λ (h : SlaveHalf). h.registers.offered) mine))
           (forced_same half rested at d.content ended.offered ended.forced ∙ sym (ap (λ (h : SlaveHalf). h.registers.forced) mine)) refl ended.idle)
@@ -278,18 +278,18 @@ read_back_behind half rested later d write value flying quiet ended am idle hold
 -- ALL THAT IS SENT FOR A DATAGRAM
 
 module _ (slave : ℕ) (half : SlaveHalf) (d : Pdu) (fits : IsFit half d) (bytes : (k : ℕ) → slice_index d.content k < 256)
-    (to : station_of d.address ≡ station slave) (rested real later : SlaveHalf) (near : real.station ≡ station slave) (behind : IsBehind half real) where
+    (to : station_of d.address ≡ station slave) (rested real later : SlaveHalf) (near : real.station ≡ station slave) (afterwards : IsAfter half real) where
   -- the datagram came back
-  pass_behind : (found : Pdu) (mid : SlaveHalf) → MaySend half d → ¬ IsKnown half d → Lives (exchanged d (Some found) ∷ []) real mid
-      → IsBehind (served_datagram half d).half mid
-  pass_behind found mid may news lives =
-      answered_behind half d (record { may = may; fits = fits; news = news; bytes = bytes }) real mid found
-      (lives_once (exchanged d (Some found)) found real mid (to ∙ sym near) refl lives) behind
+  pass_after : (found : Pdu) (mid : SlaveHalf) → MaySend half d → ¬ IsKnown half d → Lives (exchanged d (Some found) ∷ []) real mid
+      → IsAfter (served_datagram half d).half mid
+  pass_after found mid may news lives =
+      answered_after half d (record { may = may; fits = fits; news = news; bytes = bytes }) real mid found
+      (lives_once (exchanged d (Some found)) found real mid (to ∙ sym near) refl lives) afterwards
 
-  follow_behind : (found : Pdu) (write : WordWrite) (calls : List Exchanged) (how : Resting) → ¬ WritesControl d → in_flight half.activity ≡ Some write
+  follow_after : (found : Pdu) (write : WordWrite) (calls : List Exchanged) (how : Resting) → ¬ WritesControl d → in_flight half.activity ≡ Some write
       → All (IsOwnTo slave half) calls → RestsBy slave write calls how → RestsAs how half rested
-      → Lives (exchanged d (Some found) ∷ calls) real later → IsBehind (served_datagram rested d).half later
-  follow_behind found write calls how quiet flying own by rests lives = with_rest by rests
+      → Lives (exchanged d (Some found) ∷ calls) real later → IsAfter (served_datagram rested d).half later
+  follow_after found write calls how quiet flying own by rests lives = with_rest by rests
     where
       writing : half.activity ≡ Writing write.word write.value
       writing = writing_by half.activity write flying
@@ -306,28 +306,28 @@ module _ (slave : ℕ) (half : SlaveHalf) (d : Pdu) (fits : IsFit half d) (bytes
       same : (served_datagram half d).half.activity ≡ half.activity
       same = same_activity half d busy
 
-      mid : IsBehind (served_datagram half d).half parts.mid
-      mid = pass_behind found parts.mid (λ _. quiet) not_known parts.before
+      mid : IsAfter (served_datagram half d).half parts.mid
+      mid = pass_after found parts.mid (λ _. quiet) not_known parts.before
 
       am : IsAmended (served_datagram half d).half later
       am = lives_keep calls (IsAmended (served_datagram half d).half) (IsOwnTo slave half)
-          (own_amended slave half (served_datagram half d).half same) own parts.mid later parts.behind mid.amended
+          (own_amended slave half (served_datagram half d).half same) own parts.mid later parts.afterwards mid.amended
 
-      with_rest : {how : Resting} → RestsBy slave write calls how → RestsAs how half rested → IsBehind (served_datagram rested d).half later
+      with_rest : {how : Resting} → RestsBy slave write calls how → RestsAs how half rested → IsAfter (served_datagram rested d).half later
       with_rest stays is =
-          subst (λ (h : SlaveHalf). IsBehind (served_datagram h d).half later) (sym is)
+          subst (λ (h : SlaveHalf). IsAfter (served_datagram h d).half later) (sym is)
           (record { amended = am; idle = λ none. absurd (let e : None ≡ Some write = sym none ∙ ap in_flight same ∙ flying in cc) })
       with_rest (read_back value tells) is =
-          let told = tells parts.mid later (lives_station (exchanged d (Some found) ∷ []) real parts.mid parts.before ∙ near) parts.behind in
-          read_back_behind half rested later d write value writing quiet (ends_with half rested write value writing is) am told.0 told.1
+          let reported = tells parts.mid later (lives_station (exchanged d (Some found) ∷ []) real parts.mid parts.before ∙ near) parts.afterwards in
+          read_back_after half rested later d write value writing quiet (ends_with half rested write value writing is) am reported.0 reported.1
 
-  pub carries_behind : (calls : List Exchanged) (how : Resting) → Carries slave half d calls how → RestsAs how half rested → Lives calls real later
-      → IsBehind (served_datagram rested d).half later
-  carries_behind calls how (waits busy writes_it) is lives =
-      subst (λ (h : SlaveHalf). IsBehind (served_datagram h d).half later) (sym is)
-      (subst (λ (h : SlaveHalf). IsBehind h later) (sym (takes_nothing half d busy writes_it)) (subst (IsBehind half) (sym (untouched real later lives)) behind))
-  carries_behind calls how (known is_known) is lives =
-      subst (IsBehind (served_datagram rested d).half) (sym (untouched real later lives)) (known_behind half rested real d is_known fits is behind)
-  carries_behind calls how (passes found may none news) is lives =
-      subst (λ (h : SlaveHalf). IsBehind (served_datagram h d).half later) (sym is) (pass_behind found later may news lives)
-  carries_behind calls how (follows_up found write own _ quiet flying all by) is lives = follow_behind found write own how quiet flying all by is lives
+  pub carries_after : (calls : List Exchanged) (how : Resting) → Carries slave half d calls how → RestsAs how half rested → Lives calls real later
+      → IsAfter (served_datagram rested d).half later
+  carries_after calls how (waits busy writes_it) is lives =
+      subst (λ (h : SlaveHalf). IsAfter (served_datagram h d).half later) (sym is)
+      (subst (λ (h : SlaveHalf). IsAfter h later) (sym (takes_nothing half d busy writes_it)) (subst (IsAfter half) (sym (untouched real later lives)) afterwards))
+  carries_after calls how (known is_known) is lives =
+      subst (IsAfter (served_datagram rested d).half) (sym (untouched real later lives)) (known_after half rested real d is_known fits is afterwards)
+  carries_after calls how (passes found may none news) is lives =
+      subst (λ (h : SlaveHalf). IsAfter (served_datagram h d).half later) (sym is) (pass_after found later may news lives)
+  carries_after calls how (follows_up found write own _ quiet flying all by) is lives = follow_after found write own how quiet flying all by is lives

@@ -42,23 +42,23 @@ module _ (base shadow : SlaveHalf) (d : Pdu) (sent : IsSent base d) (may : MaySe
       by (inl b) = inr (first_taking mid later lost b takes)
       by (inr b) = inr (next_taking mid later lost b takes)
 
-  -- any number of them behind one
+  -- any number of them after one
   pub more_takings : (real later : SlaveHalf) → MayBe (served_datagram shadow d).half real → Takings d real later → MayBe (served_datagram shadow d).half later
   more_takings real later be none = be
   more_takings real later be (more mid _ lost before takes) = next_taking mid later lost (more_takings real mid be before) takes
 
   -- as one of the answers was given
-  pub told_once : (real mid after : SlaveHalf) (found : Pdu) → MayBe shadow real → Takings d real mid → Takes d mid found after
+  pub reported_once : (real mid after : SlaveHalf) (found : Pdu) → MayBe shadow real → Takings d real mid → Takes d mid found after
       → MayBe (served_datagram shadow d).half after
-  told_once real mid after found be before told = by (takings real mid be before)
+  reported_once real mid after found be before reported = by (takings real mid be before)
     where
       by : MayBe shadow mid ⊎ MayBe (served_datagram shadow d).half mid → MayBe (served_datagram shadow d).half after
-      by (inl b) = first_taking mid after found b told
-      by (inr b) = next_taking mid after found b told
+      by (inl b) = first_taking mid after found b reported
+      by (inr b) = next_taking mid after found b reported
 
   pub answered : (real later : SlaveHalf) (found : Pdu) → MayBe shadow real → Answers d real found later → MayBe (served_datagram shadow d).half later
   answered real later found be answers =
-      more_takings answers.after later (told_once real answers.mid answers.after found be answers.before answers.told) answers.behind
+      more_takings answers.after later (reported_once real answers.mid answers.after found be answers.before answers.reported) answers.afterwards
 
 -- a datagram takes nothing from what a power cut may leave
 pub served_leaves : (half : SlaveHalf) (d : Pdu) (left : List ℕ) → MayLeave half left → MayLeave (served_datagram half d).half left

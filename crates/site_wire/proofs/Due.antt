@@ -37,7 +37,7 @@ clear_due half frame slave near is = record {
   quiet = λ busy write. clears (register_is slave 0x0502 near) refl;
 }
 
--- command 001, with words of data behind it
+-- command 001, with words of data after it
 pub words_due : (half : SlaveHalf) (frame : List Pdu) (slave word held : ℕ) → slave < 64 → word < 2 ^ 16 → word + 1 < length half.words
     → frame ≡ sent Fpwr 0 (address_of slave 0x0502) (to_le_bytes w16 0x0100 ++ to_le_bytes w32 word ++ to_le_bytes w16 held ++ to_le_bytes w16 held) ∷ []
     → IsDue half frame

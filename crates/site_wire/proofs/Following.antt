@@ -29,7 +29,7 @@ use Rattle.site_file.specs.declared.asking.Call.TheVariants.{Writes as writes, S
 use Rattle.site_file.specs.Asking.{HasLog}
 use Rattle.site_file.specs.Device.{CallsJournal, AsksLength, ReadsJournal}
 use Rattle.site_wire.specs.Journal.{JournalFollows}
-use Rattle.site_wire.specs.Following.{SendsNothing, CarriesFrame, IsBehind, SlavesFollow, SlavesFollowed, WireFollows, still_follows, stays_so}
+use Rattle.site_wire.specs.Following.{SendsNothing, CarriesFrame, IsAfter, SlavesFollow, SlavesFollowed, WireFollows, still_follows, stays_so}
 use Rattle.site_wire.proofs.Journal.{length_follows, length_sound, read_follows, read_sound, write_follows, call_sound, sync_follows, rest_follows}
 use Rattle.site_wire.proofs.Journal.{journal_begins}
 use Rattle.site_wire.specs.declared.device.WireDevice.{WireDevice}
@@ -37,7 +37,7 @@ use Rattle.site_wire.specs.declared.sending.Exchange.{Exchange}
 use Rattle.site_wire.specs.Sent.{Exchanged, HasSent, exchanges}
 use Rattle.site_wire.specs.RealSlaves.{Lives, ends}
 use Rattle.site_wire.proofs.Living.{Between, lives_parts, lives_station, lives_untouched}
-use Rattle.site_wire.proofs.Carrying.{carries_behind}
+use Rattle.site_wire.proofs.Carrying.{carries_after}
 use Rattle.site_shadow.specs.declared.lending.LinePart.{LinePart}
 use Rattle.site_wire.specs.Parts.{AreFor, IsForPart, SendsAsPart}
 use Rattle.site_wire.proofs.Sends.{nothing_sent}
@@ -122,10 +122,10 @@ module _ {L F C : Type 0} where
       → after.journal.asking.part ≡ before.journal.asking.part
       → CallsJournal (writes at bytes) before.journal result after.journal → SendsNothing before after → (after.is_over ≡ false → result ≡ Passes)
       → WriteKeeps WireFollows at bytes before result after
-  write_keeps at bytes before after result part calls nothing well old new given running inside wrote told follows = record {
+  write_keeps at bytes before after result part calls nothing well old new given running inside wrote reported follows = record {
     slaves = still_follows after old new (Extends-by old new wrote.middle given wrote.call) (λ going. same given wrote going)
         (same_slaves before after nothing old follows.slaves);
-    journal = write_follows at bytes before.journal after.journal result old new given calls running inside wrote told follows.journal;
+    journal = write_follows at bytes before.journal after.journal result old new given calls running inside wrote reported follows.journal;
     sound = λ going. call_sound (writes at bytes) before.journal after.journal result calls (well going);
     own = still_own before after part nothing follows.own;
   }
@@ -139,10 +139,10 @@ module _ {L F C : Type 0} where
   pub sync_keeps : (before after : WireDevice L F C) (result : Passing) → after.journal.asking.part ≡ before.journal.asking.part
       → CallsJournal syncs before.journal result after.journal
       → SendsNothing before after → (after.is_over ≡ false → result ≡ Passes) → SyncKeeps WireFollows before result after
-  sync_keeps before after result part calls nothing well old new given running syncs_it told follows = record {
+  sync_keeps before after result part calls nothing well old new given running syncs_it reported follows = record {
     slaves = still_follows after old new (Extends-by old new [] given syncs_it.call) (λ going. same given syncs_it going)
         (same_slaves before after nothing old follows.slaves);
-    journal = sync_follows before.journal after.journal result old new given calls running syncs_it told follows.journal;
+    journal = sync_follows before.journal after.journal result old new given calls running syncs_it reported follows.journal;
     sound = λ going. call_sound syncs before.journal after.journal result calls (well going);
     own = still_own before after part nothing follows.own;
   }
@@ -156,9 +156,9 @@ module _ {L F C : Type 0} where
 -- A REAL SLAVE FROM THE BEGINNING
 
 begins_to_follow : (state : State) → SlavesFollow [] state.halves state.halves
-begins_to_follow state slave first half real later at_first at_now station_is behind (ends _) =
+begins_to_follow state slave first half real later at_first at_now station_is afterwards (ends _) =
     let same : first ≡ half = (let e : Some first ≡ Some half = sym at_first ∙ at_now in cc) in
-    subst (λ (h : SlaveHalf). IsBehind h real) same behind
+    subst (λ (h : SlaveHalf). IsAfter h real) same afterwards
 
 slaves_begin : {L F C : Type 0} (device : WireDevice L F C) (seen : Seen) → (device.is_over ≡ false → device.sender.log.all ≡ []) → (device.is_over ≡ false → seen.past ≡ [])
     → SlavesFollowed device seen
@@ -176,9 +176,9 @@ slaves_begin device seen none new = record {
 pub begins : {L F C : Type 0} (device : WireDevice L F C) (was_over had_failed is_unsent is_new : Bool) (seen : Seen) → (is_unsent ≡ true → device.sender.log.all ≡ [])
     → HasLog device.journal.asking.calls [] → device.journal.has_failed ≡ (had_failed || not is_new)
     → device.is_over ≡ ((was_over || device.journal.has_failed) || not is_unsent) → (IsTrue is_new ↔ seen.past ≡ []) → WireFollows device seen
-begins device was_over had_failed is_unsent is_new seen none unasked failed over told = record {
-  slaves = slaves_begin device seen unsent (λ going. told.0 (is_first had_failed is_new (sym failed ∙ sound going)));
-  journal = journal_begins device.journal had_failed is_new seen unasked failed told;
+begins device was_over had_failed is_unsent is_new seen none unasked failed over reported = record {
+  slaves = slaves_begin device seen unsent (λ going. reported.0 (is_first had_failed is_new (sym failed ∙ sound going)));
+  journal = journal_begins device.journal had_failed is_new seen unasked failed reported;
   sound = sound;
   own = λ going.
       subst (λ (sent : List Exchange). AreFor device.journal.asking.part (exchanges sent)) (sym (unsent going))
@@ -210,7 +210,7 @@ begins device was_over had_failed is_unsent is_new seen none unasked failed over
 
 -- ONE DATAGRAM
 
--- a byte of the content, or 0 behind it
+-- a byte of the content, or 0 after it
 bytes_below : (content : List ℕ) → All (λ (byte : ℕ). byte < 256) content → (k : ℕ) → slice_index content k < 256
 bytes_below content all k = elim (leb_tells (length content) k) [
   | inl past ↦ subst (λ (n : ℕ). n < 256) (sym (get_or_past content k 0 past.1)) (omega arith)
@@ -219,11 +219,11 @@ bytes_below content all k = elim (leb_tells (length content) k) [
 
 -- the half of another slave
 get_other : (halves : List SlaveHalf) (slave other : ℕ) (half : SlaveHalf) → other ≢ slave → slice_get (slice_set halves slave half) other ≡ slice_get halves other
-get_other [] slave other half apart = refl
-get_other (h ∷ hs) zero zero half apart = absurd (apart refl)
-get_other (h ∷ hs) zero (suc other) half apart = refl
-get_other (h ∷ hs) (suc slave) zero half apart = refl
-get_other (h ∷ hs) (suc slave) (suc other) half apart = get_other hs slave other half (λ same. apart (ap suc same))
+get_other [] slave other half separate = refl
+get_other (h ∷ hs) zero zero half separate = absurd (separate refl)
+get_other (h ∷ hs) zero (suc other) half separate = refl
+get_other (h ∷ hs) (suc slave) zero half separate = refl
+get_other (h ∷ hs) (suc slave) (suc other) half separate = get_other hs slave other half (λ same. separate (ap suc same))
 
 -- the datagram of a frame of one
 only_datagram : (frame : List Pdu) (k : ℕ) (d e : Pdu) → frame ≡ e ∷ [] → slice_get frame k ≡ Some d → e ≡ d
@@ -253,40 +253,40 @@ module _ {L F C : Type 0} (slave : ℕ) (half : SlaveHalf) (frame : List Pdu) (k
       (so : RestsAs result half rested) (state : new.state ≡ with_half old.state slave (served_datagram rested d).half) (log : List Exchanged)
       (going : after.is_over ≡ false) where
     -- the slave to which it goes
-    this_slave : (later : SlaveHalf) (first real : SlaveHalf) (mid : SlaveHalf) → mid.station ≡ station slave → IsBehind half mid → Lives carried.calls mid later
-        → IsBehind (served_datagram rested d).half later
-    this_slave later first real mid near behind lives =
+    this_slave : (later : SlaveHalf) (first real : SlaveHalf) (mid : SlaveHalf) → mid.station ≡ station slave → IsAfter half mid → Lives carried.calls mid later
+        → IsAfter (served_datagram rested d).half later
+    this_slave later first real mid near afterwards lives =
         let due = carried.carries going in
         let same : due.0 ≡ d = only_datagram frame k d due.0 due.1.one at in
-        subst (λ (e : Pdu). IsBehind (served_datagram rested e).half later) same
-        (carries_behind slave half due.0 due.1.fits (bytes_below due.0.content due.1.bytes) due.1.to rested mid later near behind carried.calls after.resting due.2
+        subst (λ (e : Pdu). IsAfter (served_datagram rested e).half later) same
+        (carries_after slave half due.0 due.1.fits (bytes_below due.0.content due.1.bytes) due.1.to rested mid later near afterwards carried.calls after.resting due.2
         (subst (λ (how : Resting). RestsAs how half rested) (is going) so) lives)
 
     follow_on : (begun : List SlaveHalf) → SlavesFollow log begun old.state.halves → SlavesFollow (log ++ carried.calls) begun new.state.halves
-    follow_on begun followed other first now real later at_first at_now station_is behind lives = by (eqb_tells other slave)
+    follow_on begun followed other first now real later at_first at_now station_is afterwards lives = by (eqb_tells other slave)
       where
         parts : Between log carried.calls real later
         parts = lives_parts log carried.calls real later lives
 
         near : parts.mid.station ≡ station other
-        near = lives_station log real parts.mid parts.before ∙ behind.amended.station ∙ station_is
+        near = lives_station log real parts.mid parts.before ∙ afterwards.amended.station ∙ station_is
 
         now_is : slice_get (slice_set old.state.halves slave (served_datagram rested d).half) other ≡ Some now
         now_is = ap (λ (s : State). slice_get s.halves other) (sym state) ∙ at_now
 
-        by : ((eqb other slave ≡ true) × (other ≡ slave)) ⊎ ((eqb other slave ≡ false) × (other ≢ slave)) → IsBehind now later
+        by : ((eqb other slave ≡ true) × (other ≡ slave)) ⊎ ((eqb other slave ≡ false) × (other ≢ slave)) → IsAfter now later
         by (inl same) =
             let it : (served_datagram rested d).half ≡ now =
             (let e : Some (served_datagram rested d).half ≡ Some now =
             sym (get-set old.state.halves slave half (served_datagram rested d).half here) ∙ ap (slice_get (slice_set old.state.halves slave (served_datagram rested d).half)) (sym same.1) ∙ now_is in cc) in
-            subst (λ (h : SlaveHalf). IsBehind h later) it
+            subst (λ (h : SlaveHalf). IsAfter h later) it
             (this_slave later first real parts.mid (near ∙ ap station same.1)
-            (followed other first half real parts.mid at_first (ap (slice_get old.state.halves) same.1 ∙ here) station_is behind parts.before) parts.behind)
-        by (inr apart) =
+            (followed other first half real parts.mid at_first (ap (slice_get old.state.halves) same.1 ∙ here) station_is afterwards parts.before) parts.afterwards)
+        by (inr separate) =
             let untouched : later ≡ parts.mid =
-            lives_untouched carried.calls (station slave) parts.mid later carried.to (λ e. apart.1 (let f : station slave ≡ station other = e ∙ near in omega arith)) parts.behind in
-            subst (IsBehind now) (sym untouched)
-            (followed other first now real parts.mid at_first (sym (get_other old.state.halves slave other (served_datagram rested d).half apart.1) ∙ now_is) station_is behind parts.before)
+            lives_untouched carried.calls (station slave) parts.mid later carried.to (λ e. separate.1 (let f : station slave ≡ station other = e ∙ near in omega arith)) parts.afterwards in
+            subst (IsAfter now) (sym untouched)
+            (followed other first now real parts.mid at_first (sym (get_other old.state.halves slave other (served_datagram rested d).half separate.1) ∙ now_is) station_is afterwards parts.before)
 
   pub rest_keeps : RestKeeps WireFollows slave half frame k before result after
   rest_keeps old new rested d running here at so state extends follows = record {
@@ -322,6 +322,6 @@ module _ {L F C : Type 0} (slave : ℕ) (half : SlaveHalf) (frame : List Pdu) (k
   pub over_before : after.sender.log.all ≡ before.sender.log.all → RestKeeps WireFollows slave half frame k before result after
   over_before none = over_keeps (λ log has. (log, ap exchanges none ∙ has))
 
-  pub over_behind : CarriesFrame slave half frame before.sender.log.all after.sender.log.all after.is_over after.resting
+  pub over_after : CarriesFrame slave half frame before.sender.log.all after.sender.log.all after.is_over after.resting
       → RestKeeps WireFollows slave half frame k before result after
-  over_behind carried = over_keeps (λ log has. (log ++ carried.calls, carried.sends.goes_on ∙ ap (λ (l : List Exchanged). l ++ carried.calls) has))
+  over_after carried = over_keeps (λ log has. (log ++ carried.calls, carried.sends.goes_on ∙ ap (λ (l : List Exchanged). l ++ carried.calls) has))

@@ -30,7 +30,7 @@ use Rattle.site_wire.proofs.Sends.{sends_none, sends_then, both_own}
 pub tells_later : (slave word value : ℕ) (first second : List Exchanged) → TellsWord slave word value second → TellsWord slave word value (first ++ second)
 tells_later slave word value first second tells real later near lives =
     let parts = lives_parts first second real later lives in
-    tells parts.mid later (lives_station first real parts.mid parts.before ∙ near) parts.behind
+    tells parts.mid later (lives_station first real parts.mid parts.before ∙ near) parts.afterwards
 
 module _ (slave : ℕ) (half : SlaveHalf) (write : WordWrite) where
   -- the word stays in flight
@@ -64,7 +64,7 @@ module _ (slave : ℕ) (half : SlaveHalf) (write : WordWrite) where
         | inr other ↦ absurd (other.1 refl)
       ]
 
-  -- the one behind the other
+  -- the one after the other
   pub up_then : (old mid new : List Exchange) (result : Option ℕ) (how : Resting) → ReadsBack slave half write.word old mid result → FollowsUp slave half write mid new how
       → FollowsUp slave half write old new how
   up_then old mid new result how back up = record {
@@ -103,7 +103,7 @@ module _ (slave : ℕ) (half : SlaveHalf) (d : Pdu) where
   came (Some answer) some = (found_of answer, refl)
   came None none = absurd cc
 
-  -- the datagram, and nothing behind it
+  -- the datagram, and nothing after it
   pub for_once : (old new : List Exchange) (answer : Option Answer) (is_over : Bool) (how : Resting) → how ≡ resting.Stays → station_of d.address ≡ station slave
       → Sends old new (exchanged d (option_map found_of answer) ∷ []) → (is_over ≡ false → IsSome answer)
       → (IsTrue (is_busy half.activity) → ¬ WritesControl d) → ¬ IsKnown half d → (is_over ≡ false → in_flight half.activity ≡ None)

@@ -8,7 +8,7 @@ use Rattle.site_core.specs.Calls.{WritesDisk, SyncsDisk}
 use Rattle.site_shadow.specs.declared.device.Passing.{Passing}
 use Rattle.site_shadow.specs.declared.device.Passing.TheVariants.{Passes}
 use Rattle.site_shadow.specs.Following as shadow
-use Rattle.site_shadow.specs.Following.{Extends, GoesOn, IsTold}
+use Rattle.site_shadow.specs.Following.{Extends, GoesOn, IsReported}
 use Rattle.site_file.specs.declared.files.FileDevice.{FileDevice}
 use Rattle.site_file.specs.declared.asking.Call.{Call}
 use Rattle.site_file.specs.declared.asking.Call.TheVariants.{TellsLength as tells_length, Writes as writes, Syncs as syncs}
@@ -28,10 +28,10 @@ GoesOn-same seen = record {
 }
 
 -- the journal and its answer, as a device hands them on
-pub handed_on : {F : Type 0} (Asks : Passing → FileDevice F → Type 0) (told result : Passing) (mid after : FileDevice F) → result ≡ told → after ≡ mid
-    → Asks told mid → Asks result after
-handed_on Asks told result mid after same_result same_journal asks =
-    subst (λ (p : Passing). Asks p after) (sym same_result) (subst (Asks told) (sym same_journal) asks)
+pub handed_on : {F : Type 0} (Asks : Passing → FileDevice F → Type 0) (reported result : Passing) (mid after : FileDevice F) → result ≡ reported → after ≡ mid
+    → Asks reported mid → Asks result after
+handed_on Asks reported result mid after same_result same_journal asks =
+    subst (λ (p : Passing). Asks p after) (sym same_result) (subst (Asks reported) (sym same_journal) asks)
 
 module _ {F : Type 0} where
   -- A journal that has failed is left as it is by each call.
@@ -74,10 +74,10 @@ module _ {F : Type 0} where
 
   pub journal_begins : (j : FileDevice F) (had_failed is_new : Bool) (seen : Seen) → HasLog j.asking.calls [] → j.has_failed ≡ (had_failed || not is_new)
       → (IsTrue is_new ↔ seen.past ≡ []) → JournalFollows j seen
-  journal_begins j had_failed true seen none failed told =
-      journal.has_followed (record { first = seen; new = told.0 refl; began = j; log = none; run = journal.none })
-  journal_begins j true false seen none failed told = journal.refuses none failed
-  journal_begins j false false seen none failed told = journal.refuses none failed
+  journal_begins j had_failed true seen none failed reported =
+      journal.has_followed (record { first = seen; new = reported.0 refl; began = j; log = none; run = journal.none })
+  journal_begins j true false seen none failed reported = journal.refuses none failed
+  journal_begins j false false seen none failed reported = journal.refuses none failed
 
   quiet_follows : (before after : FileDevice F) (seen : Seen) → ChangesNoFile before after → (IsTrue before.has_failed → after ≡ before)
       → JournalFollows before seen → JournalFollows after seen
@@ -95,16 +95,16 @@ module _ {F : Type 0} where
 
   pub write_follows : (at : ℕ) (bytes : List ℕ) (before after : FileDevice F) (result : Passing) (old new : Seen) (given : Result (Unit {0}) DeviceFault)
       → CallsJournal (writes at bytes) before result after → old.is_stopped ≡ false → at ≤ length old.state.disk.bytes → WritesDisk old at bytes given new
-      → IsTold old.faults result given → JournalFollows before old → JournalFollows after new
-  write_follows at bytes before after result old new given calls running inside wrote told follows =
-      one_more old new before after (journal.write at bytes result given running inside wrote told calls)
+      → IsReported old.faults result given → JournalFollows before old → JournalFollows after new
+  write_follows at bytes before after result old new given calls running inside wrote reported follows =
+      one_more old new before after (journal.write at bytes result given running inside wrote reported calls)
       (λ failed. same_call (writes at bytes) before after result failed calls) follows
 
   pub sync_follows : (before after : FileDevice F) (result : Passing) (old new : Seen) (given : Result (Unit {0}) DeviceFault)
-      → CallsJournal syncs before result after → old.is_stopped ≡ false → SyncsDisk old given new → IsTold old.faults result given → JournalFollows before old
+      → CallsJournal syncs before result after → old.is_stopped ≡ false → SyncsDisk old given new → IsReported old.faults result given → JournalFollows before old
       → JournalFollows after new
-  sync_follows before after result old new given calls running synced told follows =
-      one_more old new before after (journal.sync result given running synced told calls)
+  sync_follows before after result old new given calls running synced reported follows =
+      one_more old new before after (journal.sync result given running synced reported calls)
       (λ failed. same_call syncs before after result failed calls) follows
 
   pub rest_follows : (slave : ℕ) (later : SlaveHalf) (before after : FileDevice F) (old new : Seen) → after ≡ before → old.is_stopped ≡ false

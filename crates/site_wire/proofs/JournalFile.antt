@@ -53,10 +53,10 @@ module _ {F : Type 0} (since : ℕ) (begun : LineFile → File) where
   step : (old new : Seen) (d after : FileDevice F) → JournalStep old d new after → FilesFollow since (is_same Journal) begun d old
       → FilesFollow since (is_same Journal) begun after new
   step old new d after (journal.goes_on goes quiet) follows = one_of_files old new d after (files.goes_on goes quiet) follows
-  step old new d after (journal.write at bytes passing given running inside wrote told calls) follows =
-      one_of_files old new d after (files.write at bytes passing given running inside wrote told calls) follows
-  step old new d after (journal.sync passing given running synced told calls) follows =
-      one_of_files old new d after (files.sync passing given running synced told calls) follows
+  step old new d after (journal.write at bytes passing given running inside wrote reported calls) follows =
+      one_of_files old new d after (files.write at bytes passing given running inside wrote reported calls) follows
+  step old new d after (journal.sync passing given running synced reported calls) follows =
+      one_of_files old new d after (files.sync passing given running synced reported calls) follows
   step old new d after (journal.rest slave later running is extends same) follows =
       subst (λ (x : FileDevice F). FilesFollow since (is_same Journal) begun x new) (sym same)
       (rests old new d extends (ap (λ (s : State). s.disk) is) running follows)
@@ -69,9 +69,9 @@ module _ {F : Type 0} (since : ℕ) (begun : LineFile → File) where
 
 step_first : {F : Type 0} (old new : Seen) (d after : FileDevice F) → JournalStep old d new after → first_of new ≡ first_of old
 step_first old new d after (journal.goes_on goes quiet) = Extends-first old new goes.extends
-step_first old new d after (journal.write at bytes passing given running inside wrote told calls) =
+step_first old new d after (journal.write at bytes passing given running inside wrote reported calls) =
     Extends-first old new (Extends-by old new wrote.middle given wrote.call)
-step_first old new d after (journal.sync passing given running synced told calls) = Extends-first old new (Extends-by old new [] given synced.call)
+step_first old new d after (journal.sync passing given running synced reported calls) = Extends-first old new (Extends-by old new [] given synced.call)
 step_first old new d after (journal.rest slave later running is extends same) = Extends-first old new extends
 
 run_first : {F : Type 0} (old : Seen) (d : FileDevice F) (new : Seen) (after : FileDevice F) → JournalRun old d new after → first_of new ≡ first_of old

@@ -1,7 +1,7 @@
 mod Liking
 mod Storing
 mod Stored
-mod Judged
+mod Validated
 mod Taking
 mod Again
 mod Chain
@@ -16,7 +16,7 @@ mod ForEeprom
 pub mod Living
 mod Sends
 mod ReadingBack
-mod Behind
+mod After
 mod Carrying
 mod FollowingUp
 mod Journal

@@ -1,4 +1,4 @@
--- What real slaves are behind what was sent to them.
+-- What real slaves are after what was sent to them.
 use Rattle.std.proofs.Common.{inl, ◌≡◌, ◌≢◌, ℕ, List, [], ◌∷◌, ◌++◌, Some, None, refl, sym, subst, ◌∙◌}
 use Rattle.std.specs.List.{All}
 use Rattle.std.proofs.lemmas.List.Elements.{All-head, All-tail}
@@ -40,8 +40,8 @@ servings_keep d P keeps real later (more mid _ lost before serves) holds =
 pub answered_keeps : (d : Pdu) (P : SlaveHalf → Type 0) → ((mid later : SlaveHalf) (found : Pdu) → Serves d mid found later → P mid → P later)
     → (real later : SlaveHalf) (found : Pdu) → Answered d real found later → P real → P later
 answered_keeps d P keeps real later found answered holds =
-    servings_keep d P keeps answered.after later answered.behind
-    (keeps answered.mid answered.after found answered.told (servings_keep d P keeps real answered.mid answered.before holds))
+    servings_keep d P keeps answered.after later answered.afterwards
+    (keeps answered.mid answered.after found answered.reported (servings_keep d P keeps real answered.mid answered.before holds))
 
 -- The station address stays.
 serves_station : (d : Pdu) (mid later : SlaveHalf) (found : Pdu) → Serves d mid found later → later.station ≡ mid.station
@@ -59,11 +59,11 @@ answered_station d real later found answered =
 
 pub lives_station : (log : List Exchanged) (real later : SlaveHalf) → Lives log real later → later.station ≡ real.station
 lives_station [] real later (ends _) = refl
-lives_station (call ∷ log) real later (answers _ _ found _ mid _ here is answered behind) =
-    lives_station log mid later behind ∙ answered_station call.sent real mid found answered
-lives_station (call ∷ log) real later (is_silent _ _ _ mid _ here is serves behind) =
-    lives_station log mid later behind ∙ servings_station call.sent real mid serves
-lives_station (call ∷ log) real later (of_another _ _ _ _ other behind) = lives_station log real later behind
+lives_station (call ∷ log) real later (answers _ _ found _ mid _ here is answered afterwards) =
+    lives_station log mid later afterwards ∙ answered_station call.sent real mid found answered
+lives_station (call ∷ log) real later (is_silent _ _ _ mid _ here is serves afterwards) =
+    lives_station log mid later afterwards ∙ servings_station call.sent real mid serves
+lives_station (call ∷ log) real later (of_another _ _ _ _ other afterwards) = lives_station log real later afterwards
 
 -- WHAT IS SENT KEEPS
 
@@ -72,25 +72,25 @@ pub lives_keep : (log : List Exchanged) (P : SlaveHalf → Type 0) (Q : Exchange
     → ((call : Exchanged) (mid later : SlaveHalf) (found : Pdu) → Q call → Serves call.sent mid found later → P mid → P later) → All Q log
     → (real later : SlaveHalf) → Lives log real later → P real → P later
 lives_keep [] P Q keeps all real later (ends _) holds = holds
-lives_keep (call ∷ log) P Q keeps all real later (answers _ _ found _ mid _ here is answered behind) holds =
-    lives_keep log P Q keeps (All-tail Q call log all) mid later behind
+lives_keep (call ∷ log) P Q keeps all real later (answers _ _ found _ mid _ here is answered afterwards) holds =
+    lives_keep log P Q keeps (All-tail Q call log all) mid later afterwards
     (answered_keeps call.sent P (λ a b lost. keeps call a b lost (All-head Q call log all)) real mid found answered holds)
-lives_keep (call ∷ log) P Q keeps all real later (is_silent _ _ _ mid _ here is serves behind) holds =
-    lives_keep log P Q keeps (All-tail Q call log all) mid later behind
+lives_keep (call ∷ log) P Q keeps all real later (is_silent _ _ _ mid _ here is serves afterwards) holds =
+    lives_keep log P Q keeps (All-tail Q call log all) mid later afterwards
     (servings_keep call.sent P (λ a b lost. keeps call a b lost (All-head Q call log all)) real mid serves holds)
-lives_keep (call ∷ log) P Q keeps all real later (of_another _ _ _ _ other behind) holds =
-    lives_keep log P Q keeps (All-tail Q call log all) real later behind holds
+lives_keep (call ∷ log) P Q keeps all real later (of_another _ _ _ _ other afterwards) holds =
+    lives_keep log P Q keeps (All-tail Q call log all) real later afterwards holds
 
 -- What goes to another station leaves a slave as it is.
 pub lives_untouched : (log : List Exchanged) (station : ℕ) (real later : SlaveHalf) → All (λ call. station_of call.sent.address ≡ station) log
     → station ≢ real.station → Lives log real later → later ≡ real
 lives_untouched [] station real later all other (ends _) = refl
-lives_untouched (call ∷ log) station real later all other (answers _ _ found _ mid _ here is answered behind) =
+lives_untouched (call ∷ log) station real later all other (answers _ _ found _ mid _ here is answered afterwards) =
     absurd (other (sym (All-head (λ (c : Exchanged). station_of c.sent.address ≡ station) call log all) ∙ here))
-lives_untouched (call ∷ log) station real later all other (is_silent _ _ _ mid _ here is serves behind) =
+lives_untouched (call ∷ log) station real later all other (is_silent _ _ _ mid _ here is serves afterwards) =
     absurd (other (sym (All-head (λ (c : Exchanged). station_of c.sent.address ≡ station) call log all) ∙ here))
-lives_untouched (call ∷ log) station real later all other (of_another _ _ _ _ not behind) =
-    lives_untouched log station real later (All-tail (λ (c : Exchanged). station_of c.sent.address ≡ station) call log all) other behind
+lives_untouched (call ∷ log) station real later all other (of_another _ _ _ _ not afterwards) =
+    lives_untouched log station real later (All-tail (λ (c : Exchanged). station_of c.sent.address ≡ station) call log all) other afterwards
 
 -- PARTS
 
@@ -98,24 +98,24 @@ lives_untouched (call ∷ log) station real later all other (of_another _ _ _ _ 
 pub record Between (first second : List Exchanged) (real later : SlaveHalf) : Type 0 where
   pub mid : SlaveHalf
   pub before : Lives first real mid
-  pub behind : Lives second mid later
+  pub afterwards : Lives second mid later
 
 pub lives_parts : (first second : List Exchanged) (real later : SlaveHalf) → Lives (first ++ second) real later → Between first second real later
-lives_parts [] second real later lives = record { mid = real; before = ends real; behind = lives }
-lives_parts (call ∷ first) second real later (answers _ _ found _ mid _ here is answered behind) =
-    let rest = lives_parts first second mid later behind in
-    record { mid = rest.mid; before = answers call first found real mid rest.mid here is answered rest.before; behind = rest.behind }
-lives_parts (call ∷ first) second real later (is_silent _ _ _ mid _ here is serves behind) =
-    let rest = lives_parts first second mid later behind in
-    record { mid = rest.mid; before = is_silent call first real mid rest.mid here is serves rest.before; behind = rest.behind }
-lives_parts (call ∷ first) second real later (of_another _ _ _ _ other behind) =
-    let rest = lives_parts first second real later behind in
-    record { mid = rest.mid; before = of_another call first real rest.mid other rest.before; behind = rest.behind }
+lives_parts [] second real later lives = record { mid = real; before = ends real; afterwards = lives }
+lives_parts (call ∷ first) second real later (answers _ _ found _ mid _ here is answered afterwards) =
+    let rest = lives_parts first second mid later afterwards in
+    record { mid = rest.mid; before = answers call first found real mid rest.mid here is answered rest.before; afterwards = rest.afterwards }
+lives_parts (call ∷ first) second real later (is_silent _ _ _ mid _ here is serves afterwards) =
+    let rest = lives_parts first second mid later afterwards in
+    record { mid = rest.mid; before = is_silent call first real mid rest.mid here is serves rest.before; afterwards = rest.afterwards }
+lives_parts (call ∷ first) second real later (of_another _ _ _ _ other afterwards) =
+    let rest = lives_parts first second real later afterwards in
+    record { mid = rest.mid; before = of_another call first real rest.mid other rest.before; afterwards = rest.afterwards }
 
 -- One datagram to this station came back.
 pub lives_once : (call : Exchanged) (found : Pdu) (real later : SlaveHalf) → station_of call.sent.address ≡ real.station → call.answer ≡ Some found
     → Lives (call ∷ []) real later → Answered call.sent real found later
 lives_once call found real later here is (answers _ _ other _ mid _ to came answered (ends _)) =
     subst (λ (f : Pdu). Answered call.sent real f mid) (let same : Some other ≡ Some found = sym came ∙ is in cc) answered
-lives_once call found real later here is (is_silent _ _ _ mid _ to none_came serves behind) = absurd (let same : None ≡ Some found = sym none_came ∙ is in cc)
-lives_once call found real later here is (of_another _ _ _ _ other behind) = absurd (other here)
+lives_once call found real later here is (is_silent _ _ _ mid _ to none_came serves afterwards) = absurd (let same : None ≡ Some found = sym none_came ∙ is in cc)
+lives_once call found real later here is (of_another _ _ _ _ other afterwards) = absurd (other here)

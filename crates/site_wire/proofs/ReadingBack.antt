@@ -20,8 +20,8 @@ use Rattle.esc_model.proofs.Writing.{elsewhere, busy, done, Writes, control_writ
 use Rattle.esc_model.proofs.WordTaking.{number_back, or_first}
 use Rattle.site_wire.specs.Answers.{has_status, shown_status}
 use Rattle.site_wire.specs.Answering.{ShowsPair, shown_by}
-use Rattle.site_wire.specs.declared.answers.Shown.{Shown}
-use Rattle.site_wire.specs.declared.answers.Shown.TheVariants as shown
+use Rattle.site_wire.specs.declared.answers.AccessState.{AccessState}
+use Rattle.site_wire.specs.declared.answers.AccessState.TheVariants as shown
 use Rattle.site_wire.specs.declared.amending.Tried.{Tried}
 use Rattle.site_wire.specs.declared.amending.Tried.TheVariants as tried
 use Rattle.site_wire.specs.Following.{IsOwnTo, SendsOwn, EndsWell, Polls, TellsWord, TellsPair, TriesPair, ReadsBack}
@@ -150,8 +150,8 @@ module _ (slave word held : ℕ) (near : slave < 64) (small : word < 2 ^ 16) whe
   asked_once : (real later : SlaveHalf) (found : Pdu) → found.counter ≡ 1 → Answered (words_order slave word held) real found later
       → HasLoaded word later
   asked_once real later found counted answered =
-      servings_keep (words_order slave word held) (HasLoaded word) asks_again answered.after later answered.behind
-      (asks answered.mid answered.after found counted answered.told)
+      servings_keep (words_order slave word held) (HasLoaded word) asks_again answered.after later answered.afterwards
+      (asks answered.mid answered.after found counted answered.reported)
 
 -- READS
 
@@ -260,10 +260,10 @@ poll_holds word d reads fresh mid later found well serves has =
       second = loaded.1;
     }
 
-all_front : (P : Exchanged → Type 0) (front behind : List Exchanged) → All P (front ++ behind) → All P front
-all_front P [] behind all = All-nil P
-all_front P (call ∷ front) behind all =
-    All-cons P call front (All-head P call (front ++ behind) all) (all_front P front behind (All-tail P call (front ++ behind) all))
+all_front : (P : Exchanged → Type 0) (front afterwards : List Exchanged) → All P (front ++ afterwards) → All P front
+all_front P [] afterwards all = All-nil P
+all_front P (call ∷ front) afterwards all =
+    All-cons P call front (All-head P call (front ++ afterwards) all) (all_front P front afterwards (All-tail P call (front ++ afterwards) all))
 
 all_last : (P : Exchanged → Type 0) (front : List Exchanged) (last : Exchanged) → All P (front ++ last ∷ []) → P last
 all_last P [] last all = All-head P last [] all
@@ -279,13 +279,13 @@ polls_hold slave word near polls all ends real later at has lives =
     let reads : ends.poll.command ≡ 4 = ap (λ (d : Pdu). d.command) is in
     let here : station_of ends.poll.address ≡ parts.mid.station =
     ap (λ (d : Pdu). station_of d.address) is ∙ station_is slave 0x0502 near ∙ sym (lives_station ends.front real parts.mid parts.before ∙ at) in
-    let answered : Answered ends.poll parts.mid ends.found later = lives_once last ends.found parts.mid later here refl parts.behind in
+    let answered : Answered ends.poll parts.mid ends.found later = lives_once last ends.found parts.mid later here refl parts.afterwards in
     let front_has = lives_keep ends.front (HasLoaded word) (IsPoll slave)
     (λ call a b lost poll. reads_loaded word call.sent (ap (λ (d : Pdu). d.command) poll) a b lost)
     (all_front (IsPoll slave) ends.front (last ∷ []) each) real parts.mid parts.before has in
     let before = servings_keep ends.poll (HasLoaded word) (reads_loaded word ends.poll reads) parts.mid answered.mid answered.before front_has in
-    servings_keep ends.poll (Holds word) (holds_on word ends.poll reads) answered.after later answered.behind
-    (poll_holds word ends.poll reads (ap (λ (d : Pdu). d.counter) is) answered.mid answered.after ends.found ends.well answered.told before)
+    servings_keep ends.poll (Holds word) (holds_on word ends.poll reads) answered.after later answered.afterwards
+    (poll_holds word ends.poll reads (ap (λ (d : Pdu). d.counter) is) answered.mid answered.after ends.found ends.well answered.reported before)
 
 -- THE TWO WORDS
 
@@ -323,15 +323,15 @@ tells_pair slave word held near small taken counted polls all ends fetched pair 
     let loaded = asked_once slave word held near small real begins.mid taken counted
     (lives_once call taken real begins.mid (station_is slave 0x0502 near ∙ sym at) refl begins.before) in
     let at_mid = lives_station (call ∷ []) real begins.mid begins.before ∙ at in
-    let rest = lives_parts polls (fetch ∷ []) begins.mid later begins.behind in
+    let rest = lives_parts polls (fetch ∷ []) begins.mid later begins.afterwards in
     let holds = polls_hold slave word near polls all ends begins.mid rest.mid at_mid loaded rest.before in
     let at_end = lives_station polls begins.mid rest.mid rest.before ∙ at_mid in
-    let told = lives_once fetch fetched rest.mid later (station_is slave 0x0508 near ∙ sym at_end) refl rest.behind in
+    let reported = lives_once fetch fetched rest.mid later (station_is slave 0x0508 near ∙ sym at_end) refl rest.afterwards in
     servings_keep (fetch_order slave) (Has word (word_at pair 0) (word_at pair 2))
     (has_on word (word_at pair 0) (word_at pair 2) (fetch_order slave) refl)
-    told.after later told.behind
-    (fetch_tells slave word near told.mid told.after fetched pair shows told.told
-    (servings_keep (fetch_order slave) (Holds word) (holds_on word (fetch_order slave) refl) rest.mid told.mid told.before holds))
+    reported.after later reported.afterwards
+    (fetch_tells slave word near reported.mid reported.after fetched pair shows reported.reported
+    (servings_keep (fetch_order slave) (Holds word) (holds_on word (fetch_order slave) refl) rest.mid reported.mid reported.before holds))
 
 -- ONE TRY
 
@@ -346,7 +346,7 @@ module _ (slave word held : ℕ) (half : SlaveHalf) (near : slave < 64) (old mid
     tells = λ pair is. absurd (never pair is);
   }
 
-  module _ (polled : List Exchange) (shown_is : Option Shown) (polls : Polls slave mid polled shown_is) where
+  module _ (polled : List Exchange) (shown_is : Option AccessState) (polls : Polls slave mid polled shown_is) where
     -- the calls up to the last poll
     abbrev calls_polled : List Exchanged
     calls_polled = exchanged (words_order slave word held) taken ∷ polls.calls
@@ -414,8 +414,8 @@ tells_word : (slave word value : ℕ) (pair : List ℕ) → (word % 2 ≡ 0 → 
     → (before calls : List Exchanged) → TellsPair slave (word - word % 2) pair calls → TellsWord slave word value (before ++ calls)
 tells_word slave word value pair even odd before calls tells real later at lives =
     let parts = lives_parts before calls real later lives in
-    let told = tells parts.mid later (lives_station before real parts.mid parts.before ∙ at) parts.behind in
-    (told.0, word_of later.words pair word value even odd told.1 told.2)
+    let reported = tells parts.mid later (lives_station before real parts.mid parts.before ∙ at) parts.afterwards in
+    (reported.0, word_of later.words pair word value even odd reported.1 reported.2)
 
 module _ (slave : ℕ) (half : SlaveHalf) (word : ℕ) (old mid new : List Exchange) where
   -- a try sends what is a device's own

@@ -19,8 +19,8 @@ use Rattle.site_wire.specs.Answering.{found_of}
 use Rattle.site_wire.specs.Sent.{Exchanged, exchanged, each_exchanged, exchanges, Notes, Sends}
 use Rattle.site_wire.specs.Answers.{shown_status}
 use Rattle.site_wire.specs.Answering.{shown_by}
-use Rattle.site_wire.specs.declared.answers.Shown.{Shown}
-use Rattle.site_wire.specs.declared.answers.Shown.TheVariants as shown
+use Rattle.site_wire.specs.declared.answers.AccessState.{AccessState}
+use Rattle.site_wire.specs.declared.answers.AccessState.TheVariants as shown
 use Rattle.site_wire.proofs.Due.{writing_by}
 use Rattle.site_wire.specs.Following.{IsOwnTo, SendsOwn, Polls}
 
@@ -52,10 +52,10 @@ nothing_sent = refl
 pub sends_none : (sent : List Exchange) → Sends sent sent []
 sends_none sent = record { goes_on = sym (append-nil (exchanges sent)) }
 
--- the one behind the other
+-- the one after the other
 pub sends_then : (old mid new : List Exchange) (first second : List Exchanged) → Sends old mid first → Sends mid new second → Sends old new (first ++ second)
-sends_then old mid new first second before behind = record {
-  goes_on = behind.goes_on ∙ ap (λ (log : List Exchanged). log ++ second) before.goes_on ∙ append_assoc (exchanges old) first second;
+sends_then old mid new first second before afterwards = record {
+  goes_on = afterwards.goes_on ∙ ap (λ (log : List Exchanged). log ++ second) before.goes_on ∙ append_assoc (exchanges old) first second;
 }
 
 -- OF ITS OWN
@@ -80,7 +80,7 @@ clear_own slave half answer near = record {
 abbrev pub words_content : (word held : ℕ) → List ℕ
 words_content word held = to_le_bytes w16 0x0100 ++ to_le_bytes w32 word ++ to_le_bytes w16 held ++ to_le_bytes w16 held
 
--- command 001, with words of data behind it
+-- command 001, with words of data after it
 abbrev pub words_order : (slave word held : ℕ) → Pdu
 words_order slave word held = sent Fpwr 0 (address_of slave 0x0502) (words_content word held)
 
@@ -106,7 +106,7 @@ module _ (slave : ℕ) (half : SlaveHalf) where
 
   pub both_own : (first second : List Exchanged) → All (IsOwnTo slave half) first → All (IsOwnTo slave half) second
       → All (IsOwnTo slave half) (first ++ second)
-  both_own first second before behind = All-append (IsOwnTo slave half) first second before behind
+  both_own first second before afterwards = All-append (IsOwnTo slave half) first second before afterwards
 
   -- nothing is sent
   pub own_none : (sent : List Exchange) → SendsOwn slave half sent sent
@@ -115,7 +115,7 @@ module _ (slave : ℕ) (half : SlaveHalf) where
   pub own_once : (old new : List Exchange) (call : Exchanged) → Sends old new (call ∷ []) → IsOwnTo slave half call → SendsOwn slave half old new
   own_once old new call sends own = record { calls = call ∷ []; sends = sends; own = one_own call own }
 
-  -- the one behind the other
+  -- the one after the other
   pub own_then : (old mid new : List Exchange) → SendsOwn slave half old mid → SendsOwn slave half mid new → SendsOwn slave half old new
   own_then old mid new first second = record {
     calls = first.calls ++ second.calls;
@@ -144,7 +144,7 @@ pub record WellBy (answer : Option Pdu) : Type 0 where
   pub well : shown_by (shown_status found) ≡ shown.Well
 
 -- one more poll
-pub polls_more : (slave : ℕ) (old mid new : List Exchange) (before after : Option Shown) (answer : Option Pdu) → Polls slave old mid before
+pub polls_more : (slave : ℕ) (old mid new : List Exchange) (before after : Option AccessState) (answer : Option Pdu) → Polls slave old mid before
     → Sends mid new (exchanged (poll_order slave) answer ∷ []) → (after ≡ Some shown.Well → WellBy answer) → Polls slave old new after
 polls_more slave old mid new before after answer polls sends well = record {
   calls = polls.calls ++ exchanged (poll_order slave) answer ∷ [];

@@ -7,7 +7,7 @@ use Rattle.esc_model.specs.Bytes.{overlaid}
 use Rattle.esc_model.specs.Registers.{Registers, access_byte, status_byte}
 use Rattle.esc_model.specs.SlaveHalf.{SlaveHalf, is_busy, shown_bytes, with_stored}
 use Rattle.site_wire.specs.Likeness.{SameRegisters}
-use Rattle.site_wire.proofs.Storing.{byte_after, Lies, before, within, behind, lies, after_before, after_behind, overlaid_at, after_within}
+use Rattle.site_wire.proofs.Storing.{byte_after, Lies, before, within, afterwards, lies, after_before, after_after, overlaid_at, after_within}
 use Rattle.site_wire.proofs.Storing.{after_covered}
 use Rattle.esc_model.proofs.WordTaking.{offered_again as offered_bit}
 
@@ -149,7 +149,7 @@ module _ (old at : ℕ) (over : List ℕ) where
       by : Lies at 0 over → byte_after (byte_after old at over 0 % 4) at over 0 % 4 ≡ byte_after old at over 0 % 4
       by (before h) = ap (λ (n : ℕ). n % 4) (after_before (byte_after old at over 0 % 4) at 0 over h) ∙ mod_twice (byte_after old at over 0)
       by (within from h) = ap (λ (n : ℕ). n % 4) (after_covered (byte_after old at over 0 % 4) old at 0 over from h)
-      by (behind from past) = ap (λ (n : ℕ). n % 4) (after_behind (byte_after old at over 0 % 4) at 0 over from past) ∙ mod_twice (byte_after old at over 0)
+      by (afterwards from past) = ap (λ (n : ℕ). n % 4) (after_after (byte_after old at over 0 % 4) at 0 over from past) ∙ mod_twice (byte_after old at over 0)
 
 low_by : (n m : ℕ) → n % 4 ≡ m % 4 → (n % 2 == 1) ≡ (m % 2 == 1)
 low_by n m e = let same : n % 2 ≡ m % 2 = omega arith in ap (λ (k : ℕ). k == 1) same

@@ -11,16 +11,16 @@ use Rattle.esc_model.specs.Bytes.{overlaid}
 pub byte_after : (old at : ℕ) → List ℕ → ℕ → ℕ
 byte_after old at over i = if nat_lt i at then old else if nat_lt i (at + length over) then slice_index over (i - at) else old
 
--- where a place lies: before the content, within it, or behind it
+-- where a place lies: before the content, within it, or after it
 pub data Lies (at i : ℕ) (over : List ℕ) : Type 0 where
   before : i < at → Lies at i over
   within : at ≤ i → i < at + length over → Lies at i over
-  behind : at ≤ i → at + length over ≤ i → Lies at i over
+  afterwards : at ≤ i → at + length over ≤ i → Lies at i over
 
 pub lies : (at i : ℕ) (over : List ℕ) → Lies at i over
 lies at i over = elim (leb_tells at i) [
   | inr b ↦ before b.1
-  | inl not ↦ elim (leb_tells (at + length over) i) [ inl past ↦ behind not.1 past.1 | inr in_it ↦ within not.1 in_it.1 ]
+  | inl not ↦ elim (leb_tells (at + length over) i) [ inl past ↦ afterwards not.1 past.1 | inr in_it ↦ within not.1 in_it.1 ]
 ]
 
 module _ (old at i : ℕ) (over : List ℕ) where
@@ -32,9 +32,9 @@ module _ (old at i : ℕ) (over : List ℕ) where
   unfolding byte_after
   after_within from h = grind (arith, nat_tests)
 
-  pub after_behind : at ≤ i → at + length over ≤ i → byte_after old at over i ≡ old
+  pub after_after : at ≤ i → at + length over ≤ i → byte_after old at over i ≡ old
   unfolding byte_after
-  after_behind from past = grind (arith, nat_tests)
+  after_after from past = grind (arith, nat_tests)
 
 -- bytes that are overwritten
 module _ (bytes over : List ℕ) (at i : ℕ) (inside : i < length bytes) where
@@ -53,8 +53,8 @@ module _ (bytes over : List ℕ) (at i : ℕ) (inside : i < length bytes) where
   over_within : at ≤ i → i < at + length over → slice_index (overlaid bytes at over) i ≡ slice_index over (i - at)
   over_within from h = over_rest from ∙ get_or_append_left over (drop (at + length over) bytes) 0 (i - at) (omega arith)
 
-  over_behind : at ≤ i → at + length over ≤ i → slice_index (overlaid bytes at over) i ≡ slice_index bytes i
-  over_behind from past =
+  over_after : at ≤ i → at + length over ≤ i → slice_index (overlaid bytes at over) i ≡ slice_index bytes i
+  over_after from past =
       over_rest from
       ∙ get_or-append_right over (drop (at + length over) bytes) (length over) (i - at) 0 refl (omega arith)
       ∙ get_or-drop (at + length over) bytes (i - at - length over) 0
@@ -66,7 +66,7 @@ module _ (bytes over : List ℕ) (at i : ℕ) (inside : i < length bytes) where
       by : Lies at i over → slice_index (overlaid bytes at over) i ≡ byte_after (slice_index bytes i) at over i
       by (before h) = over_before h ∙ sym (after_before (slice_index bytes i) at i over h)
       by (within from h) = over_within from h ∙ sym (after_within (slice_index bytes i) at i over from h)
-      by (behind from past) = over_behind from past ∙ sym (after_behind (slice_index bytes i) at i over from past)
+      by (afterwards from past) = over_after from past ∙ sym (after_after (slice_index bytes i) at i over from past)
 
 -- overwritten twice is the same as once
 pub after_twice : (old at i : ℕ) (over : List ℕ) → byte_after (byte_after old at over i) at over i ≡ byte_after old at over i
@@ -75,7 +75,7 @@ after_twice old at i over = by (lies at i over)
     by : Lies at i over → byte_after (byte_after old at over i) at over i ≡ byte_after old at over i
     by (before h) = after_before (byte_after old at over i) at i over h
     by (within from h) = after_within (byte_after old at over i) at i over from h ∙ sym (after_within old at i over from h)
-    by (behind from past) = after_behind (byte_after old at over i) at i over from past
+    by (afterwards from past) = after_after (byte_after old at over i) at i over from past
 
 pub after_small : (old at i : ℕ) (over : List ℕ) → old < 256 → ((k : ℕ) → slice_index over k < 256) → byte_after old at over i < 256
 after_small old at i over small bytes = by (lies at i over)
@@ -83,7 +83,7 @@ after_small old at i over small bytes = by (lies at i over)
     by : Lies at i over → byte_after old at over i < 256
     by (before h) = subst (λ (n : ℕ). n < 256) (sym (after_before old at i over h)) small
     by (within from h) = subst (λ (n : ℕ). n < 256) (sym (after_within old at i over from h)) (bytes (i - at))
-    by (behind from past) = subst (λ (n : ℕ). n < 256) (sym (after_behind old at i over from past)) small
+    by (afterwards from past) = subst (λ (n : ℕ). n < 256) (sym (after_after old at i over from past)) small
 
 -- where the content covers a place, the old byte doesn't matter
 pub after_covered : (old other at i : ℕ) (over : List ℕ) → at ≤ i → i < at + length over → byte_after old at over i ≡ byte_after other at over i

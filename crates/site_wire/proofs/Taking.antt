@@ -14,7 +14,7 @@ use Rattle.esc_model.proofs.Resting.{MayLeave-idle}
 use Rattle.esc_model.proofs.Status.{idle_not_busy}
 use Rattle.site_wire.specs.Likeness.{IsLike}
 use Rattle.site_wire.proofs.Stored.{stored_same}
-use Rattle.site_wire.proofs.Judged.{judged, Needs, begun_like}
+use Rattle.site_wire.proofs.Validated.{validated, Needs, begun_like}
 
 pub true_or_false : (b : Bool) → (b ≡ true) ⊎ (b ≡ false)
 true_or_false true = inl refl
@@ -91,11 +91,11 @@ module _ (half : SlaveHalf) (at : ℕ) (over : List ℕ) where
   heard : (is_busy half.activity && nat_lt 2 (at + length over)) ≡ false → (written half at over).half ≡ after_write half at over
   heard e = ap (λ (b : Bool). (if b then passed_on half over else record { half = after_write half at over; content = over; added = 1 }).half) e
 
-  pub judges : (nat_le at 2 && nat_le 4 (at + length over)) ≡ true → after_write half at over ≡ begun (judged half at over)
-  judges e = ap (λ (b : Bool). if b then begun (judged half at over) else with_stored half at over) e
+  pub validates : (nat_le at 2 && nat_le 4 (at + length over)) ≡ true → after_write half at over ≡ begun (validated half at over)
+  validates e = ap (λ (b : Bool). if b then begun (validated half at over) else with_stored half at over) e
 
   pub stores : (nat_le at 2 && nat_le 4 (at + length over)) ≡ false → after_write half at over ≡ with_stored half at over
-  stores e = ap (λ (b : Bool). if b then begun (judged half at over) else with_stored half at over) e
+  stores e = ap (λ (b : Bool). if b then begun (validated half at over) else with_stored half at over) e
 
   pub written_quiet : at + length over ≤ 2 → (written half at over).half ≡ with_stored half at over
   written_quiet quiet =
@@ -139,8 +139,8 @@ after_like a b at over all idle like = by (true_or_false (nat_le at 2 && nat_le 
         → IsLike (after_write a at over) (after_write b at over)
     by (inr part) = from_both _ _ _ _ (stores a at over part) (stores b at over part) (stored_like a b at over like)
     by (inl covers) =
-        from_both _ _ _ _ (judges a at over covers) (judges b at over covers)
-        (subst (λ (n : ℕ). IsLike (begun (judged a n over)) (begun (judged b n over))) (sym (all covers).0)
+        from_both _ _ _ _ (validates a at over covers) (validates b at over covers)
+        (subst (λ (n : ℕ). IsLike (begun (validated a n over)) (begun (validated b n over))) (sym (all covers).0)
         (begun_like a b over (all covers).1 like (MayLeave-idle a b.words idle like.words)))
 
 written_like : (a b : SlaveHalf) (at : ℕ) (over : List ℕ) → HasAll at over → IsLike a b → IsLike (written a at over).half (written b at over).half
@@ -149,8 +149,8 @@ written_like a b at over all like = by (true_or_false (is_busy a.activity)) (leb
     by : (is_busy a.activity ≡ true) ⊎ (is_busy a.activity ≡ false)
         → ((nat_le (at + length over) 2 ≡ true) × (at + length over ≤ 2)) ⊎ ((nat_le (at + length over) 2 ≡ false) × (2 < at + length over))
         → IsLike (written a at over).half (written b at over).half
-    by (inr free) _ =
-        let idle : a.activity ≡ Idle = idle_not_busy a.activity free in
+    by (inr vacant) _ =
+        let idle : a.activity ≡ Idle = idle_not_busy a.activity vacant in
         from_both _ _ _ _ (written_idle a at over idle) (written_idle b at over (like.activity ∙ idle)) (after_like a b at over all idle like)
     by (inl busy) (inl quiet) = from_both _ _ _ _ (written_quiet a at over quiet.1) (written_quiet b at over quiet.1) (stored_like a b at over like)
     by (inl busy) (inr past) =

@@ -6,14 +6,14 @@ use Rattle.ecat_frame.specs.Frame.{Pdu}
 use Rattle.ecat_frame.specs.Command.{code_of}
 use Rattle.esc_model.specs.Bytes.{register_of}
 use Rattle.esc_model.specs.SlaveHalf.{SlaveHalf, is_busy}
-use Rattle.site_wire.specs.declared.device.Next.{Next}
-use Rattle.site_wire.specs.declared.device.Next.TheVariants as next
+use Rattle.site_wire.specs.declared.device.Reaction.{Reaction}
+use Rattle.site_wire.specs.declared.device.Reaction.TheVariants as next
 use Rattle.site_wire.specs.Due.{WritesControl}
 use Rattle.site_wire.specs.Answers.{compared, ReadAlike}
 use Rattle.site_wire.specs.Exchanges.{Agrees}
 use Rattle.site_wire.specs.declared.answers.Answer.{Answer}
-use Rattle.site_wire.specs.declared.answers.Shown.{Shown}
-use Rattle.site_wire.specs.declared.answers.Shown.TheVariants as shown
+use Rattle.site_wire.specs.declared.answers.AccessState.{AccessState}
+use Rattle.site_wire.specs.declared.answers.AccessState.TheVariants as shown
 use Rattle.site_wire.specs.declared.faults.Difference.{Difference}
 use Rattle.site_wire.specs.declared.faults.Difference.TheVariants as difference
 
@@ -33,13 +33,13 @@ pub record ShowsPair (found : Pdu) (pair : List ℕ) : Type 0 where
   pub content : found.content ≡ pair
 
 -- what the byte at 0x0503 shows of a slave: bit 7 is busy, bits 5 and 6 are the errors
-abbrev pub shown_by : Option ℕ → Shown
+abbrev pub shown_by : Option ℕ → AccessState
 shown_by None = shown.Nothing
 shown_by (Some status) = if nat_le 0x80 status then shown.Busy else if nat_le 0x20 status then shown.Failed else shown.Well
 
--- What is done behind an answer of a slave that writes a word, which shows this: a busy slave stays so; one that ended its command in error,
+-- What is done after an answer of a slave that writes a word, which shows this: a busy slave stays so; one that ended its command in error,
 -- or wasn't seen busy with it, is told it again; and a word that is shown as written is read back.
-abbrev pub next_by : Shown → Bool → Next
+abbrev pub next_by : AccessState → Bool → Reaction
 next_by shown.Nothing unconfirmed = next.Stays
 next_by shown.Busy unconfirmed = next.Stays
 next_by shown.Failed unconfirmed = next.Again

@@ -6,10 +6,10 @@ use Rattle.ecat_frame.specs.Frame.{Pdu}
 use Rattle.esc_model.specs.Bytes.{register_of, double_word_at}
 use Rattle.esc_model.specs.SlaveHalf.{SlaveHalf, Writing, is_busy}
 
--- a write to control and status (0x0502) or to a register behind it: code 5, FPWR
+-- a write to control and status (0x0502) or to a register after it: code 5, FPWR
 pub record WritesControl (d : Pdu) : Type 0 where
   pub write : d.command ≡ 5
-  pub behind : 0x0502 < register_of d.address + length d.content
+  pub afterwards : 0x0502 < register_of d.address + length d.content
 
 -- COMMANDS
 

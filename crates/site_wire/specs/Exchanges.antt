@@ -34,8 +34,8 @@ pub record Answers (d : Pdu) (real : SlaveHalf) (found : Pdu) (later : SlaveHalf
   pub mid : SlaveHalf
   pub after : SlaveHalf
   pub before : Takings d real mid
-  pub told : Takes d mid found after
-  pub behind : Takings d after later
+  pub reported : Takes d mid found after
+  pub afterwards : Takings d after later
 
 -- THE SHADOW
 
@@ -100,7 +100,7 @@ pub data Exchange (shadow real shadow_after real_after : SlaveHalf) : Type 0 whe
 pub data Stop (shadow real shadow_after real_after : SlaveHalf) : Type 0 where
   silent : (d : Pdu) → IsSent shadow d → (IsTrue (is_busy shadow.activity) → ¬ WritesControl d)
       → Takings d real real_after → shadow_after ≡ (served_datagram shadow d).half → Stop shadow real shadow_after real_after
-  told : (d found : Pdu) → IsSent shadow d → (IsTrue (is_busy shadow.activity) → ¬ WritesControl d)
+  reported : (d found : Pdu) → IsSent shadow d → (IsTrue (is_busy shadow.activity) → ¬ WritesControl d)
       → Answers d real found real_after
       → (shadow_after ≡ (served_datagram (rested_by_answer found shadow) d).half) ⊎ (shadow_after ≡ (served_datagram shadow d).half)
       → Stop shadow real shadow_after real_after

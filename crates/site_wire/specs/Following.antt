@@ -1,4 +1,4 @@
--- A device on a wire behind its shadow: what it sends for a datagram, and what real slaves are behind it (ETG.1000.4, slave information interface).
+-- A device on a wire behind its shadow: what it sends for a datagram, and what real slaves are after it (ETG.1000.4, slave information interface).
 use Rattle.std.specs.Prelude.{◌≡◌, ℕ, ◌+◌, ◌<◌, ◌⊎◌, ◌==◌, Bool, true, false, IsTrue, refl, List, [], ◌∷◌, ◌++◌}
 use Rattle.std.specs.Prelude.{Option, Some, None, slice_get}
 use Rattle.std.specs.Prelude.{slice_index, if◌then◌else◌}
@@ -27,8 +27,8 @@ use Rattle.site_wire.specs.Journal.{JournalFollows, journal_on}
 use Rattle.site_wire.specs.Parts.{AreFor}
 use Rattle.site_wire.specs.declared.amending.Tried.{Tried}
 use Rattle.site_wire.specs.declared.amending.Tried.TheVariants as tried
-use Rattle.site_wire.specs.declared.answers.Shown.{Shown}
-use Rattle.site_wire.specs.declared.answers.Shown.TheVariants as shown
+use Rattle.site_wire.specs.declared.answers.AccessState.{AccessState}
+use Rattle.site_wire.specs.declared.answers.AccessState.TheVariants as shown
 use Rattle.site_wire.specs.declared.device.WireDevice.{WireDevice}
 
 -- WHAT A DEVICE SENDS OF ITS OWN
@@ -53,13 +53,13 @@ pub record EndsWell (calls : List Exchanged) : Type 0 where
   pub well : shown_by (shown_status found) ≡ shown.Well
 
 -- A slave is polled, any number of times.
-pub record Polls (slave : ℕ) (old new : List Exchange) (result : Option Shown) : Type 0 where
+pub record Polls (slave : ℕ) (old new : List Exchange) (result : Option AccessState) : Type 0 where
   pub calls : List Exchanged
   pub sends : Sends old new calls
   pub polls : All (λ call. call.sent ≡ poll_order slave) calls
   pub well : result ≡ Some shown.Well → EndsWell calls
 
--- Whatever a real slave at this place was before these calls, behind them it is idle, and its word has this value.
+-- Whatever a real slave at this place was before these calls, after them it is idle, and its word has this value.
 abbrev pub TellsWord : (slave word value : ℕ) → List Exchanged → Type 0
 TellsWord slave word value calls = (real later : SlaveHalf) → real.station ≡ station slave → Lives calls real later
     → (later.activity ≡ Idle) × (slice_index later.words word ≡ value)
@@ -144,15 +144,15 @@ pub record SendsNothing {L F C : Type 0} (old new : WireDevice L F C) : Type 0 w
 
 -- The real slave is one that a shadow may be, but for its errors: at the same station, with the same access, with the shadow's words, but
 -- for a word in flight; and while none is in flight, idle.
-pub record IsBehind (shadow real : SlaveHalf) : Type 0 where
+pub record IsAfter (shadow real : SlaveHalf) : Type 0 where
   pub amended : IsAmended shadow real
   pub idle : in_flight shadow.activity ≡ None → real.activity ≡ Idle
 
--- Where this was sent since a site began: a real slave at the station address of its place that was behind its half then is behind its half now,
+-- Where this was sent since a site began: a real slave at the station address of its place that was after its half then is after its half now,
 -- if it could have answered so.
 abbrev pub SlavesFollow : List Exchanged → (begun now : List SlaveHalf) → Type 0
 SlavesFollow log begun now = (slave : ℕ) (first half real later : SlaveHalf) → slice_get begun slave ≡ Some first
-    → slice_get now slave ≡ Some half → first.station ≡ station slave → IsBehind first real → Lives log real later → IsBehind half later
+    → slice_get now slave ≡ Some half → first.station ≡ station slave → IsAfter first real → Lives log real later → IsAfter half later
 
 -- The slaves have followed the site behind a device on a wire: unless it or the site has stopped.
 pub record SlavesFollowed {L F C : Type 0} (device : WireDevice L F C) (seen : Seen) : Type 0 where

@@ -9,7 +9,7 @@ use Rattle.site_wire.specs.declared.joining.Stage.TheVariants as stage
 
 -- how far the datagram of the slave at this place of the line is
 abbrev pub stage_of : List Stage → (slave : ℕ) → Stage
-stage_of stages slave = slice_index_or stages slave stage.Free
+stage_of stages slave = slice_index_or stages slave stage.Vacant
 
 -- whether its frame is back, or lost
 abbrev pub is_at_end : Stage → Bool
@@ -44,7 +44,7 @@ pub record Waited (stages : List Stage) (d : Pdu) : Type 0 where
   pub address : ℕ
   pub is : d ≡ readdressed (datagram_of order) address
 
--- Behind the datagrams of a frame such a one is put.
+-- After the datagrams of a frame such a one is put.
 pub record Takes (stages : List Stage) (old new : List Pdu) : Type 0 where
   pub d : Pdu
   pub waited : Waited stages d

@@ -5,7 +5,7 @@ use Rattle.site_core.specs.declared.fault.DeviceFault.{DeviceFault}
 use Rattle.site_core.specs.State.{Seen, with_half}
 use Rattle.site_core.specs.Calls.{WritesDisk, SyncsDisk}
 use Rattle.site_shadow.specs.declared.device.Passing.{Passing}
-use Rattle.site_shadow.specs.Following.{Extends, GoesOn, IsTold}
+use Rattle.site_shadow.specs.Following.{Extends, GoesOn, IsReported}
 use Rattle.site_file.specs.declared.files.FileDevice.{FileDevice}
 use Rattle.site_file.specs.declared.asking.Call.TheVariants.{Writes as writes, Syncs as syncs}
 use Rattle.site_file.specs.Asking.{HasLog}
@@ -19,11 +19,11 @@ pub data JournalStep {F : Type 0} (old : Seen) (before : FileDevice F) (new : Se
   goes_on : GoesOn old new → ChangesNoFile before after → JournalStep old before new after
   -- a write; where the journal passes it, the site has done it
   write : (at : ℕ) (bytes : List ℕ) (passing : Passing) (given : Result (Unit {0}) DeviceFault) → old.is_stopped ≡ false
-      → at ≤ length old.state.disk.bytes → WritesDisk old at bytes given new → IsTold old.faults passing given
+      → at ≤ length old.state.disk.bytes → WritesDisk old at bytes given new → IsReported old.faults passing given
       → CallsJournal (writes at bytes) before passing after → JournalStep old before new after
   -- a sync; where the journal passes it, the site has done it
   sync : (passing : Passing) (given : Result (Unit {0}) DeviceFault) → old.is_stopped ≡ false
-      → SyncsDisk old given new → IsTold old.faults passing given
+      → SyncsDisk old given new → IsReported old.faults passing given
       → CallsJournal syncs before passing after → JournalStep old before new after
   -- a half rests and takes a datagram; the journal is asked nothing
   rest : (slave : ℕ) (later : SlaveHalf) → old.is_stopped ≡ false → new.state ≡ with_half old.state slave later → Extends old new

@@ -10,7 +10,7 @@ pub mod Known
 pub mod Orders
 pub mod Sent
 pub mod Parts
-pub mod Told
+pub mod Logged
 pub mod RealSlaves
 pub mod Journal
 pub mod Following

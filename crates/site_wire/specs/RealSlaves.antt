@@ -29,8 +29,8 @@ pub record Answered (d : Pdu) (real : SlaveHalf) (found : Pdu) (later : SlaveHal
   pub mid : SlaveHalf
   pub after : SlaveHalf
   pub before : Servings d real mid
-  pub told : Serves d mid found after
-  pub behind : Servings d after later
+  pub reported : Serves d mid found after
+  pub afterwards : Servings d after later
 
 -- The real slave could have answered so to what was sent on its line, and is this then: of what went to its station each datagram that
 -- came back was taken, and any other may have been.

@@ -10,7 +10,7 @@ ghost use Rattle.esc_model.specs.SlaveHalf.{in_flight};
 ghost use Rattle.site_wire.specs.Answering.{found_of};
 ghost use Rattle.site_wire.specs.Following.{SendsOwn, Polls, TriesPair, ReadsBack};
 
-use crate::answers::{Answer, Shown, state_shown};
+use crate::answers::{AccessState, Answer, state_shown};
 use crate::reach::Reach;
 use crate::sending::Sender;
 use ecat_frame::{Command, Frame, fp};
@@ -116,7 +116,7 @@ fn wait_idle<L: Reach, C: Clock>(
     clock: &C,
     slave: u16,
     half: &RomHalf,
-) -> Option<Shown>
+) -> Option<AccessState>
     requires { slave < 64 }
     ensures { Polls slave line.old.log.all line.new.log.all result }
 {
@@ -125,16 +125,16 @@ fn wait_idle<L: Reach, C: Clock>(
     let mut uncounted = 0u32;
     for _poll in 0..POLLS {
         match state_shown(&line.pass(half, &poll)?) {
-            Shown::Nothing => uncounted = uncounted.saturating_add(1),
-            Shown::Busy => uncounted = 0,
+            AccessState::Nothing => uncounted = uncounted.saturating_add(1),
+            AccessState::Busy => uncounted = 0,
             shown => return Some(shown),
         }
         if uncounted >= UNCOUNTED {
-            return Some(Shown::Nothing);
+            return Some(AccessState::Nothing);
         }
         pace.poll(clock);
     }
-    Some(Shown::Nothing)
+    Some(AccessState::Nothing)
 }
 
 /// Tries once to read a word and the next one. None where the line has stopped.
@@ -153,10 +153,10 @@ fn try_pair<L: Reach, C: Clock>(
 {
     let taken = line.pass(half, &read_frame(slave, word, held))?;
     let shown = wait_idle(line, clock, slave, half)?;
-    if shown == Shown::Nothing {
+    if shown == AccessState::Nothing {
         return Some(Tried::Unseen);
     }
-    if taken.counter != 1 || shown != Shown::Well {
+    if taken.counter != 1 || shown != AccessState::Well {
         return Some(Tried::Refused);
     }
     let fetch = frame_for(slave, Command::Fprd, CONTENT, &[0, 0, 0, 0]);

@@ -127,7 +127,7 @@ fn address_back(asked: u32, sent: u32, found: u32) -> u32
 
 /// What an answer shows of a slave that may be busy.
 #[derive(Clone, Copy, PartialEq, Eq)]
-pub(crate) enum Shown {
+pub(crate) enum AccessState {
     /// Nothing of it.
     Nothing,
     Busy,
@@ -163,25 +163,25 @@ fn status_of(answer: &Answer) -> Option<u8>
 }
 
 /// What an answer shows of the slave.
-pub(crate) fn state_shown(answer: &Answer) -> Shown
+pub(crate) fn state_shown(answer: &Answer) -> AccessState
     ensures { result ≡ shown_by (shown_status (found_of answer.now)) }
 {
     match status_of(answer) {
         Some(status) => shown_of(status),
-        None => Shown::Nothing,
+        None => AccessState::Nothing,
     }
 }
 
 /// What the byte of control and status shows of the slave.
-fn shown_of(status: u8) -> Shown
+fn shown_of(status: u8) -> AccessState
     ensures { result ≡ shown_by (Some status) }
 {
     if status >= 0x80 {
-        Shown::Busy
+        AccessState::Busy
     } else if status >= 0x20 {
-        Shown::Failed
+        AccessState::Failed
     } else {
-        Shown::Well
+        AccessState::Well
     }
 }
 

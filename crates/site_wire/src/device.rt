@@ -7,7 +7,7 @@ ghost use Rattle.site_wire.specs.Due.{IsFit, WritesControl};
 ghost use Rattle.esc_model.specs.SlaveHalf.{in_flight, is_busy};
 ghost use Rattle.site_shadow.specs.declared.device.Resting.TheVariants as resting;
 ghost use Rattle.site_shadow.specs.declared.device.Passing.TheVariants.{Passes, Fails};
-ghost use Rattle.site_wire.specs.declared.answers.Shown.TheVariants as shown_as;
+ghost use Rattle.site_wire.specs.declared.answers.AccessState.TheVariants as shown_as;
 ghost use Rattle.site_wire.specs.Answers.{shown_status};
 ghost use Rattle.site_wire.specs.Answering.{found_of, shown_by, next_by, AgreesWith};
 ghost use Rattle.wire_frames.specs.Sending.{IsForEeprom};
@@ -21,7 +21,7 @@ ghost use Rattle.esc_model.specs.Bytes.{station_of};
 ghost use Rattle.esc_model.specs.Orders.{station};
 
 use crate::amending::{issue_again, read_back};
-use crate::answers::{Answer, Comparison, Shown, compared_with, state_shown};
+use crate::answers::{AccessState, Answer, Comparison, compared_with, state_shown};
 use crate::faults::{Difference, StopReason};
 use crate::fitting::{is_fit, is_for_eeprom, is_ignored, is_known, only_datagram};
 use crate::reach::{LiveLine, Reach, SharedLine};
@@ -29,7 +29,7 @@ use crate::sending::{Exchange, Sender};
 use ecat_frame::{Datagram, Frame};
 use esc_model::{RomHalf, WordWrite, station_address};
 use sii_words::History;
-use site_file::{FileDevice, FileTold, RandomAccessFile};
+use site_file::{FileDevice, FileLog, RandomAccessFile};
 use site_shadow::{Device, Lends, LinePart, Passing, Pattern, Resting, ShadowSite};
 use std::rt::Clock;
 use std::sync::Wait;
@@ -131,9 +131,9 @@ impl<'f, R: Wait, W: Wire, F: RandomAccessFile, C: Clock> WireDevice<
     }
 }
 
-/// What is done behind an answer of a slave whose half writes a word.
+/// What is done after an answer of a slave whose half writes a word.
 #[derive(Clone, Copy)]
-enum Next {
+enum Reaction {
     /// The half stays busy.
     Stays,
     /// The slave is told the command again.
@@ -142,15 +142,15 @@ enum Next {
     ReadsBack,
 }
 
-/// What is done behind an answer that shows this of a slave: with whether it wasn't seen busy with its command yet.
-fn next_of(shown: Shown, is_unconfirmed: bool) -> Next
+/// What is done after an answer that shows this of a slave: with whether it wasn't seen busy with its command yet.
+fn next_of(shown: AccessState, is_unconfirmed: bool) -> Reaction
     ensures { result ≡ next_by shown is_unconfirmed }
 {
     match shown {
-        Shown::Nothing | Shown::Busy => Next::Stays,
-        Shown::Failed => Next::Again,
-        Shown::Well if is_unconfirmed => Next::Again,
-        Shown::Well => Next::ReadsBack,
+        AccessState::Nothing | AccessState::Busy => Reaction::Stays,
+        AccessState::Failed => Reaction::Again,
+        AccessState::Well if is_unconfirmed => Reaction::Again,
+        AccessState::Well => Reaction::ReadsBack,
     }
 }
 
@@ -236,7 +236,7 @@ impl<'f, L: Reach, F: RandomAccessFile, C: Clock> WireDevice<'f, L, F, C> {
     }
 
     /// The site stops where the slave's answer is another than the shadow's.
-    fn judge(&mut self, slave: usize, half: &RomHalf, answer: &Frame)
+    fn validate(&mut self, slave: usize, half: &RomHalf, answer: &Frame)
         ensures agrees { self.new.is_over ≡ false → IfSome self.old.returned (λ found. AgreesWith half.now answer.now found) }
         ensures quiet { SendsNothing self.old self.new }
         ensures journal { self.new.journal ≡ self.old.journal }
@@ -347,7 +347,7 @@ impl<'f, L: Reach, F: RandomAccessFile, C: Clock> WireDevice<'f, L, F, C> {
         self.is_over = self.returned.is_none();
     }
 
-    /// Does what is to be done behind this answer of a slave whose half writes a word.
+    /// Does what is to be done after this answer of a slave whose half writes a word.
     fn follow(&mut self, slave: u16, half: &RomHalf, write: WordWrite, answer: Answer)
         requires slave { slave < 64 }
         requires flying { in_flight half.now.activity ≡ Some write }
@@ -360,13 +360,13 @@ impl<'f, L: Reach, F: RandomAccessFile, C: Clock> WireDevice<'f, L, F, C> {
         let is_unconfirmed = self.is_unconfirmed[usize::from(slave)];
         let shown = state_shown(&answer);
         match next_of(shown, is_unconfirmed) {
-            Next::Stays => {
-                if shown == Shown::Busy {
+            Reaction::Stays => {
+                if shown == AccessState::Busy {
                     self.set_unconfirmed(usize::from(slave), false);
                 }
             }
-            Next::Again => self.try_again(slave, half, write, answer),
-            Next::ReadsBack => self.confirm(slave, half, write, answer),
+            Reaction::Again => self.try_again(slave, half, write, answer),
+            Reaction::ReadsBack => self.confirm(slave, half, write, answer),
         }
     }
 
@@ -620,7 +620,7 @@ impl<'f, L: Reach, F: RandomAccessFile, C: Clock> Device for WireDevice<'f, L, F
         if self.is_over {
             return Some(LEFT);
         }
-        self.judge(slave, half, answer);
+        self.validate(slave, half, answer);
         if self.is_over {
             return Some(LEFT);
         }
@@ -647,9 +647,9 @@ impl<'f, L: Reach, F: RandomAccessFile, C: Clock> Device for WireDevice<'f, L, F
 
 /// What a device on a wire tells of its calls.
 #[derive(Drop)]
-pub struct WireTold {
+pub struct WireLog {
     /// What was asked of the journal's file, and of which part the device was.
-    pub journal: FileTold,
+    pub journal: FileLog,
     /// All that was sent to the slaves, in order, and what came back.
     pub sent: History<Exchange>,
 }
@@ -657,9 +657,9 @@ pub struct WireTold {
 impl<'f, L: Reach + Copy + Drop, F: RandomAccessFile + Drop, C: Clock> Lends
     for WireDevice<'f, L, F, C> {
     ghost use Rattle.site_file.specs.Owned.{PutsBack, Takes};
-    ghost use Rattle.site_wire.specs.Told.{TellsWire};
+    ghost use Rattle.site_wire.specs.Logged.{TellsWire};
 
-    type Told = WireTold;
+    type Logged = WireLog;
 
     ghost tells = { TellsWire };
 
@@ -684,7 +684,7 @@ impl<'f, L: Reach + Copy + Drop, F: RandomAccessFile + Drop, C: Clock> Lends
         }
     }
 
-    fn take_back(&mut self, lent: WireDevice<'f, L, F, C>) -> WireTold
+    fn take_back(&mut self, lent: WireDevice<'f, L, F, C>) -> WireLog
         ensures tells { TellsWire lent.entry result }
         ensures files { PutsBack self.old.journal.held lent.entry.journal.held self.new.journal.held }
         ensures over { self.new.is_over ≡ (self.old.is_over || lent.entry.is_over) }
@@ -697,19 +697,19 @@ impl<'f, L: Reach + Copy + Drop, F: RandomAccessFile + Drop, C: Clock> Lends
             ..
         } = lent;
         self.is_over = self.is_over || is_over;
-        WireTold {
+        WireLog {
             journal: self.journal.take_back(journal),
             sent: sender.into_sent(),
         }
     }
 
-    fn tell(&mut self) -> WireTold
+    fn tell(&mut self) -> WireLog
         ensures tells { TellsWire self.old result }
         ensures files { self.new.journal.held ≡ self.old.journal.held }
         ensures over { self.new.is_over ≡ self.old.is_over }
         ensures sent { self.new.sender.log.all ≡ [] }
     {
-        WireTold {
+        WireLog {
             journal: self.journal.tell(),
             sent: self.sender.tell(),
         }

@@ -12,7 +12,7 @@ use esc_model::RomHalf;
 use rom_steps::{ACCESS, CONTENT, CONTROL};
 use wire_frames::{FPRD, FPWR, register_of};
 
-/// Whether a busy slave takes nothing of the datagram: it writes to control and status or behind them.
+/// Whether a busy slave takes nothing of the datagram: it writes to control and status or after them.
 pub(crate) fn waits_for_rest(datagram: Datagram<'_>) -> bool
     ensures { IsTrue result ↔ WritesControl (pdu datagram.entry) }
 {

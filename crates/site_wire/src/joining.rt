@@ -2,7 +2,7 @@
 ghost use Rattle.std.specs.Prelude.{◌≡◌, ◌≢◌, ◌↔◌, ◌⊎◌, ℕ, ◌<◌, true, false, IsTrue};
 ghost use Rattle.std.specs.List.{All};
 ghost use Rattle.ecat_frame.specs.Frame.{pdu};
-ghost use Rattle.site_wire.specs.declared.joining.Stage.TheVariants.{Free};
+ghost use Rattle.site_wire.specs.declared.joining.Stage.TheVariants.{Vacant};
 ghost use Rattle.site_wire.specs.Joining.{ComesToRest, Keeps, Takes, Waited, WaitsNoMore, answer_in, is_at_end, stage_of};
 ghost use Rattle.wire_frames.specs.Room.{Fits};
 ghost use Rattle.wire_frames.specs.Sending.{IsForEeprom, OnlyEeprom};
@@ -19,7 +19,7 @@ const SLAVES: usize = 64;
 #[derive(Clone, Copy)]
 enum Stage {
     /// There is none.
-    Free,
+    Vacant,
     /// It waits for a frame.
     Waits(Order),
     /// It is the one at this place of a frame under way, in which it went to this address.
@@ -44,7 +44,7 @@ impl Board {
     /// A board on which nothing stands, for a line with these station addresses, on which a frame may hold so much.
     pub(crate) fn new(stations: Stations, room: Room) -> Board {
         Board {
-            stages: [Stage::Free; SLAVES],
+            stages: [Stage::Vacant; SLAVES],
             stations,
             room,
             is_sending: false,
@@ -55,12 +55,12 @@ impl Board {
     pub(crate) fn put(&mut self, slave: usize, asked: Datagram<'_>) -> bool
         requires slave { slave < 64 }
         requires eeprom { IsForEeprom (pdu asked) }
-        ensures free { IsTrue result ↔ (stage_of self.old.stages slave ≡ Free) }
+        ensures vacant { IsTrue result ↔ (stage_of self.old.stages slave ≡ Vacant) }
         ensures put { IsTrue result → Keeps (pdu asked.entry) (stage_of self.new.stages slave) }
         ensures others { (other : ℕ) → other ≢ slave → stage_of self.new.stages other ≡ stage_of self.old.stages other }
     {
         match self.stages[slave] {
-            Stage::Free => {
+            Stage::Vacant => {
                 self.stages[slave] = Stage::Waits(Order::of(asked));
                 true
             }
@@ -72,11 +72,11 @@ impl Board {
     pub(crate) fn take(&mut self, slave: usize) -> Option<Answer>
         requires { slave < 64 }
         ensures answer { result ≡ answer_in (stage_of self.old.stages slave) }
-        ensures free { stage_of self.new.stages slave ≡ Free }
+        ensures vacant { stage_of self.new.stages slave ≡ Vacant }
         ensures others { (other : ℕ) → other ≢ slave → stage_of self.new.stages other ≡ stage_of self.old.stages other }
     {
         let stage = self.stages[slave];
-        self.stages[slave] = Stage::Free;
+        self.stages[slave] = Stage::Vacant;
         match stage {
             Stage::Answered(answer) => answer,
             _ => None,
@@ -99,7 +99,7 @@ impl Board {
         matches!(self.stages[slave], Stage::Answered(_))
     }
 
-    /// A frame of what waits, as far as there is room, of the slaves from this one on, as if slave 0 came behind the last one. It is under way.
+    /// A frame of what waits, as far as there is room, of the slaves from this one on, as if slave 0 came after the last one. It is under way.
     pub(crate) fn collect(&mut self, first: usize) -> Frame
         ensures only { OnlyEeprom result }
         ensures waiting { All (Waited self.old.stages) result }

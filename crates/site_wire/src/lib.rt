@@ -15,7 +15,7 @@ mod parts;
 mod reach;
 mod sending;
 
-pub use device::{WireDevice, WireSite, WireTold};
+pub use device::{WireDevice, WireLog, WireSite};
 pub use faults::{Difference, StopReason};
 pub use laws::{
     agreed_is_possible, amending_is_possible, defined_slave_serves, journal_follows,

@@ -54,7 +54,7 @@ impl Order {
         }
     }
 
-    /// Puts it behind the datagrams of a frame, to this address. Returns whether there was room.
+    /// Puts it after the datagrams of a frame, to this address. Returns whether there was room.
     pub(crate) fn put_in(&self, frame: &mut Frame, address: u32) -> bool
         requires register { address / 2 ^ 16 ≡ self.now.address / 2 ^ 16 }
         requires only { OnlyEeprom frame.old }

@@ -107,7 +107,7 @@ impl<L> Sender<L> {
 
     /// All that was sent. It is then as one that has sent nothing yet.
     pub(crate) fn tell(&mut self) -> History<Exchange>
-        ensures told { result ≡ self.old.log.all }
+        ensures reported { result ≡ self.old.log.all }
         ensures sent { self.new.log.all ≡ [] }
     {
         let log = mem::replace(&mut self.log, SentLog::new());

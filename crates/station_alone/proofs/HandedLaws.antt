@@ -8,7 +8,7 @@ use Rattle.book_model.specs.declared.next.RomNext.{RomNext}
 use Rattle.book_model.specs.declared.next.RomNext.TheVariants as rom
 use Rattle.book_model.specs.Book.{Book, Doing, Resting, Payload, PayloadSync, OpenGate, OpenSync, CloseGate, CloseSync, FarGate, Mark, MarkSync, Version, VersionSync, Settling}
 use Rattle.book_model.specs.DiskSteps.{action_of, doing_next, disk_next}
-use Rattle.book_model.specs.RomSteps.{with_errand, with_issue, rom_next}
+use Rattle.book_model.specs.RomSteps.{with_operation, with_issue, rom_next}
 use Rattle.book_model.proofs.SlaveEventLaws as asks
 use Rattle.book_model.proofs.SlaveEventLaws.{IsNothing, Asks}
 use Rattle.site_journal.proofs.DiskRuns.{IsAction, idle-or-stop}
@@ -73,7 +73,7 @@ module _ (book : Book) where
 pub data HandsRom (book : Book) (i : ℕ) : Type 0 where
   nothing_asked : (answer : RomNext) → IsNothing answer → rom_next book i ≡ (answer, book) → HandsRom book i
   issue : (w : ℕ × ℕ) → i < length book.slaves → is_some book.fault ≡ false → rom_next book i ≡ (rom.Issue w.0 w.1, with_issue book i w) → HandsRom book i
-  settle : (word value : ℕ) (taken : Bool) → i < length book.slaves → is_some book.fault ≡ false → rom_next book i ≡ (rom.Settle taken, with_errand book i (Settling word value taken)) → HandsRom book i
+  settle : (word value : ℕ) (taken : Bool) → i < length book.slaves → is_some book.fault ≡ false → rom_next book i ≡ (rom.Settle taken, with_operation book i (Settling word value taken)) → HandsRom book i
 
 module _ (book : Book) (i : ℕ) where
   something : (given : RomNext) (later : Book) → rom_next book i ≡ (given, later) → (IsNothing given → ⊥) → IsNothing (rom_next book i).0 → ⊥
@@ -82,7 +82,7 @@ module _ (book : Book) (i : ℕ) where
   asked-there : i < length book.slaves → Asks book i → HandsRom book i
   asked-there within (asks.nothing answer none is) = nothing_asked answer none is
   asked-there within (asks.issue w others todo is) = issue w within (asked-sound book i within (something (rom.Issue w.0 w.1) _ is (λ none. none))) is
-  asked-there within (asks.settle word value taken errand is) = settle word value taken within (asked-sound book i within (something (rom.Settle taken) _ is (λ none. none))) is
+  asked-there within (asks.settle word value taken operation is) = settle word value taken within (asked-sound book i within (something (rom.Settle taken) _ is (λ none. none))) is
 
   hands-rom-if : (there : Bool) → nat_lt i (length book.slaves) ≡ there → HandsRom book i
   hands-rom-if true there = let within : i < length book.slaves = grind (arith, nat_tests) in asked-there within (handed book i within)

@@ -62,7 +62,7 @@ keeps-while-still old new seen durable m of kept =
     (subst (λ (s : Seen). KeepsAll m old.seen s) (sym seen) (still m old.seen kept))
     (acknowledged-so m new.book.durable new.seen.state (of.acknowledged ∙ sym durable) (subst (λ (s : Seen). LeavesOnly (KeptFor m) s.state) (sym seen) kept))
 
--- ---- one run behind another
+-- ---- one run after another
 
 -- the book is that machine's, with the commands that were accepted
 pub of-later : (m : Machine) (commands : List Command) (most : ℕ) (old new : Station) → IsOfBook old.book m → GoesOn commands most old new → IsOfBook new.book (with_commands m commands new.book.durable)
@@ -72,18 +72,18 @@ of-later m commands most old new of goes = record {
   acknowledged = refl;
 }
 
-take-behind : (first second : List Command) (j : ℕ) → take (length first + j) (first ++ second) ≡ first ++ take j second
-take-behind [] second j = ap (λ (n : ℕ). take n second) (zero-add j)
-take-behind (c ∷ first) second j =
+take-after : (first second : List Command) (j : ℕ) → take (length first + j) (first ++ second) ≡ first ++ take j second
+take-after [] second j = ap (λ (n : ℕ). take n second) (zero-add j)
+take-after (c ∷ first) second j =
     let e : length (c ∷ first) + j ≡ suc (length first + j) = omega arith in
-    ap (λ (n : ℕ). take n (c ∷ (first ++ second))) e ∙ ap (λ (l : List Command). c ∷ l) (take-behind first second j)
+    ap (λ (n : ℕ). take n (c ∷ (first ++ second))) e ∙ ap (λ (l : List Command). c ∷ l) (take-after first second j)
 
 -- what is kept with some of the later commands is kept with all earlier ones and these
-kept-behind : (m : Machine) (first second : List Command) (count : ℕ) (pair : Pair) → m.acknowledged ≤ count → KeptWith (with_commands m first count) second pair → KeptWith m (first ++ second) pair
-kept-behind m first second count pair few (j, le, kept) =
+kept-after : (m : Machine) (first second : List Command) (count : ℕ) (pair : Pair) → m.acknowledged ≤ count → KeptWith (with_commands m first count) second pair → KeptWith m (first ++ second) pair
+kept-after m first second count pair few (j, le, kept) =
     let less = kept-less m ((m.accepted ++ first) ++ take j second) count pair few kept in
     let all : (m.accepted ++ first) ++ take j second ≡ m.accepted ++ take (length first + j) (first ++ second) =
-    append_assoc m.accepted first (take j second) ∙ ap (λ (l : List Command). m.accepted ++ l) (sym (take-behind first second j)) in
+    append_assoc m.accepted first (take j second) ∙ ap (λ (l : List Command). m.accepted ++ l) (sym (take-after first second j)) in
     (length first + j, omega (arith, le, length-append first second), subst (λ (l : List Command). KeptFor (record m { accepted = l }) pair) all less)
 
 pub keeps-then : (first second : List Command) (most : ℕ) (a b c : Station) → GoesOn first most a b → Keeps first a b → Keeps second b c → Keeps (first ++ second) a c
@@ -92,7 +92,7 @@ keeps-then first second most a b c goes one two m of kept =
     let mid = with_commands m first b.book.durable in
     let later = two mid (of-later m first most a b of goes) k.at_last in
     let few : m.acknowledged ≤ b.book.durable = omega (arith, of.acknowledged, goes.durable) in
-    let weaker = stays-weaker (KeptWith mid second) (KeptWith m (first ++ second)) b.seen c.seen (λ pair. kept-behind m first second b.book.durable pair few) later.on_the_way in
+    let weaker = stays-weaker (KeptWith mid second) (KeptWith m (first ++ second)) b.seen c.seen (λ pair. kept-after m first second b.book.durable pair few) later.on_the_way in
     record {
       on_the_way = stays-then (KeptWith m (first ++ second)) a.seen b.seen c.seen (keeps-more m first second a.seen b.seen k.on_the_way) weaker;
       at_last = subst (λ (l : List Command). LeavesOnly (KeptFor (record m { accepted = l; acknowledged = c.book.durable })) c.seen.state) (append_assoc m.accepted first second) later.at_last;

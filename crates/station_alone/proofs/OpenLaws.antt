@@ -57,9 +57,9 @@ count-more batches k d within = ap (λ (l : List Entry). length l) (entries-more
 
 pub count-within : (batches : List Batch) (k : ℕ) → length (entries_of (take k batches)) ≤ length (entries_of batches)
 count-within batches k =
-    let whole = ap (λ (l : List Batch). length (entries_of l)) (take-append-drop k batches) in
+    let entire = ap (λ (l : List Batch). length (entries_of l)) (take-append-drop k batches) in
     let parts = ap (λ (l : List Entry). length l) (flat_map-append (λ (b : Batch). b.entries) (take k batches) (drop k batches)) in
-    omega (arith, whole, parts, length-append (entries_of (take k batches)) (entries_of (drop k batches)))
+    omega (arith, entire, parts, length-append (entries_of (take k batches)) (entries_of (drop k batches)))
 
 -- ---- calls in a row
 
@@ -111,7 +111,7 @@ module _ (sizes : List ℕ) (its : Line) (old mid new : Seen) (capacity : ℕ) (
   pub found-is : IsFound journal new.state
   found-is = record {
     is_journal = subst (λ (b : List ℕ). IsJournal b (sizes_of (words_in new.state.halves)) journal) (sym bytes-are) (subst (λ (s : List ℕ). IsJournal old.state.disk.bytes s journal) halves-are reads.finds.0);
-    synced = subst IsAllSynced (sym disk-is) (record { all = refl; whole = omega arith });
+    synced = subst IsAllSynced (sym disk-is) (record { all = refl; entire = omega arith });
     idle = read.idle;
   }
 

@@ -22,7 +22,7 @@ use Rattle.station_alone.specs.Station.{Station, Stands}
 use Rattle.station_alone.specs.Steps.{DoesDisk, CarriesOut, StepsDisk, carried_out, out_of_memory, done_with}
 use Rattle.station_alone.specs.Keeping.{GoesOn, Keeps}
 use Rattle.station_alone.specs.Recovery.{LeadsTo}
-use Rattle.station_alone.specs.Rounds.{IsWorking, StaysKept, DiskRests, ServesDisk, told}
+use Rattle.station_alone.specs.Rounds.{IsWorking, StaysKept, DiskRests, ServesDisk, reported}
 use Rattle.station_alone.proofs.KeepLaws.{goes-within}
 use Rattle.station_alone.proofs.RowLaws.{up-of, kept-none, leads-none, leads-one, works-none}
 
@@ -47,7 +47,7 @@ has-action book disk.Stop is some = absurd some
 
 -- a step that was done, or the fault that it met
 abbrev Served : Answer → Station → Station → Type 0
-Served answer old new = ServesDisk (told answer) old new
+Served answer old new = ServesDisk (reported answer) old new
 
 module _ (old new : Station) (working : IsWorking old) (stands : Stands new) (goes : GoesOn [] 1 old new) (keeps : Keeps [] old new) where
   kept : 1 ≤ calls_left old.book → StaysKept old new
@@ -119,7 +119,7 @@ carries old new answer disk.Idle working stands goes keeps is step n =
     subst (λ (a : Answer). Served a old new) (sym n.answered) (subst (λ (s : Station). Served Idle old s) (sym n.same) (rests old working is))
 carries old new answer disk.Stop working stands goes keeps is step n = absurd (disk-goes old.book working.recovering working.sound is)
 
-pub disk-serves : (old new : Station) (answer : Answer) → IsWorking old → Stands new → GoesOn [] 1 old new → Keeps [] old new → StepsDisk old answer new → ServesDisk (told answer) old new
+pub disk-serves : (old new : Station) (answer : Answer) → IsWorking old → Stands new → GoesOn [] 1 old new → Keeps [] old new → StepsDisk old answer new → ServesDisk (reported answer) old new
 disk-serves old new answer working stands goes keeps (carried_out does) = carries old new answer (disk_next old.book).0 working stands goes keeps refl (carried_out does) does
 disk-serves old new answer working stands goes keeps (out_of_memory takes n) =
     subst (λ (a : Answer). Served a old new) (sym n.answered)

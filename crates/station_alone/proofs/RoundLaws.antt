@@ -152,7 +152,7 @@ asks-did old new answer working stands goes keeps none asks = elim (asks-migrati
 
 -- ---- all rounds
 
--- one round more, behind the question whether there is more to do
+-- one round more, after the question whether there is more to do
 pub works-round : (words n : ℕ) (a b c d : Station) → Works words a b → Works 0 b c → Works n c d → Works (words + n) a d
 works-round words n a b c d one none two =
     let e : (words + 0) + n ≡ words + n = omega arith in

@@ -66,7 +66,7 @@ kept-none s = record { session = goes-none (calls_left s.book) s; keeps = keeps-
 pub works-none : (s : Station) → IsWorking s → Works 0 s s
 works-none s w = record { working = w; kept = kept-none s; leads = leads-none s; left = omega arith; issued = omega arith }
 
--- ---- one behind another
+-- ---- one after another
 
 kept-then : (a b c : Station) → clock b.seen + calls_left b.book ≤ clock a.seen + calls_left a.book → StaysKept a b → StaysKept b c → StaysKept a c
 kept-then a b c few one two =

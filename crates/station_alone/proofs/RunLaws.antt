@@ -15,18 +15,18 @@ use Rattle.station_alone.proofs.KeepLaws.{goes-none, goes-then, keeps-then, keep
 
 pub steps-then : (choices more : List Choice) (answers others : List Answer) (a b c : Station) → StepsInOrder choices a answers b → StepsInOrder more b others c → StepsInOrder (choices ++ more) a (answers ++ others) c
 steps-then [] more [] others a b c first second = subst (λ (s : Station). StepsInOrder more s others c) first second
-steps-then [] more (told ∷ answers) others a b c first second = absurd first
+steps-then [] more (reported ∷ answers) others a b c first second = absurd first
 steps-then (choice ∷ choices) more [] others a b c first second = absurd first
-steps-then (choice ∷ choices) more (told ∷ answers) others a b c first second = (first.0, first.1, steps-then choices more answers others first.0 b c first.2 second)
+steps-then (choice ∷ choices) more (reported ∷ answers) others a b c first second = (first.0, first.1, steps-then choices more answers others first.0 b c first.2 second)
 
 accepted-push : (choices : List Choice) (answers : List Answer) (choice : Choice) (answer : Answer) (a b : Station) → StepsInOrder choices a answers b
     → accepted_in (choices ++ choice ∷ []) (answers ++ answer ∷ []) ≡ accepted_in choices answers ++ accepted_by choice answer
 accepted-push [] [] choice answer a b steps = append-nil (accepted_by choice answer)
 accepted-push [] (other ∷ answers) choice answer a b steps = absurd steps
 accepted-push (other ∷ choices) [] choice answer a b steps = absurd steps
-accepted-push (other ∷ choices) (told ∷ answers) choice answer a b steps =
-    ap (λ (l : List Command). accepted_by other told ++ l) (accepted-push choices answers choice answer steps.0 b steps.2)
-    ∙ sym (append_assoc (accepted_by other told) (accepted_in choices answers) (accepted_by choice answer))
+accepted-push (other ∷ choices) (reported ∷ answers) choice answer a b steps =
+    ap (λ (l : List Command). accepted_by other reported ++ l) (accepted-push choices answers choice answer steps.0 b steps.2)
+    ∙ sym (append_assoc (accepted_by other reported) (accepted_in choices answers) (accepted_by choice answer))
 
 calls-push : (choices : List Choice) (choice : Choice) → most_calls_of (choices ++ choice ∷ []) ≡ most_calls_of choices + most_calls choice
 calls-push [] choice = omega arith
@@ -46,12 +46,12 @@ kept-push m [] [] choice answer a b c of kept first step goes keeps = (
 )
 kept-push m [] (other ∷ answers) choice answer a b c of kept first step goes keeps = absurd first
 kept-push m (other ∷ choices) [] choice answer a b c of kept first step goes keeps = absurd first
-kept-push m (other ∷ choices) (told ∷ answers) choice answer a b c of kept first step goes keeps =
+kept-push m (other ∷ choices) (reported ∷ answers) choice answer a b c of kept first step goes keeps =
     let mid = first.0 in
     let one = first.1 in (
       mid,
       one,
-      kept-push (with_commands m (accepted_by other told) mid.book.durable) choices answers choice answer mid b c (of-later m (accepted_by other told) (most_calls other) a mid of one.goes_on) one.keeps.at_last
+      kept-push (with_commands m (accepted_by other reported) mid.book.durable) choices answers choice answer mid b c (of-later m (accepted_by other reported) (most_calls other) a mid of one.goes_on) one.keeps.at_last
           first.2 step goes keeps,
     )
 
@@ -84,8 +84,8 @@ ran-none s = record {
 }
 
 -- all of them were made
-pub ran-whole : (choices : List Choice) (count : ℕ) (answers : List Answer) (old new : Station) → length choices ≤ count → Ran (take count choices) answers old new → Ran choices answers old new
-ran-whole choices count answers old new all ran = subst (λ (l : List Choice). Ran l answers old new) (take_all count choices all) ran
+pub ran-entire : (choices : List Choice) (count : ℕ) (answers : List Answer) (old new : Station) → length choices ≤ count → Ran (take count choices) answers old new → Ran choices answers old new
+ran-entire choices count answers old new all ran = subst (λ (l : List Choice). Ran l answers old new) (take_all count choices all) ran
 
 -- the next of the choices was made
 pub ran-more : (choices : List Choice) (i : ℕ) (choice : Choice) (answers later : List Answer) (answer : Answer) (a b c : Station) → i < length choices → choice ≡ get_or choices i choice → later ≡ answers ++ answer ∷ []

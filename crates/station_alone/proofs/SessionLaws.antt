@@ -11,7 +11,7 @@ use Rattle.book_model.specs.declared.next.DiskNext.{DiskNext}
 use Rattle.book_model.specs.declared.next.RomNext.{RomNext}
 use Rattle.book_model.specs.declared.next.RomOutcome.{RomOutcome}
 use Rattle.book_model.specs.declared.next.RomOutcome.TheVariants as outcomes
-use Rattle.book_model.specs.Book.{Book, Doing, Resting, Payload, PayloadSync, OpenGate, OpenSync, CloseGate, CloseSync, FarGate, Mark, MarkSync, Version, VersionSync, Errand, Free, Issuing, Unsettled, Settling, slave_at, is_closed, is_version_2, contents_of}
+use Rattle.book_model.specs.Book.{Book, Doing, Resting, Payload, PayloadSync, OpenGate, OpenSync, CloseGate, CloseSync, FarGate, Mark, MarkSync, Version, VersionSync, Operation, NoOperation, Issuing, Unsettled, Settling, slave_at, is_closed, is_version_2, contents_of}
 use Rattle.book_model.specs.DiskSteps.{went_on, disk_next, disk_done}
 use Rattle.book_model.specs.RomSteps.{is_last, with_again, rom_next, rom_done}
 use Rattle.book_model.specs.Open.{migrate}
@@ -101,8 +101,8 @@ module _ (book : Book) (i : ℕ) where
   again-same word true is = rw is (same book)
   again-same word false is = rw is (same book)
 
-  back-same : (errand : Errand) (outcome : RomOutcome) → (slave_at book i).errand ≡ errand → Same book (rom_done book i outcome)
-  back-same Free outcome is = rw is (same book)
+  back-same : (operation : Operation) (outcome : RomOutcome) → (slave_at book i).operation ≡ operation → Same book (rom_done book i outcome)
+  back-same NoOperation outcome is = rw is (same book)
   back-same (Unsettled word value taken) outcome is = rw is (same book)
   back-same (Issuing word value) (outcomes.Issued how) is = rw is (same book)
   back-same (Issuing word value) (outcomes.Settled how) is = rw is (same book)
@@ -116,7 +116,7 @@ module _ (book : Book) (i : ℕ) where
   back-same (Settling word value taken) outcomes.Stopped is = rw is (same book)
 
   pub rom-done-same : (outcome : RomOutcome) → Same book (rom_done book i outcome)
-  rom-done-same outcome = back-same (slave_at book i).errand outcome refl
+  rom-done-same outcome = back-same (slave_at book i).operation outcome refl
 
 -- ---- a migration
 

@@ -23,7 +23,7 @@ use Rattle.station_alone.specs.Station.{Station, Stands}
 use Rattle.station_alone.specs.Steps.{DoesIssue, DoesSettle, Serves, done_with}
 use Rattle.station_alone.specs.Keeping.{GoesOn, Keeps}
 use Rattle.station_alone.specs.Recovery.{LeadsTo, StopsIn}
-use Rattle.station_alone.specs.Rounds.{IsWorking, StaysKept, Works, SlaveRests, ServesSlave, told, counted}
+use Rattle.station_alone.specs.Rounds.{IsWorking, StaysKept, Works, SlaveRests, ServesSlave, reported, counted}
 use Rattle.station_alone.proofs.KeepLaws.{goes-within}
 use Rattle.station_alone.proofs.RowLaws.{up-of, leads-none, leads-one, works-none}
 use Rattle.station_alone.proofs.RecoveryDiskLaws.{none-of, first-is}
@@ -38,7 +38,7 @@ of-settle (Err fault) = tt
 
 -- it was done, or the fault that it met
 abbrev Served : ℕ → RomNext → Answer → Station → Station → Type 0
-Served slave next answer old new = ServesSlave slave (counted next (told answer)) old new
+Served slave next answer old new = ServesSlave slave (counted next (reported answer)) old new
 
 module _ (old new : Station) (slave : ℕ) (working : IsWorking old) (stands : Stands new) (goes : GoesOn [] 10001 old new) (keeps : Keeps [] old new) where
   kept : (calls words : ℕ) → GetsNearer calls words old.book new.book → clock new.seen ≤ clock old.seen + calls → StaysKept old new
@@ -142,7 +142,7 @@ rests : (old : Station) (slave : ℕ) → IsWorking old → SlaveRests slave old
 rests old slave working idle = record { goes = works-none old working; few = omega arith; moves = inr (refl, idle) }
 
 pub slave-serves : (old new : Station) (slave : ℕ) (answer : Answer) (next : RomNext) → IsWorking old → slave < length old.book.slaves → Stands new → GoesOn [] 10001 old new → Keeps [] old new → (rom_next old.book slave).0 ≡ next
-    → Serves next slave old answer new → ServesSlave slave (counted next (told answer)) old new
+    → Serves next slave old answer new → ServesSlave slave (counted next (reported answer)) old new
 slave-serves old new slave answer (word.Issue w value) working within stands goes keeps is does = issue-serves old new slave working stands goes keeps w value answer is does within
 slave-serves old new slave answer (word.Settle taken) working within stands goes keeps is does = settle-serves old new slave working stands goes keeps taken answer is does within
 slave-serves old new slave answer word.Idle working within stands goes keeps is n =

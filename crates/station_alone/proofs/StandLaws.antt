@@ -36,7 +36,7 @@ up-for frame book state took some m up of = record {
   slaves = up.slaves;
   pending = up.pending;
   ordered = up.ordered;
-  behind = up.behind;
+  after = up.after;
   no_command = up.no_command;
   no_migration = up.no_migration;
 }
@@ -70,7 +70,7 @@ slave-owned s i stands within ok =
     let cells = u.3.same.slaves in
     stands.owned i (omega (arith, within, cells, length-all_cells s.book.slaves, stands.slaves))
 
--- ---- behind a step
+-- ---- after a step
 
 pub stands-with : (old new : Station) → Stands old → new.line ≡ old.line → new.book.words ≡ old.book.words → PlantFits (contents_of new.book) → IsReady new.book new.seen → Stands new
 stands-with old new stands line words fits ready = record {

@@ -45,7 +45,7 @@ use Rattle.station_alone.specs.declared.choice.Choice.TheVariants as choices
 use Rattle.station_alone.specs.declared.choice.Answer.{Answer}
 use Rattle.station_alone.specs.Station.{Station, station, Stands}
 use Rattle.station_alone.specs.Steps as steps
-use Rattle.station_alone.specs.Steps.{DoesNothing, Submits, DoesDisk, CarriesOut, StepsDisk, carried_out, DoesIssue, DoesSettle, Serves, AsksMigration, Steps, told_number, told_refusal, submitted, most_calls}
+use Rattle.station_alone.specs.Steps.{DoesNothing, Submits, DoesDisk, CarriesOut, StepsDisk, carried_out, DoesIssue, DoesSettle, Serves, AsksMigration, Steps, reported_number, reported_refusal, submitted, most_calls}
 use Rattle.station_alone.specs.Keeping.{GoesOn, KeptFor, Keeps, Went, accepted_by}
 use Rattle.station_alone.proofs.HandedLaws.{open-still, rom-open}
 use Rattle.station_alone.proofs.SessionLaws.{Same, SameOrMore, same, no-fewer, same-then, more-then, next-same, failed-same, done-same, rom-next-same, rom-done-same, asked-same}
@@ -74,8 +74,8 @@ still-goes most old new stands line s seen = record {
   keeps = keeps-while-still old new seen s.3;
 }
 
-nothing-goes : (told : Answer) (most : ℕ) (old : Station) (answer : Answer) (new : Station) → Stands old → DoesNothing told old answer new → Goes [] most old new
-nothing-goes told most old answer new stands n =
+nothing-goes : (reported : Answer) (most : ℕ) (old : Station) (answer : Answer) (new : Station) → Stands old → DoesNothing reported old answer new → Goes [] most old new
+nothing-goes reported most old answer new stands n =
     subst (λ (s : Station). Goes [] most old s) (sym n.same) (still-goes most old old stands refl (same old.book) refl)
 
 -- ---- the disk
@@ -187,12 +187,12 @@ is-answer : (book : Book) (command : Command) (number : ℕ) → IsSubmitted boo
 is-answer book command number (submitting.answered is) = sym is
 is-answer book command number (submitting.out_of_memory refused going two) = absurd refused
 
-none-told : (command : Command) (refusal : SubmitRefusal) (cause : Cause) → accepted_by (choices.Submit command) (told_refusal refusal cause) ≡ []
-none-told command refusal causes.Memory = refl
-none-told command refusal cause = refl
+none-reported : (command : Command) (refusal : SubmitRefusal) (cause : Cause) → accepted_by (choices.Submit command) (reported_refusal refusal cause) ≡ []
+none-reported command refusal causes.Memory = refl
+none-reported command refusal cause = refl
 
-none-accepted : (command : Command) (refusal : SubmitRefusal) → accepted_by (choices.Submit command) (told_number (Err refusal)) ≡ []
-none-accepted command (refusals.Command refusal) = none-told command (refusals.Command refusal) refusal.cause
+none-accepted : (command : Command) (refusal : SubmitRefusal) → accepted_by (choices.Submit command) (reported_number (Err refusal)) ≡ []
+none-accepted command (refusals.Command refusal) = none-reported command (refusals.Command refusal) refusal.cause
 none-accepted command refusal = refl
 
 station-is : (s : Station) (book : Book) (line : Line) (seen : Seen) → s.book ≡ book → s.line ≡ line → s.seen ≡ seen → s ≡ station book line seen
@@ -225,7 +225,7 @@ module _ (old : Station) (stands : Stands old) (command : Command) (fits : Comma
             };
       }
 
-submit-by : (old new : Station) (answer : Answer) (command : Command) (result : Result ℕ SubmitRefusal) → Stands old → new.line ≡ old.line → CommandFits command → IsSubmitted old.book command result → answer ≡ told_number result
+submit-by : (old new : Station) (answer : Answer) (command : Command) (result : Result ℕ SubmitRefusal) → Stands old → new.line ≡ old.line → CommandFits command → IsSubmitted old.book command result → answer ≡ reported_number result
     → new.book ≡ submitted old.book command result → new.seen ≡ old.seen → Goes (accepted_by (choices.Submit command) answer) 0 old new
 submit-by old new answer command (Ok number) stands line fits sub said book seen =
     subst (λ (a : Answer). Goes (accepted_by (choices.Submit command) a) 0 old new) (sym said)

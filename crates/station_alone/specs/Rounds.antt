@@ -31,12 +31,12 @@ use Rattle.station_alone.specs.Recovery.{Breaks, LeadsTo}
 -- ---- what a step means to a recovery
 
 -- A recovery goes on after a step, unless the step failed.
-abbrev pub told : Answer → Result (Unit {0}) OpenFault
-told (answers.Failed faults.Disk) = Err (why.Journal (read.Device device.Disk))
-told (answers.Failed faults.Stopped) = Err (why.Journal (read.Device device.Stopped))
-told (answers.Failed (faults.SlaveDead slave)) = Err (why.Slave (rom.SlaveDead slave))
-told answers.NoMemory = Err why.Memory
-told other = Ok tt
+abbrev pub reported : Answer → Result (Unit {0}) OpenFault
+reported (answers.Failed faults.Disk) = Err (why.Journal (read.Device device.Disk))
+reported (answers.Failed faults.Stopped) = Err (why.Journal (read.Device device.Stopped))
+reported (answers.Failed (faults.SlaveDead slave)) = Err (why.Slave (rom.SlaveDead slave))
+reported answers.NoMemory = Err why.Memory
+reported other = Ok tt
 
 -- The answer says that an action was carried out, or that the migration was asked for.
 abbrev pub is_did : Answer → Bool

@@ -29,8 +29,8 @@ use Rattle.station_alone.specs.declared.choice.Answer.TheVariants.{Accepted, Ref
 use Rattle.station_alone.specs.Station.{Station}
 
 -- Nothing was done, and this was the answer.
-pub record DoesNothing (told : Answer) (old : Station) (answer : Answer) (new : Station) : Type 0 where
-  pub answered : answer ≡ told
+pub record DoesNothing (reported : Answer) (old : Station) (answer : Answer) (new : Station) : Type 0 where
+  pub answered : answer ≡ reported
   pub same : new ≡ old
 
 -- The answer after an action. A book with a fault hands no action out, so the fault is the one that this action met.
@@ -41,15 +41,15 @@ done_with (Some fault) = Failed fault
 -- ---- a command
 
 -- The answer to a refused command.
-abbrev pub told_refusal : SubmitRefusal → Cause → Answer
-told_refusal refusal causes.Memory = NoMemory
-told_refusal refusal cause = Refused refusal
+abbrev pub reported_refusal : SubmitRefusal → Cause → Answer
+reported_refusal refusal causes.Memory = NoMemory
+reported_refusal refusal cause = Refused refusal
 
 -- The answer to a command: its number, its refusal, or that memory was refused.
-abbrev pub told_number : Result ℕ SubmitRefusal → Answer
-told_number (Ok number) = Accepted number
-told_number (Err (refusals.Command refusal)) = told_refusal (refusals.Command refusal) refusal.cause
-told_number (Err refusal) = Refused refusal
+abbrev pub reported_number : Result ℕ SubmitRefusal → Answer
+reported_number (Ok number) = Accepted number
+reported_number (Err (refusals.Command refusal)) = reported_refusal (refusals.Command refusal) refusal.cause
+reported_number (Err refusal) = Refused refusal
 
 -- The book once a command was answered.
 abbrev pub submitted : Book → Command → Result ℕ SubmitRefusal → Book
@@ -60,7 +60,7 @@ submitted book command (Err refusal) = book
 pub record Submits (command : Command) (old : Station) (answer : Answer) (new : Station) : Type 0 where
   pub result : Result ℕ SubmitRefusal
   pub is_submitted : IsSubmitted old.book command result
-  pub answered : answer ≡ told_number result
+  pub answered : answer ≡ reported_number result
   pub book : new.book ≡ submitted old.book command result
   pub seen : new.seen ≡ old.seen
 
@@ -74,10 +74,10 @@ pub record DoesDisk (action : DiskNext) (old : Station) (answer : Answer) (new :
   pub answered : answer ≡ done_with new.book.fault
 
 -- The answer if there is no action; None if there is one.
-abbrev pub told_at_once : DiskNext → Option Answer
-told_at_once disk.Idle = Some Idle
-told_at_once disk.Stop = Some Ended
-told_at_once action = None
+abbrev pub reported_at_once : DiskNext → Option Answer
+reported_at_once disk.Idle = Some Idle
+reported_at_once disk.Stop = Some Ended
+reported_at_once action = None
 
 -- What the book hands out for the disk is carried out.
 abbrev pub CarriesOut : DiskNext → Station → Answer → Station → Type 0

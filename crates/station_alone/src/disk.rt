@@ -1,6 +1,6 @@
 ghost use Rattle.std.specs.Prelude.{◌≡◌};
 ghost use Rattle.station_alone.specs.Station.{station, Stands};
-ghost use Rattle.station_alone.specs.Steps.{StepsDisk, done_with, told_at_once};
+ghost use Rattle.station_alone.specs.Steps.{StepsDisk, done_with, reported_at_once};
 
 use crate::choice::Answer;
 use book_core::Core;
@@ -9,8 +9,8 @@ use site_core::Site;
 use site_journal::do_action;
 
 /// The answer if there is no action for the disk; `None` if there is one.
-fn told_at_once(action: &DiskNext) -> Option<Answer>
-    ensures { result ≡ told_at_once action.now }
+fn reported_at_once(action: &DiskNext) -> Option<Answer>
+    ensures { result ≡ reported_at_once action.now }
 {
     match action {
         DiskNext::Idle => Some(Answer::Idle),
@@ -29,8 +29,8 @@ pub(crate) fn do_disk<S: Site>(core: &mut Core, site: &mut S) -> Answer
         Ok(action) => action,
         Err(CoreFault::Memory) => return Answer::NoMemory,
     };
-    if let Some(told) = told_at_once(&action) {
-        return told;
+    if let Some(reported) = reported_at_once(&action) {
+        return reported;
     }
     let result = do_action(site, &action);
     core.disk_done(result);

@@ -2,7 +2,7 @@
 
 ghost use Rattle.std.specs.Prelude.{◌≡◌, ◌<◌, length};
 ghost use Rattle.station_alone.specs.Station.{Stands};
-ghost use Rattle.station_alone.specs.Rounds.{IsWorking, ServesDisk, ServesSlave, is_did, told, words_of};
+ghost use Rattle.station_alone.specs.Rounds.{IsWorking, ServesDisk, ServesSlave, is_did, reported, words_of};
 
 use crate::{Alone, Answer, Choice, OpenFault};
 use book_model::{Fault, RomNext};
@@ -11,8 +11,8 @@ use site_core::{DeviceFault, Site};
 use site_journal::ReadFault;
 
 /// What a step's answer means to a recovery: it goes on, unless the step failed.
-fn told(answer: Answer) -> Result<(), OpenFault>
-    ensures { result ≡ told answer }
+fn reported(answer: Answer) -> Result<(), OpenFault>
+    ensures { result ≡ reported answer }
 {
     match answer {
         Answer::Failed(Fault::Disk) => Err(OpenFault::Journal(ReadFault::Device(
@@ -62,7 +62,7 @@ pub(crate) fn serve_disk<S: Site>(station: &mut Alone<S>) -> Result<(), OpenFaul
 {
     let answer = station.step(Choice::Disk);
     stand(station);
-    told(answer)
+    reported(answer)
 }
 
 /// Carries out the next action for a slave. Returns the number of issues, 1 or 0.
@@ -73,6 +73,6 @@ pub(crate) fn serve_slave<S: Site>(station: &mut Alone<S>, slave: u16) -> Result
 {
     let (next, answer) = station.serve(slave);
     stand(station);
-    told(answer)?;
+    reported(answer)?;
     Ok(words_of(next))
 }

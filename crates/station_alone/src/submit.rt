@@ -3,7 +3,7 @@ ghost use Rattle.sii_edit.specs.Fitting.{CommandFits};
 ghost use Rattle.site_core.specs.Line.{Line};
 ghost use Rattle.site_core.specs.State.{Seen};
 ghost use Rattle.station_alone.specs.Station.{station};
-ghost use Rattle.station_alone.specs.Steps.{Submits, told_number};
+ghost use Rattle.station_alone.specs.Steps.{Submits, reported_number};
 
 use crate::choice::Answer;
 use book_core::Core;
@@ -11,8 +11,8 @@ use book_model::SubmitRefusal;
 use sii_edit::{Cause, Command, Refusal, command_fits};
 
 /// The answer to a command that was submitted: its number, `NoMemory` if memory was refused, or the refusal.
-fn told_number(came: Result<u64, SubmitRefusal>) -> Answer
-    ensures { result ≡ told_number came }
+fn reported_number(came: Result<u64, SubmitRefusal>) -> Answer
+    ensures { result ≡ reported_number came }
 {
     match came {
         Ok(number) => Answer::Accepted(number),
@@ -34,5 +34,5 @@ pub(crate) fn do_submit(core: &mut Core, command: &Command) -> Answer
     ensures fits { CommandFits command.now }
 {
     command_fits(command);
-    told_number(core.submit(command))
+    reported_number(core.submit(command))
 }

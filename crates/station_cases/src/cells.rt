@@ -32,7 +32,7 @@ struct Cell {
     is_dirty: AtomicBool,
 }
 
-/// The bytes of an open file, and room behind them in which it grows.
+/// The bytes of an open file, and room after them in which it grows.
 #[derive(Drop)]
 pub struct Cells {
     cells: Vec<Cell>,

@@ -3,7 +3,7 @@
 use std::alloc::{AllocError, Global};
 use std::fmt;
 
-/// The values of this many words from an address on, each behind a space.
+/// The values of this many words from an address on, each after a space.
 #[derive(Clone, Copy)]
 struct Values<'a> {
     bytes: &'a [u8],
@@ -11,7 +11,7 @@ struct Values<'a> {
     count: usize,
 }
 
-/// The word at this address; `None` behind the end.
+/// The word at this address; `None` after the end.
 pub fn word_at(bytes: &[u8], at: usize) -> Option<u16> {
     let low = *bytes.get(at.saturating_mul(2))?;
     let high = *bytes.get(at.saturating_mul(2).saturating_add(1))?;
@@ -44,7 +44,7 @@ impl fmt::Display for Values<'_> {
 }
 
 /// The line for a run of words that change.
-fn told_run(
+fn reported_run(
     alloc: Global,
     slave: usize,
     old: &[u8],
@@ -88,7 +88,7 @@ pub fn tell_changes(
     for at in 0..old.len() / 2 {
         let is_first = at == 0 || !changes_at(old, new, at - 1);
         if is_first && changes_at(old, new, at) {
-            let line = told_run(alloc, slave, old, new, at)?;
+            let line = reported_run(alloc, slave, old, new, at)?;
             text.push_str(line.as_str())?;
         }
     }

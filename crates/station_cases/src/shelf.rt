@@ -1,6 +1,6 @@
 //! A store of files in memory, the shelf.
 ghost use Rattle.std.specs.Prelude.{◌≡◌, ◌≢◌, ℕ, List, IfOk, IfSome, OnOk, Some, length, option_map};
-ghost use Rattle.station_cases.specs.Shelf.{held_at, known_at, whole};
+ghost use Rattle.station_cases.specs.Shelf.{held_at, known_at, entire};
 
 use crate::cells::{Cells, OpenFile, Pattern};
 use crate::troubles::{Passing, Trouble, Troubles};
@@ -15,7 +15,7 @@ const ROOM: usize = 65536;
 /// The content of a file.
 #[derive(Drop)]
 pub enum Content {
-    Whole(Vec<u8>),
+    Complete(Vec<u8>),
     /// The content of a file that was opened.
     Open(Arc<Cells>),
 }
@@ -50,26 +50,26 @@ pub struct ShelfLock {}
 
 impl Content {
     fn bytes(&self, alloc: Global) -> Result<Vec<u8>, AllocError>
-        ensures { IfOk result (λ bytes. IfSome (whole self.now) (λ held. bytes.items ≡ held)) }
+        ensures { IfOk result (λ bytes. IfSome (entire self.now) (λ held. bytes.items ≡ held)) }
     {
         match self {
-            Content::Whole(bytes) => bytes.to_vec(alloc),
+            Content::Complete(bytes) => bytes.to_vec(alloc),
             Content::Open(cells) => cells.bytes(alloc),
         }
     }
 
     fn left(&self, alloc: Global, pattern: Pattern) -> Result<Vec<u8>, AllocError> {
         match self {
-            Content::Whole(bytes) => bytes.to_vec(alloc),
+            Content::Complete(bytes) => bytes.to_vec(alloc),
             Content::Open(cells) => cells.left(alloc, pattern),
         }
     }
 
     fn length(&self) -> u64
-        ensures { IfSome (whole self.now) (λ held. result ≡ length held) }
+        ensures { IfSome (entire self.now) (λ held. result ≡ length held) }
     {
         match self {
-            Content::Whole(bytes) => bytes.len() as u64,
+            Content::Complete(bytes) => bytes.len() as u64,
             Content::Open(cells) => cells.len(),
         }
     }
@@ -80,7 +80,7 @@ impl Held {
     fn left(&self, alloc: Global, pattern: Pattern) -> Result<Held, AllocError> {
         Ok(Held {
             name: self.name.clone()?,
-            content: Content::Whole(self.content.left(alloc, pattern)?),
+            content: Content::Complete(self.content.left(alloc, pattern)?),
         })
     }
 }
@@ -129,7 +129,7 @@ impl Shelf {
     {
         let held = Held {
             name: String::from_str(self.alloc, name)?,
-            content: Content::Whole(bytes.to_vec(self.alloc)?),
+            content: Content::Complete(bytes.to_vec(self.alloc)?),
         };
         self.files.insert(0, held)?;
         Ok(())

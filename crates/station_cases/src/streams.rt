@@ -6,7 +6,7 @@ use std::io;
 use std::io::{Read, Write};
 use std::sync::Mutex;
 
-/// What an input does behind its bytes.
+/// What an input does after its bytes.
 #[derive(Clone, Copy)]
 pub enum Then {
     Ends,
@@ -114,7 +114,7 @@ impl Screen {
     }
 }
 
-/// Puts bytes behind those that were written, as far as there is room; how many these are.
+/// Puts bytes after those that were written, as far as there is room; how many these are.
 fn take(written: &mut Vec<u8>, room: Room, buf: &[u8]) -> io::Result<usize>
     ensures { WritesAtMost result buf.now }
 {

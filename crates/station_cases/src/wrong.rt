@@ -10,7 +10,7 @@ use std::alloc::Global;
 use std::io;
 use toml::Value;
 
-/// What isn't as is expected behind a run; empty where all is.
+/// What isn't as is expected after a run; empty where all is.
 ///
 /// # Errors
 ///

@@ -1,4 +1,4 @@
-pub mod Apart
+pub mod Separate
 pub mod Loaded
 pub mod Saved
 pub mod ScriptFaults

@@ -7,7 +7,7 @@ use Rattle.station_files.specs.Files.{Known, HasBytes, ChangesOnly, ChangesAmong
 
 -- another file stays as it was
 stays : (old new : Known) (name other bytes : List ℕ) → ChangesOnly old new name → other ≢ name → HasBytes old other bytes → HasBytes new other bytes
-stays old new name other bytes changes apart held = let P : Option (Option (List ℕ)) → Type 0 = λ found. IfSome found (λ held. IsSomeAnd held (λ there. bytes ≡ there)) in subst P (sym (changes other apart)) held
+stays old new name other bytes changes separate held = let P : Option (Option (List ℕ)) → Type 0 = λ found. IfSome found (λ held. IsSomeAnd held (λ there. bytes ≡ there)) in subst P (sym (changes other separate)) held
 
 -- one more file is written
 pub holds_one_more : (old new : Known) (names contents : List (List ℕ)) (name bytes : List ℕ) → HoldsAll old names contents → ChangesOnly old new name → HasBytes new name bytes → HoldsAll new (names ++ name ∷ []) (contents ++ bytes ∷ [])
@@ -16,8 +16,8 @@ holds_one_more old new [] (b ∷ contents) name bytes held changes here = absurd
 holds_one_more old new (n ∷ names) [] name bytes held changes here = absurd held
 holds_one_more old new (n ∷ names) (b ∷ contents) name bytes held changes here = (
   (λ absent.
-      let apart : n ≢ name = λ same. absent (Contains-append_right names (name ∷ []) n (0, omega arith, sym same)) in
-      stays old new name n b changes apart (held.0 (λ later. absent (Contains-append_left names (name ∷ []) n later)))),
+      let separate : n ≢ name = λ same. absent (Contains-append_right names (name ∷ []) n (0, omega arith, sym same)) in
+      stays old new name n b changes separate (held.0 (λ later. absent (Contains-append_left names (name ∷ []) n later)))),
   holds_one_more old new names contents name bytes held.1 changes here,
 )
 
@@ -42,5 +42,5 @@ others_step start old new images i image name inside is_image named before chang
     let counted : i < length names = rw (length-map images (λ (n : String Global). string_bytes n)) inside in
     let there : Contains names (get_or names i (string_bytes image)) = Contains-get_or names i (string_bytes image) counted in
     let P : List ℕ → Type 0 = λ n. Contains names n in
-    let apart : other ≢ name = λ same. absent (subst P (at ∙ sym e ∙ sym same) there) in
-    changes other apart ∙ before other absent
+    let separate : other ≢ name = λ same. absent (subst P (at ∙ sym e ∙ sym same) there) in
+    changes other separate ∙ before other absent

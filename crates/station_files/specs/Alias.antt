@@ -4,7 +4,7 @@ use Rattle.std.specs.Io.KnownBytes.{Appends}
 use Rattle.sii_words.specs.CheckByte.{IsChecked}
 use Rattle.sii_words.specs.Words.{bytes_of}
 use Rattle.sii_edit.specs.Alias.{ChangesAlias}
-use Rattle.sii_edit.specs.Refusal.{whole}
+use Rattle.sii_edit.specs.Refusal.{entire}
 use Rattle.sii_edit.specs.declared.refusal.Cause.TheVariants.{BadCheck}
 use Rattle.station_files.specs.declared.faults.Failure.{Failure}
 use Rattle.station_files.specs.declared.faults.Failure.TheVariants.{Fault, Refused}
@@ -26,4 +26,4 @@ pub record Renames (hex : Bool) (value : ℕ) (input before after : Option (List
 abbrev pub RefusesAlias : Bool → List ℕ → Failure → Type 0
 RefusesAlias hex input (Fault fault) = RefusesInput hex input fault
 RefusesAlias hex input (Refused refusal) =
-    (refusal ≡ whole BadCheck) × ((words : List ℕ) × Spells hex input (bytes_of words) × ¬ IsChecked words)
+    (refusal ≡ entire BadCheck) × ((words : List ℕ) × Spells hex input (bytes_of words) × ¬ IsChecked words)

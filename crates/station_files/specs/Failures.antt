@@ -7,6 +7,6 @@ use Rattle.station_files.specs.declared.faults.Failure.{Failure}
 abbrev pub met_by : Failures → List Failure
 met_by failures = failures.met.items
 
--- the failures with one more behind them; of more than eight the last ones aren't kept
+-- the failures with one more after them; of more than eight the last ones aren't kept
 abbrev pub with_failure : List Failure → Failure → List Failure
 with_failure met failure = if nat_lt (length met) 8 then met ++ failure ∷ [] else met

@@ -6,7 +6,7 @@ use Rattle.std.specs.declared.alloc.Global.{Global}
 use Rattle.station_text.specs.declared.line_file.LineFile.{LineFile}
 use Rattle.station_files.specs.Faults.{IsOfStream}
 use Rattle.station_files.specs.LineFiles.{names_of}
-use Rattle.station_files.specs.Locations.{AreApart, IsClash, Leads}
+use Rattle.station_files.specs.Locations.{AreSeparate, IsClash, Leads}
 use Rattle.station_files.specs.declared.faults.Fault.{Fault}
 use Rattle.station_files.specs.declared.faults.Fault.TheVariants.{Exists, SameFile}
 use Rattle.station_files.specs.declared.same_files.Clash.{Clash}
@@ -24,13 +24,13 @@ listed (Some name) = name ∷ []
 abbrev pub written_of : (capture : Option (List ℕ)) → LineFile → List (List ℕ)
 written_of capture line = listed capture ++ string_bytes line.journal ∷ names_of line
 
--- the same, and behind them the line file
+-- the same, and after them the line file
 abbrev pub files_with : (capture : Option (List ℕ)) → LineFile → (line_file : List ℕ) → List (List ℕ)
 files_with capture line line_file = written_of capture line ++ line_file ∷ []
 
 -- The journal and the image files stand apart from each other and from the line file.
-abbrev pub IsLineApart : Leads → LineFile → (line_file : List ℕ) → Type 0
-IsLineApart leads line line_file = AreApart leads (length (written_of None line)) (files_with None line line_file)
+abbrev pub IsLineSeparate : Leads → LineFile → (line_file : List ℕ) → Type 0
+IsLineSeparate leads line line_file = AreSeparate leads (length (written_of None line)) (files_with None line line_file)
 
 -- the fault for two files of which one would be lost with the other: the first is a capture, which must not take the place of what is there,
 -- or any two

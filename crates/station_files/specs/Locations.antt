@@ -44,7 +44,7 @@ IsBeside one other = (one.beside ≡ other.path) ⊎ AreOne one.beside_id other.
 abbrev pub Meets : Place → Place → Type 0
 Meets one other = IsSame one other ⊎ IsBeside one other ⊎ IsBeside other one
 
--- None of the first `count` meets one behind it.
+-- None of the first `count` meets one after it.
 abbrev pub NoneMeet : (count : ℕ) → List Location → Type 0
 NoneMeet zero found = ⊤
 NoneMeet (suc count) [] = ⊤
@@ -64,15 +64,15 @@ abbrev pub OfBoth : Leads → (Place → Place → Type 0) → List ℕ → List
 OfBoth leads P one other = IfSome (leads one) (λ a. IfSome (leads other) (λ b. P a b))
 
 -- The names are not the same, and as far as it is known where they lead neither file would be lost with the other.
-pub record StandApart (leads : Leads) (one other : List ℕ) : Type 0 where
+pub record StandSeparate (leads : Leads) (one other : List ℕ) : Type 0 where
   pub names : one ≢ other
   pub places : OfBoth leads (λ a b. ¬ Meets a b) one other
 
--- The files of the first `count` names, which may be written, stand apart from each other and from the files of all names behind them.
-abbrev pub AreApart : Leads → (count : ℕ) → List (List ℕ) → Type 0
-AreApart leads zero names = ⊤
-AreApart leads (suc count) [] = ⊤
-AreApart leads (suc count) (one ∷ rest) = AllByRecursion (StandApart leads one) rest × AreApart leads count rest
+-- The files of the first `count` names, which may be written, stand apart from each other and from the files of all names after them.
+abbrev pub AreSeparate : Leads → (count : ℕ) → List (List ℕ) → Type 0
+AreSeparate leads zero names = ⊤
+AreSeparate leads (suc count) [] = ⊤
+AreSeparate leads (suc count) (one ∷ rest) = AllByRecursion (StandSeparate leads one) rest × AreSeparate leads count rest
 
 -- Of these two names the first may be written, and as far as it is known where they lead one of the files would be lost with the other.
 pub record IsClash (leads : Leads) (count : ℕ) (names : List (List ℕ)) (clash : Clash) : Type 0 where

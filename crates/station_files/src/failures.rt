@@ -8,7 +8,7 @@ use crate::faults::{ExitStatus, Failure, Fault};
 use arrayvec::ArrayVec;
 use std::io::Write;
 
-/// How many failures are kept. No subcommand has as many: its work, what is saved behind that, its report and its capture fail once each.
+/// How many failures are kept. No subcommand has as many: its work, what is saved after that, its report and its capture fail once each.
 const MOST: usize = 8;
 
 /// The failures of a subcommand, in the order in which they came. The subcommand goes on as far as it can, and they are printed at its end.

@@ -7,7 +7,7 @@ ghost use Rattle.station_files.specs.ImageText.{RefusesInput, RefusesReading, Sp
 
 use crate::faults::Fault;
 use crate::notes::{Wrong, note_image, note_input};
-use crate::printing::write_whole;
+use crate::printing::write_complete;
 use crate::reading::read_to_end;
 use crate::store::{MOST_OF_TEXT, Store, read_file};
 use sii_words::ImageFile;
@@ -110,7 +110,7 @@ pub fn write_image<W: Write>(
     ensures failed { IfErr result IsOfStream }
 {
     let text = spell_image(alloc, hex, image)?;
-    write_whole(&text, output)
+    write_complete(&text, output)
 }
 
 /// The output for an image: its bytes, or with `hex` their hexadecimal text.

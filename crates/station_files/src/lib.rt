@@ -27,10 +27,10 @@ pub use layout::image_of_line;
 pub use line::{load_line, load_slave, load_slaves};
 pub use location::{FileId, Location, name_beside};
 pub use notes::{Place, Wrong};
-pub use printing::write_whole;
+pub use printing::write_complete;
 pub use reading::{read_about, read_to_end};
 pub use reporting::report_fault;
-pub use same_files::{FileNames, keep_apart, keep_line_apart};
+pub use same_files::{FileNames, keep_line_separate, keep_separate};
 pub use saving::{prepare_files, save_slaves, write_files};
 pub use script::load_script;
 pub use store::{

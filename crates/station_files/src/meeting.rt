@@ -21,7 +21,7 @@ pub(crate) enum Role {
 /// A file: what it is, and its name.
 #[derive(Clone, Copy, Debug, Error)]
 #[error("{role} {name:?}")]
-pub(crate) struct Told<'a> {
+pub(crate) struct Reported<'a> {
     pub role: Role,
     pub name: &'a str,
 }
@@ -30,8 +30,8 @@ pub(crate) struct Told<'a> {
 #[derive(Clone, Copy, Debug, Error)]
 #[error("{one} and {other}{how}")]
 pub(crate) struct Meeting<'a> {
-    pub one: Told<'a>,
-    pub other: Told<'a>,
+    pub one: Reported<'a>,
+    pub other: Reported<'a>,
     /// How they do, as the end of a sentence.
     pub how: &'static str,
 }

@@ -11,7 +11,7 @@ use std::io::Write;
 /// # Errors
 ///
 /// `File` or `Memory`, as the output answers. Part of the bytes may be written.
-pub fn write_whole<W: Write>(bytes: &[u8], output: &mut W) -> Result<(), Fault>
+pub fn write_complete<W: Write>(bytes: &[u8], output: &mut W) -> Result<(), Fault>
     ensures written { OnOk result (Appends (W.contents output.old) (W.contents output.new) bytes.now) }
     ensures failed { IfErr result IsOfStream }
 {

@@ -3,12 +3,12 @@ ghost use Rattle.std.specs.Prelude.{◌≡◌, ◌≤◌, ◌<◌, ◌∷◌, �
 ghost use Rattle.std.specs.Prelude.{IfErr, IfOk, MatchOption, OnOk};
 ghost use Rattle.std.specs.List.{AllByRecursion, AllZip, HoldsAt};
 ghost use Rattle.station_files.specs.Faults.{IsOfStream};
-ghost use Rattle.station_files.specs.FileNames.{fault_for, files_with, listed, spelt, written_of, IsLineApart, RefusesLineNames, RefusesNames};
-ghost use Rattle.station_files.specs.Locations.{AreApart, IsClash, LeadsTo, MeetAt, Meets, NoneMeet, place_of};
+ghost use Rattle.station_files.specs.FileNames.{fault_for, files_with, listed, spelt, written_of, IsLineSeparate, RefusesLineNames, RefusesNames};
+ghost use Rattle.station_files.specs.Locations.{AreSeparate, IsClash, LeadsTo, MeetAt, Meets, NoneMeet, place_of};
 
 use crate::faults::Fault;
 use crate::location::Location;
-use crate::meeting::{Meeting, Role, Told};
+use crate::meeting::{Meeting, Reported, Role};
 use crate::notes::Place;
 use crate::store::Store;
 use station_text::LineFile;
@@ -94,23 +94,23 @@ impl FileNames {
             _ => ": one has the name that the other takes while it is replaced",
         };
         Meeting {
-            one: self.told(clash.one),
-            other: self.told(clash.other),
+            one: self.reported(clash.one),
+            other: self.reported(clash.other),
             how,
         }
     }
 
     /// The file at this place, as it is told.
-    fn told(&self, place: usize) -> Told<'_> {
+    fn reported(&self, place: usize) -> Reported<'_> {
         let role = match place.checked_sub(usize::from(self.has_capture)) {
             None => Role::Capture,
             Some(_) if place > self.written => Role::Script,
             Some(_) if place == self.written => Role::LineFile,
             Some(0) => Role::Journal,
-            Some(behind) => Role::Slave(behind - 1),
+            Some(after) => Role::Slave(after - 1),
         };
         let name = self.names.get(place).map_or("", |name| name.as_str());
-        Told { role, name }
+        Reported { role, name }
     }
 }
 
@@ -150,8 +150,8 @@ fn push_names(alloc: Global, others: &[String], names: &mut Vec<String>) -> Resu
 ///
 /// `Exists` where the first two such files are the capture and another one; `SameFile` where they are others; `File` where a name can't be
 /// followed; `Memory`.
-pub fn keep_apart<S: Store>(alloc: Global, files: &FileNames, store: &mut S) -> Result<(), Fault>
-    ensures apart { OnOk result (AreApart S.leads files.now.written (spelt files.now.names.items)) }
+pub fn keep_separate<S: Store>(alloc: Global, files: &FileNames, store: &mut S) -> Result<(), Fault>
+    ensures separate { OnOk result (AreSeparate S.leads files.now.written (spelt files.now.names.items)) }
     ensures refused { IfErr result (RefusesNames S.leads files.now.has_capture files.now.written (spelt files.now.names.items)) }
     ensures same { S.files store.new ≡ S.files store.old }
 {
@@ -178,23 +178,23 @@ fn fault_for(has_capture: bool, one: usize) -> Fault
     }
 }
 
-/// Refuses a line of which two files are the same, as `keep_apart` does: its journal and its images may be written, and its line file is read.
+/// Refuses a line of which two files are the same, as `keep_separate` does: its journal and its images may be written, and its line file is read.
 ///
 /// # Errors
 ///
 /// `SameFile`; `File` where a name can't be followed; `Memory`.
-pub fn keep_line_apart<S: Store>(
+pub fn keep_line_separate<S: Store>(
     alloc: Global,
     line: &LineFile,
     line_file: &str,
     store: &mut S,
 ) -> Result<(), Fault>
-    ensures apart { OnOk result (IsLineApart S.leads line.now line_file.now) }
+    ensures separate { OnOk result (IsLineSeparate S.leads line.now line_file.now) }
     ensures refused { IfErr result (RefusesLineNames S.leads line.now line_file.now) }
     ensures same { S.files store.new ≡ S.files store.old }
 {
     let files = FileNames::of_line(alloc, line, line_file, None)?;
-    keep_apart(alloc, &files, store)
+    keep_separate(alloc, &files, store)
 }
 
 /// Where the files of these names are.

@@ -58,13 +58,13 @@ module _ (slave : ℕ) where
   issue-half : (word value : ℕ) (issued : Issued) (old new : Seen) (half later : SlaveHalf) → BecomesIssued old slave word value new issued half later
       → HalfReturns slave (next.Issue word value) (outcomes.Issued issued) half later
   issue-half word value Taken old new half later takes =
-      record { taken = true; begun = later; begins = takes; rested = later; rests = inl refl; errand = Issuing word value; errand_is = refl; comes_back = (refl, refl) }
+      record { taken = true; begun = later; begins = takes; rested = later; rests = inl refl; operation = Issuing word value; operation_is = refl; comes_back = (refl, refl) }
   issue-half word value NotTaken old new half later rests =
-      record { taken = false; begun = later; begins = rests.0; rested = later; rests = inl refl; errand = Issuing word value; errand_is = refl; comes_back = (refl, refl) }
+      record { taken = false; begun = later; begins = rests.0; rested = later; rests = inl refl; operation = Issuing word value; operation_is = refl; comes_back = (refl, refl) }
   issue-half word value Lost old new half later lost =
       elim lost.0 [
-        | inl rests ↦ record { taken = false; begun = later; begins = rests; rested = later; rests = inl refl; errand = Issuing word value; errand_is = refl; comes_back = refl }
-        | inr takes ↦ record { taken = true; begun = later; begins = takes; rested = later; rests = inl refl; errand = Issuing word value; errand_is = refl; comes_back = refl }
+        | inl rests ↦ record { taken = false; begun = later; begins = rests; rested = later; rests = inl refl; operation = Issuing word value; operation_is = refl; comes_back = refl }
+        | inr takes ↦ record { taken = true; begun = later; begins = takes; rested = later; rests = inl refl; operation = Issuing word value; operation_is = refl; comes_back = refl }
       ]
 
   issue-returns : (word value : ℕ) (result : Result Issued DeviceFault) (old new : Seen) → IssuesWord old slave word value result new → (IsTrue new.is_stopped → ⊥)
@@ -79,13 +79,13 @@ module _ (slave : ℕ) where
   settle-half : (taken : Bool) (settled : Settled) (old new : Seen) (half later : SlaveHalf) → BecomesSettled old slave taken new settled half later
       → HalfReturns slave (next.Settle taken) (outcomes.Settled settled) half later
   settle-half true Written old new half later goes =
-      record { taken = false; begun = half; begins = refl; rested = later; rests = goes.1; errand = Settling 0 0 true; errand_is = (0, 0, refl); comes_back = (refl, goes.2, refl) }
+      record { taken = false; begun = half; begins = refl; rested = later; rests = goes.1; operation = Settling 0 0 true; operation_is = (0, 0, refl); comes_back = (refl, goes.2, refl) }
   settle-half false Written old new half later goes = let never = goes.0 in absurd cc
   settle-half taken Again old new half later goes =
       let r = rest-first half.activity half later refl goes.0 goes.1 in
-      record { taken = false; begun = half; begins = refl; rested = r.0; rests = r.1; errand = Settling 0 0 taken; errand_is = (0, 0, refl); comes_back = (r.2, r.3) }
+      record { taken = false; begun = half; begins = refl; rested = r.0; rests = r.1; operation = Settling 0 0 taken; operation_is = (0, 0, refl); comes_back = (r.2, r.3) }
   settle-half taken Dead old new half later goes =
-      record { taken = false; begun = half; begins = refl; rested = half; rests = inl refl; errand = Settling 0 0 taken; errand_is = (0, 0, refl); comes_back = MayRest-only half later goes.0 }
+      record { taken = false; begun = half; begins = refl; rested = half; rests = inl refl; operation = Settling 0 0 taken; operation_is = (0, 0, refl); comes_back = MayRest-only half later goes.0 }
 
   settle-returns : (taken : Bool) (result : Result Settled DeviceFault) (old new : Seen) → SettlesSlave old slave taken result new → (IsTrue new.is_stopped → ⊥)
       → SlaveReturns slave (next.Settle taken) (settle_outcome result) old.state new.state

@@ -150,7 +150,7 @@ module _ (job : CycleJob) (orders : List Pdu) (old mid new : Seen) (writes : All
               order = turn_order image job.outputs.items;
               sent = refl;
               exchanges = refl;
-              bytes = length-sum job.outputs.items image.outputs image.inputs job.whole;
+              bytes = length-sum job.outputs.items image.outputs image.inputs job.entire;
               zeros = ap (λ (l : List ℕ). l ++ replicate image.inputs 0) job.blank ∙ replicate-append-replicate image.outputs image.inputs 0;
             };
           };

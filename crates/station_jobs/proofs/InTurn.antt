@@ -11,8 +11,8 @@ in-turn-snoc Does [] entry old mid new same done = (new, subst (λ (s : Seen). I
 in-turn-snoc Does (first ∷ log) entry old mid new turn done = (turn.0, turn.1, in-turn-snoc Does log entry turn.0 mid new turn.2 done)
 
 -- a job that was handed out gets its outcome
-pub told-last : {J O : Type 0} (log : List (Assignment J O)) (job : J) (outcome : O)
+pub reported-last : {J O : Type 0} (log : List (Assignment J O)) (job : J) (outcome : O)
     → with_outcome (log ++ record { job = job; outcome = None } ∷ []) outcome ≡ log ++ record { job = job; outcome = Some outcome } ∷ []
-told-last [] job outcome = refl
-told-last (first ∷ []) job outcome = refl
-told-last (first ∷ next ∷ log) job outcome = ap (λ (l : List (Assignment _ _)). first ∷ l) (told-last (next ∷ log) job outcome)
+reported-last [] job outcome = refl
+reported-last (first ∷ []) job outcome = refl
+reported-last (first ∷ next ∷ log) job outcome = ap (λ (l : List (Assignment _ _)). first ∷ l) (reported-last (next ∷ log) job outcome)

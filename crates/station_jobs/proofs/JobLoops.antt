@@ -6,30 +6,30 @@ use Rattle.site_core.specs.State.{Seen}
 use Rattle.station_jobs.specs.declared.log.Assignment.{Assignment}
 use Rattle.station_jobs.specs.Dispatch.{with_outcome}
 use Rattle.station_jobs.specs.Jobs.{DoneInTurn, Led, RunsToEnd}
-use Rattle.station_jobs.proofs.InTurn.{in-turn-snoc, told-last}
+use Rattle.station_jobs.proofs.InTurn.{in-turn-snoc, reported-last}
 
 module _ {J O : Type 0} (Does : J → O → Seen → Seen → Type 0) where
   -- one more job was done, and its outcome reported
-  pub told-turn : (log : List (Assignment J O)) (job : J) (outcome : O) (old mid new : Seen) → DoneInTurn Does log old mid → Does job outcome mid new → (IsTrue new.is_stopped → ⊥)
+  pub reported-turn : (log : List (Assignment J O)) (job : J) (outcome : O) (old mid new : Seen) → DoneInTurn Does log old mid → Does job outcome mid new → (IsTrue new.is_stopped → ⊥)
       → DoneInTurn Does (with_outcome (log ++ record { job = job; outcome = None } ∷ []) outcome) old new
-  told-turn log job outcome old mid new turn does going =
-      subst (λ (l : List (Assignment J O)). DoneInTurn Does l old new) (sym (told-last log job outcome))
-      (in-turn-snoc Does log (record { job = job; outcome = Some outcome }) old mid new turn (record { outcome = outcome; told = refl; does = does; going = going }))
+  reported-turn log job outcome old mid new turn does going =
+      subst (λ (l : List (Assignment J O)). DoneInTurn Does l old new) (sym (reported-last log job outcome))
+      (in-turn-snoc Does log (record { job = job; outcome = Some outcome }) old mid new turn (record { outcome = outcome; reported = refl; does = does; going = going }))
 
   -- no job is out
   pub led-all : (log : List (Assignment J O)) (old new : Seen) → DoneInTurn Does log old new → Led Does log old new
   led-all log old new turn = record { done = log; last = []; log_is = sym (append-nil log); mid = new; in_turn = turn; ends = refl }
 
   -- the last job's outcome was reported
-  pub led-told : (log : List (Assignment J O)) (job : J) (outcome : O) (old mid new : Seen) → DoneInTurn Does log old mid → Does job outcome mid new
+  pub led-reported : (log : List (Assignment J O)) (job : J) (outcome : O) (old mid new : Seen) → DoneInTurn Does log old mid → Does job outcome mid new
       → Led Does (with_outcome (log ++ record { job = job; outcome = None } ∷ []) outcome) old new
-  led-told log job outcome old mid new turn does = record {
+  led-reported log job outcome old mid new turn does = record {
     done = log;
     last = record { job = job; outcome = Some outcome } ∷ [];
-    log_is = told-last log job outcome;
+    log_is = reported-last log job outcome;
     mid = mid;
     in_turn = turn;
-    ends = record { outcome = outcome; told = inl refl; does = does };
+    ends = record { outcome = outcome; reported = inl refl; does = does };
   }
 
   -- the dispatch has ended
@@ -42,7 +42,7 @@ module _ {J O : Type 0} (Does : J → O → Seen → Seen → Type 0) where
   runs-stopped IsStop ended held log job outcome old mid new turn does stops = record {
     done = log;
     last = record { job = job; outcome = Some outcome } ∷ [];
-    log_is = told-last log job outcome;
+    log_is = reported-last log job outcome;
     mid = mid;
     in_turn = turn;
     ends = (outcome, does, inl (refl, stops));
@@ -61,13 +61,13 @@ module _ {J O : Type 0} (Does : J → O → Seen → Seen → Type 0) where
   }
 
   -- the last job is still out
-  pub led-untold : (log : List (Assignment J O)) (job : J) (outcome : O) (old mid new : Seen) → DoneInTurn Does log old mid → Does job outcome mid new
+  pub led-unreported : (log : List (Assignment J O)) (job : J) (outcome : O) (old mid new : Seen) → DoneInTurn Does log old mid → Does job outcome mid new
       → Led Does (log ++ record { job = job; outcome = None } ∷ []) old new
-  led-untold log job outcome old mid new turn does = record {
+  led-unreported log job outcome old mid new turn does = record {
     done = log;
     last = record { job = job; outcome = None } ∷ [];
     log_is = refl;
     mid = mid;
     in_turn = turn;
-    ends = record { outcome = outcome; told = inr refl; does = does };
+    ends = record { outcome = outcome; reported = inr refl; does = does };
   }

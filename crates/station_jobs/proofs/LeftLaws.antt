@@ -20,7 +20,7 @@ module _ {J O : Type 0} (Does : J → O → Seen → Seen → Type 0) (Returns :
   came-back (first ∷ log) old new turn =
       let next : Seen = turn.0 in
       let one = turn.1 in
-      (next.state, record { outcome = one.outcome; told = one.told; returns = returns first.job one.outcome old next one.does one.going }, came-back log next new turn.2)
+      (next.state, record { outcome = one.outcome; reported = one.reported; returns = returns first.job one.outcome old next one.does one.going }, came-back log next new turn.2)
 
   -- the first job is in progress
   in-first : (first : Assignment J O) (others : List (Assignment J O)) (outcome : O) (old new : Seen) → Does first.job outcome old new → Passes (LeavesOnly (Left (first ∷ others) old.state)) old new
@@ -52,7 +52,7 @@ module _ {J O : Type 0} (Does : J → O → Seen → Seen → Type 0) (Returns :
         others = left.others;
         log_is = ap (λ (l : List (Assignment J O)). first ∷ l) left.log_is;
         mid = left.mid;
-        in_turn = (next.state, record { outcome = one.outcome; told = one.told; returns = returns first.job one.outcome old next one.does one.going }, left.in_turn);
+        in_turn = (next.state, record { outcome = one.outcome; reported = one.reported; returns = returns first.job one.outcome old next one.does one.going }, left.in_turn);
         left = left.left;
       })
       (passes-left done last next mid new turn.2 ends))

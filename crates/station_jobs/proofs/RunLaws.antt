@@ -6,7 +6,7 @@ use Rattle.std.proofs.lemmas.Bool.Decides.{eqb_tells}
 use Rattle.std.proofs.lemmas.List.{replicate_more}
 use Rattle.station_jobs.specs.declared.cycle.CycleNote.{CycleNote}
 use Rattle.station_jobs.specs.declared.cycle_notes.Run.{Run}
-use Rattle.station_jobs.specs.Runs.{AreApart, BeginsApart, expanded, is_full, spare_behind}
+use Rattle.station_jobs.specs.Runs.{AreSeparate, BeginsSeparate, expanded, is_full, spare_after}
 
 -- ---- the last run
 
@@ -24,10 +24,10 @@ full-last (one ∷ runs) last is =
     let n : suc (length runs) - 1 ≡ length runs = omega arith in
     full-at (one ∷ runs) (length runs) last refl (rw n at is)
 
-pub full-behind : (runs : List Run) (last : Run) → is_full (runs ++ last ∷ []) ≡ (last.again == 18446744073709551615)
-full-behind [] last = refl
-full-behind (one ∷ []) last = refl
-full-behind (one ∷ next ∷ runs) last = full-behind (next ∷ runs) last
+pub full-after : (runs : List Run) (last : Run) → is_full (runs ++ last ∷ []) ≡ (last.again == 18446744073709551615)
+full-after [] last = refl
+full-after (one ∷ []) last = refl
+full-after (one ∷ next ∷ runs) last = full-after (next ∷ runs) last
 
 -- ---- one more cycle
 
@@ -53,26 +53,26 @@ pub more-expanded : (runs : List Run) (note : CycleNote) → expanded (runs ++ r
 more-expanded runs note = expanded-append runs (record { note = note; again = 0 } ∷ [])
 
 -- as many of these cycles, or more
-pub apart-counted : (runs : List Run) (one other : Run) → other.note ≡ one.note → AreApart (runs ++ one ∷ []) → AreApart (runs ++ other ∷ [])
-apart-counted [] one other same all = (tt, tt)
-apart-counted (run ∷ []) one other same all = (subst (λ (n : CycleNote). n ≢ run.note) (sym same) all.0, (tt, tt))
-apart-counted (run ∷ next ∷ runs) one other same all = (all.0, apart-counted (next ∷ runs) one other same all.1)
+pub separate-counted : (runs : List Run) (one other : Run) → other.note ≡ one.note → AreSeparate (runs ++ one ∷ []) → AreSeparate (runs ++ other ∷ [])
+separate-counted [] one other same all = (tt, tt)
+separate-counted (run ∷ []) one other same all = (subst (λ (n : CycleNote). n ≢ run.note) (sym same) all.0, (tt, tt))
+separate-counted (run ∷ next ∷ runs) one other same all = (all.0, separate-counted (next ∷ runs) one other same all.1)
 
 -- other cycles
-pub apart-more : (runs : List Run) (one other : Run) → other.note ≢ one.note → AreApart (runs ++ one ∷ []) → AreApart ((runs ++ one ∷ []) ++ other ∷ [])
-apart-more [] one other apart all = (apart, (tt, tt))
-apart-more (run ∷ []) one other apart all = (all.0, (apart, (tt, tt)))
-apart-more (run ∷ next ∷ runs) one other apart all = (all.0, apart-more (next ∷ runs) one other apart all.1)
+pub separate-more : (runs : List Run) (one other : Run) → other.note ≢ one.note → AreSeparate (runs ++ one ∷ []) → AreSeparate ((runs ++ one ∷ []) ++ other ∷ [])
+separate-more [] one other separate all = (separate, (tt, tt))
+separate-more (run ∷ []) one other separate all = (all.0, (separate, (tt, tt)))
+separate-more (run ∷ next ∷ runs) one other separate all = (all.0, separate-more (next ∷ runs) one other separate all.1)
 
 -- ---- the last cycle
 
 -- the last item of these lists is that of the second
-last-behind : (front back : List CycleNote) (last : CycleNote) → slice_get back (length back - 1) ≡ Some last
+last-after : (front back : List CycleNote) (last : CycleNote) → slice_get back (length back - 1) ≡ Some last
     → slice_get (front ++ back) (length (front ++ back) - 1) ≡ Some last
-last-behind front [] last is = cc
-last-behind [] (one ∷ back) last is = is
-last-behind (first ∷ front) (one ∷ back) last is =
-    let rest = last-behind front (one ∷ back) last is in
+last-after front [] last is = cc
+last-after [] (one ∷ back) last is = is
+last-after (first ∷ front) (one ∷ back) last is =
+    let rest = last-after front (one ∷ back) last is in
     let n : length (first ∷ front ++ one ∷ back) - 1 ≡ suc (length (front ++ one ∷ back) - 1) = omega (arith, length-append front (one ∷ back)) in
     rw n rest
 
@@ -80,7 +80,7 @@ last-repeated : (note : CycleNote) (again : ℕ) → slice_get (note ∷ replica
 last-repeated note again =
     let more : again + 1 ≡ suc again = omega arith in
     subst (λ (l : List CycleNote). slice_get l (length l - 1) ≡ Some note) (replicate_more again note ∙ ap (λ (k : ℕ). replicate k note) more)
-    (last-behind (replicate again note) (note ∷ []) note refl)
+    (last-after (replicate again note) (note ∷ []) note refl)
 
 last-at : (runs : List Run) (n : ℕ) (last : Run) → length runs ≡ suc n → slice_get runs n ≡ Some last
     → slice_get (expanded runs) (length (expanded runs) - 1) ≡ Some last.note
@@ -91,7 +91,7 @@ last-at (one ∷ []) zero last count is =
 last-at (one ∷ []) (suc n) last count is = absurd (omega arith)
 last-at (one ∷ next ∷ runs) zero last count is = absurd (omega arith)
 last-at (one ∷ next ∷ runs) (suc n) last count is =
-    last-behind (one.note ∷ replicate one.again one.note) (expanded (next ∷ runs)) last.note (last-at (next ∷ runs) n last (omega arith) is)
+    last-after (one.note ∷ replicate one.again one.note) (expanded (next ∷ runs)) last.note (last-at (next ∷ runs) n last (omega arith) is)
 
 pub last-expanded : (runs : List Run) (last : Run) → slice_get runs (length runs - 1) ≡ Some last
     → slice_get (expanded runs) (length (expanded runs) - 1) ≡ Some last.note
@@ -105,29 +105,29 @@ last-expanded (one ∷ runs) last is =
 same-head : (x y : CycleNote) (xs ys : List CycleNote) → x ∷ xs ≡ y ∷ ys → (x ≡ y) × (xs ≡ ys)
 same-head x y xs ys is = (cc, cc)
 
-begins-not : (note : CycleNote) (runs : List Run) (rest : List CycleNote) → BeginsApart note runs → expanded runs ≡ note ∷ rest → ⊥
-begins-not note [] rest apart is = cc
-begins-not note (run ∷ runs) rest apart is = apart (same-head run.note note (replicate run.again run.note ++ expanded runs) rest is).0
+begins-not : (note : CycleNote) (runs : List Run) (rest : List CycleNote) → BeginsSeparate note runs → expanded runs ≡ note ∷ rest → ⊥
+begins-not note [] rest separate is = cc
+begins-not note (run ∷ runs) rest separate is = separate (same-head run.note note (replicate run.again run.note ++ expanded runs) rest is).0
 
-counted-alike : (note : CycleNote) (k l : ℕ) (ones others : List Run) → BeginsApart note ones → BeginsApart note others
+counted-alike : (note : CycleNote) (k l : ℕ) (ones others : List Run) → BeginsSeparate note ones → BeginsSeparate note others
     → replicate k note ++ expanded ones ≡ replicate l note ++ expanded others → (k ≡ l) × (expanded ones ≡ expanded others)
-counted-alike note zero zero ones others apart apart' is = (refl, is)
-counted-alike note zero (suc l) ones others apart apart' is = absurd (begins-not note ones (replicate l note ++ expanded others) apart is)
-counted-alike note (suc k) zero ones others apart apart' is = absurd (begins-not note others (replicate k note ++ expanded ones) apart' (sym is))
-counted-alike note (suc k) (suc l) ones others apart apart' is =
-    let rest = counted-alike note k l ones others apart apart'
+counted-alike note zero zero ones others separate separate' is = (refl, is)
+counted-alike note zero (suc l) ones others separate separate' is = absurd (begins-not note ones (replicate l note ++ expanded others) separate is)
+counted-alike note (suc k) zero ones others separate separate' is = absurd (begins-not note others (replicate k note ++ expanded ones) separate' (sym is))
+counted-alike note (suc k) (suc l) ones others separate separate' is =
+    let rest = counted-alike note k l ones others separate separate'
     (same-head note note (replicate k note ++ expanded ones) (replicate l note ++ expanded others) is).1 in
     (ap suc rest.0, rest.1)
 
-pub same-runs : (ones others : List Run) → AreApart ones → AreApart others → expanded ones ≡ expanded others → ones ≡ others
-same-runs [] [] apart apart' is = refl
-same-runs [] (other ∷ others) apart apart' is = cc
-same-runs (one ∷ ones) [] apart apart' is = cc
-same-runs (one ∷ ones) (other ∷ others) apart apart' is =
+pub same-runs : (ones others : List Run) → AreSeparate ones → AreSeparate others → expanded ones ≡ expanded others → ones ≡ others
+same-runs [] [] separate separate' is = refl
+same-runs [] (other ∷ others) separate separate' is = cc
+same-runs (one ∷ ones) [] separate separate' is = cc
+same-runs (one ∷ ones) (other ∷ others) separate separate' is =
     let both = same-head one.note other.note (replicate one.again one.note ++ expanded ones) (replicate other.again other.note ++ expanded others) is in
-    let alike = counted-alike one.note one.again other.again ones others apart.0 (subst (λ (n : CycleNote). BeginsApart n others) (sym both.0) apart'.0)
+    let alike = counted-alike one.note one.again other.again ones others separate.0 (subst (λ (n : CycleNote). BeginsSeparate n others) (sym both.0) separate'.0)
     (both.1 ∙ ap (λ (n : CycleNote). replicate other.again n ++ expanded others) (sym both.0)) in
-    let rest = same-runs ones others apart.1 apart'.1 alike.1 in
+    let rest = same-runs ones others separate.1 separate'.1 alike.1 in
     λ i. record { note = both.0 i; again = alike.0 i } ∷ rest i
 
 -- ---- one more cycle of the notes
@@ -152,7 +152,7 @@ unlike one other is same =
     let size = eq-eqb one.size other.size (ap (λ (n : CycleNote). n.size) (sym same)) in
     true-not-false (rw (prefix, size) at is)
 
-room-left : (runs : List Run) (left : ℕ) → 0 < spare_behind runs left → is_full runs ≡ false
+room-left : (runs : List Run) (left : ℕ) → 0 < spare_after runs left → is_full runs ≡ false
 room-left runs left room = from (is_full runs) room
   where
     from : (b : Bool) → 0 < (if b then 0 else left) → b ≡ false
@@ -160,22 +160,22 @@ room-left runs left room = from (is_full runs) room
     from false room = refl
 
 -- the last run can be counted further
-pub counts-on : (popped whole : List Run) (last : Run) (left spare : ℕ) → popped ++ last ∷ [] ≡ whole → spare_behind whole left ≡ spare → 0 < spare
+pub counts-on : (popped entire : List Run) (last : Run) (left spare : ℕ) → popped ++ last ∷ [] ≡ entire → spare_after entire left ≡ spare → 0 < spare
     → last.again ≢ 18446744073709551615
-counts-on popped whole last left spare is spared room most =
-    let free = room-left (popped ++ last ∷ []) left (rw (is, spared) room) in
-    let full : (last.again == 18446744073709551615) ≡ false = sym (full-behind popped last) ∙ free in
+counts-on popped entire last left spare is spared room most =
+    let vacant = room-left (popped ++ last ∷ []) left (rw (is, spared) room) in
+    let full : (last.again == 18446744073709551615) ≡ false = sym (full-after popped last) ∙ vacant in
     let even = eq-eqb last.again 18446744073709551615 most in
     absurd (true-not-false (sym even ∙ full))
 
-pub hand-again : (popped whole now : List Run) (last : Run) (note : CycleNote) (entries : List CycleNote) → popped ++ last ∷ [] ≡ whole → last.note ≡ note
-    → now ≡ popped ++ record { note = note; again = last.again + 1 } ∷ [] → expanded whole ≡ entries → expanded now ≡ entries ++ note ∷ []
-hand-again popped whole now last note entries is same more has =
+pub hand-again : (popped entire now : List Run) (last : Run) (note : CycleNote) (entries : List CycleNote) → popped ++ last ∷ [] ≡ entire → last.note ≡ note
+    → now ≡ popped ++ record { note = note; again = last.again + 1 } ∷ [] → expanded entire ≡ entries → expanded now ≡ entries ++ note ∷ []
+hand-again popped entire now last note entries is same more has =
     ap expanded more ∙ again-expanded popped note last.again
     ∙ ap (λ (l : List CycleNote). l ++ note ∷ [])
     (ap (λ (n : CycleNote). expanded (popped ++ record { note = n; again = last.again } ∷ [])) (sym same) ∙ ap expanded is ∙ has)
 
-pub hand-more : (popped whole mid now : List Run) (last : Run) (note : CycleNote) (entries : List CycleNote) → popped ++ last ∷ [] ≡ whole
-    → mid ≡ popped ++ last ∷ [] → now ≡ mid ++ record { note = note; again = 0 } ∷ [] → expanded whole ≡ entries → expanded now ≡ entries ++ note ∷ []
-hand-more popped whole mid now last note entries is put more has =
+pub hand-more : (popped entire mid now : List Run) (last : Run) (note : CycleNote) (entries : List CycleNote) → popped ++ last ∷ [] ≡ entire
+    → mid ≡ popped ++ last ∷ [] → now ≡ mid ++ record { note = note; again = 0 } ∷ [] → expanded entire ≡ entries → expanded now ≡ entries ++ note ∷ []
+hand-more popped entire mid now last note entries is put more has =
     ap expanded more ∙ more-expanded mid note ∙ ap (λ (l : List CycleNote). l ++ note ∷ []) (ap expanded (put ∙ is) ∙ has)

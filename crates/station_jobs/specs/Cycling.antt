@@ -100,12 +100,12 @@ EndsCycling slaves ended (final ∷ []) last old new =
 EndsCycling slaves ended jobs last old new = ⊥
 
 -- The loop did the jobs of the log, from a line that isn't configured. It ended with `ended`, or with the job in which the site stopped.
--- `told` holds of the outcomes of all these jobs, in order.
-pub record Cycles (slaves : ℕ) (ended : Type 0) (told : List CycleOutcome → Type 0) (log : List CycleNote) (old new : Seen) : Type 0 where
+-- `logged` holds of the outcomes of all these jobs, in order.
+pub record Cycles (slaves : ℕ) (ended : Type 0) (logged : List CycleOutcome → Type 0) (log : List CycleNote) (old new : Seen) : Type 0 where
   pub done : List DoneJob
   pub final : List DoneJob
   pub log_is : log ≡ map noted (done ++ final)
-  pub reported : told (map outcome_of (done ++ final))
+  pub reported : logged (map outcome_of (done ++ final))
   pub plan : Option Plan
   pub mid : Seen
   pub takes : TakesJobs slaves done None old plan mid

@@ -5,10 +5,10 @@ use Rattle.station_jobs.specs.declared.dispatch.Turn.TheVariants.{Work, Again, S
 use Rattle.station_jobs.specs.declared.log.Assignment.{Assignment}
 
 -- the log after this answer: a job that is handed out is added, and nothing else
-abbrev pub log_behind : {L J : Type 0} → (L → J → L) → L → Turn J → L
-log_behind handed log (Work job) = handed log job
-log_behind handed log Again = log
-log_behind handed log Stop = log
+abbrev pub log_after : {L J : Type 0} → (L → J → L) → L → Turn J → L
+log_after handed log (Work job) = handed log job
+log_after handed log Again = log
+log_after handed log Stop = log
 
 -- If a job is handed out, this holds of it.
 abbrev pub IfWork : {J : Type 0} → Turn J → (J → Type 0) → Type 0

@@ -12,7 +12,7 @@ use Rattle.station_jobs.specs.declared.log.Assignment.{Assignment}
 use Rattle.station_jobs.specs.Jobs.{RunsToEnd}
 use Rattle.station_jobs.specs.Left.{ServedJobs}
 
--- This is an action, and if it writes, it begins inside the disk or right behind its end.
+-- This is an action, and if it writes, it begins inside the disk or right after its end.
 abbrev pub CanBegin : DiskNext → Disk → Type 0
 CanBegin (next.Write at bytes) disk = at ≤ length disk.bytes
 CanBegin (next.Gate at closed) disk = at ≤ length disk.bytes

@@ -6,7 +6,7 @@ use Rattle.station_jobs.specs.declared.log.Assignment.{Assignment}
 -- The job was done and its outcome reported, and the site has not stopped.
 pub record IsDone {J O : Type 0} (Does : J → O → Seen → Seen → Type 0) (entry : Assignment J O) (old new : Seen) : Type 0 where
   pub outcome : O
-  pub told : entry.outcome ≡ Some outcome
+  pub reported : entry.outcome ≡ Some outcome
   pub does : Does entry.job outcome old new
   pub going : ¬ IsTrue new.is_stopped
 
@@ -18,7 +18,7 @@ DoneInTurn Does (first ∷ jobs) old new = (mid : Seen) × IsDone Does first old
 -- The last job was done. The site may have stopped in it, and its outcome may be unreported.
 pub record IsLast {J O : Type 0} (Does : J → O → Seen → Seen → Type 0) (entry : Assignment J O) (old new : Seen) : Type 0 where
   pub outcome : O
-  pub told : (entry.outcome ≡ Some outcome) ⊎ (entry.outcome ≡ None)
+  pub reported : (entry.outcome ≡ Some outcome) ⊎ (entry.outcome ≡ None)
   pub does : Does entry.job outcome old new
 
 -- There is at most one such last job.

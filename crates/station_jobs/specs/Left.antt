@@ -8,7 +8,7 @@ use Rattle.station_jobs.specs.Jobs.{Led}
 -- The job began, and returned with its outcome.
 pub record CameBack {J O : Type 0} (Returns : J → O → State → State → Type 0) (entry : Assignment J O) (old new : State) : Type 0 where
   pub outcome : O
-  pub told : entry.outcome ≡ Some outcome
+  pub reported : entry.outcome ≡ Some outcome
   pub returns : Returns entry.job outcome old new
 
 -- Each job of the log did so, one after another.

@@ -14,14 +14,14 @@ expanded [] = []
 expanded (run ∷ runs) = run.note ∷ replicate run.again run.note ++ expanded runs
 
 -- The first of these runs, if there is one, is of other cycles than this.
-abbrev pub BeginsApart : CycleNote → List Run → Type 0
-BeginsApart note [] = Unit {0}
-BeginsApart note (run ∷ runs) = run.note ≢ note
+abbrev pub BeginsSeparate : CycleNote → List Run → Type 0
+BeginsSeparate note [] = Unit {0}
+BeginsSeparate note (run ∷ runs) = run.note ≢ note
 
 -- Two runs in a row are of different cycles.
-abbrev pub AreApart : List Run → Type 0
-AreApart [] = Unit {0}
-AreApart (run ∷ runs) = BeginsApart run.note runs × AreApart runs
+abbrev pub AreSeparate : List Run → Type 0
+AreSeparate [] = Unit {0}
+AreSeparate (run ∷ runs) = BeginsSeparate run.note runs × AreSeparate runs
 
 -- The last run can't be counted any further.
 abbrev pub is_full : List Run → Bool
@@ -29,6 +29,6 @@ is_full [] = false
 is_full (last ∷ []) = last.again == 18446744073709551615
 is_full (first ∷ next ∷ runs) = is_full (next ∷ runs)
 
--- how many more cycles fit behind these runs, where memory is left for so many runs
-abbrev pub spare_behind : List Run → ℕ → ℕ
-spare_behind runs left = if is_full runs then 0 else left
+-- how many more cycles fit after these runs, where memory is left for so many runs
+abbrev pub spare_after : List Run → ℕ → ℕ
+spare_after runs left = if is_full runs then 0 else left

@@ -10,7 +10,7 @@ use Rattle.book_model.specs.declared.next.RomNext.{RomNext}
 use Rattle.book_model.specs.declared.next.RomNext.TheVariants as next
 use Rattle.book_model.specs.declared.next.RomOutcome.{RomOutcome}
 use Rattle.book_model.specs.declared.next.RomOutcome.TheVariants as outcomes
-use Rattle.book_model.specs.Book.{Errand, Issuing, Settling}
+use Rattle.book_model.specs.Book.{Operation, Issuing, Settling}
 use Rattle.book_model.specs.Steps.{MayBegin, MayComeBack}
 use Rattle.site_journal.specs.Ready.{issue_outcome, settle_outcome}
 use Rattle.station_jobs.specs.declared.log.Assignment.{Assignment}
@@ -48,11 +48,11 @@ CallsSlave slave next.Stop outcome old new = ⊥
 -- ---- the events
 
 -- The book has handed this job out. Which word is settled makes no difference to the outcomes that are possible.
-abbrev pub IsErrandOf : RomNext → Errand → Type 0
-IsErrandOf (next.Issue word value) errand = errand ≡ Issuing word value
-IsErrandOf (next.Settle taken) errand = (word : ℕ) × (value : ℕ) × (errand ≡ Settling word value taken)
-IsErrandOf next.Idle errand = ⊥
-IsErrandOf next.Stop errand = ⊥
+abbrev pub IsOperationOf : RomNext → Operation → Type 0
+IsOperationOf (next.Issue word value) operation = operation ≡ Issuing word value
+IsOperationOf (next.Settle taken) operation = (word : ℕ) × (value : ℕ) × (operation ≡ Settling word value taken)
+IsOperationOf next.Idle operation = ⊥
+IsOperationOf next.Stop operation = ⊥
 
 -- The job begins with the slave's half, the half comes to rest or stays busy, and the outcome returns.
 pub record HalfReturns (slave : ℕ) (job : RomNext) (outcome : RomOutcome) (half later : SlaveHalf) : Type 0 where
@@ -61,9 +61,9 @@ pub record HalfReturns (slave : ℕ) (job : RomNext) (outcome : RomOutcome) (hal
   pub begins : MayBegin job slave taken half begun
   pub rested : SlaveHalf
   pub rests : MayRest begun rested
-  pub errand : Errand
-  pub errand_is : IsErrandOf job errand
-  pub comes_back : MayComeBack taken errand outcome rested later
+  pub operation : Operation
+  pub operation_is : IsOperationOf job operation
+  pub comes_back : MayComeBack taken operation outcome rested later
 
 -- Only this slave's half changes, and in this way.
 abbrev pub SlaveReturns : ℕ → RomNext → RomOutcome → State → State → Type 0

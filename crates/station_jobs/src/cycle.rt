@@ -14,7 +14,7 @@ pub struct CycleJob {
     /// The outputs: a zero byte for each byte of outputs of the image. The station moves nothing that hangs on the line.
     pub outputs: ArrayVec<u8, IMAGE_BYTES>,
     /// As many output bytes as the image has.
-    pub ghost whole: { length outputs.items ≡ plan.image.outputs },
+    pub ghost entire: { length outputs.items ≡ plan.image.outputs },
     /// Each of them is zero.
     pub ghost blank: { outputs.items ≡ replicate plan.image.outputs 0 },
 }

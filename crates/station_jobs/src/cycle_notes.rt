@@ -28,16 +28,16 @@ pub struct CycleNotes {
 
 impl Model for CycleNotes {
     ghost use Rattle.std.specs.Prelude.{◌-◌, vec_len, vec_capacity};
-    ghost use Rattle.station_jobs.specs.Runs.{CyclesNoted, AreApart, expanded, spare_behind};
+    ghost use Rattle.station_jobs.specs.Runs.{CyclesNoted, AreSeparate, expanded, spare_after};
 
     ghost Value = { CyclesNoted };
 
     ghost view = { λ notes. record {
       entries = expanded notes.runs.items;
-      spare = spare_behind notes.runs.items (vec_capacity notes.runs - vec_len notes.runs);
+      spare = spare_after notes.runs.items (vec_capacity notes.runs - vec_len notes.runs);
     } };
 
-    ghost invariant = { λ notes. AreApart notes.runs.items };
+    ghost invariant = { λ notes. AreSeparate notes.runs.items };
 }
 
 impl CycleNotes {

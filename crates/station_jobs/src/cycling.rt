@@ -74,7 +74,7 @@ pub fn cycle_loop<S: Site, D: Dispatch<CycleLog>, R: Wait>(
     requires fresh { D.log dispatch ≡ [] }
     ensures start { result.start ≡ site }
     ensures cycles { Cycles (length (S.line site).sizes) (D.has_ended dispatch)
-        (λ outcomes. D.has_job dispatch ≡ false → D.are_told dispatch outcomes) result.log (S.seen site) (S.seen result.site) }
+        (λ outcomes. D.has_job dispatch ≡ false → D.are_reported dispatch outcomes) result.log (S.seen site) (S.seen result.site) }
 {
     let start = Snapshot::of(&site);
     let mut last = None;

@@ -1,7 +1,7 @@
 //! The source of a thread's jobs.
 
 ghost use Rattle.std.specs.Prelude.{◌≡◌, Bool, IsTrue, false, List, [], ◌∷◌};
-ghost use Rattle.station_jobs.specs.Dispatch.{log_behind, IfWork, IfStop};
+ghost use Rattle.station_jobs.specs.Dispatch.{log_after, IfWork, IfStop};
 ghost use Rattle.station_jobs.specs.Telling.{IfNoWork};
 
 use crate::log::Log;
@@ -35,31 +35,31 @@ pub trait Dispatch<L: Log>: Send {
     ghost has_ended: { Self → Type 0 };
 
     /// What is known once these outcomes, in order, are reported from now on, each before the next job is asked for, and no others.
-    ghost are_told: { Self → List L.Outcome → Type 0 };
+    ghost are_reported: { Self → List L.Outcome → Type 0 };
 
     /// Asks for the next job, and may wait for one. If memory is refused for the job or for its entry in the log, the answer is
     /// `Again` and nothing is handed out.
     fn next<R: Wait>(&mut self, rt: &R) -> Turn<L::Job>
-        ensures log { log self.new ≡ log_behind L.handed (log self.old) result }
+        ensures log { log self.new ≡ log_after L.handed (log self.old) result }
         ensures out { IfWork result (λ job. IsTrue (has_job self.new)) }
         ensures no_job { IfNoWork result (has_job self.new ≡ has_job self.old) }
         ensures may { IfWork result (λ job. may_hand self.old job) }
         ensures no_more { (job : L.Job) → may_hand self.new job → may_hand self.old job }
         ensures stop { IfStop result (has_ended self.old) }
         ensures no_end { has_ended self.new → has_ended self.old }
-        ensures told { has_job self.old ≡ false → (outcomes : List L.Outcome) → are_told self.new outcomes → are_told self.old outcomes };
+        ensures reported { has_job self.old ≡ false → (outcomes : List L.Outcome) → are_reported self.new outcomes → are_reported self.old outcomes };
 
     /// Reports the outcome of the job that is out. There has to be one, and none is out afterwards.
     fn done<R: Wait>(&mut self, rt: &R, outcome: L::Outcome)
         requires { IsTrue (has_job self.old) }
-        ensures log { log self.new ≡ L.told (log self.old) outcome }
+        ensures log { log self.new ≡ L.reported (log self.old) outcome }
         ensures out { has_job self.new ≡ false }
         ensures no_more { (job : L.Job) → may_hand self.new job → may_hand self.old job }
         ensures no_end { has_ended self.new → has_ended self.old }
-        ensures told { (later : List L.Outcome) → are_told self.new later → are_told self.old (outcome ∷ later) };
+        ensures reported { (later : List L.Outcome) → are_reported self.new later → are_reported self.old (outcome ∷ later) };
 
     /// Gives the log, once no more jobs are wanted.
     fn into_log(self) -> L
         ensures log { result ≡ log self }
-        ensures told { has_job self ≡ false → are_told self [] };
+        ensures reported { has_job self ≡ false → are_reported self [] };
 }

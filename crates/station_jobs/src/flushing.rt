@@ -25,7 +25,7 @@ fn act<S: Site>(site: &mut S, action: DiskNext) -> Result<(), DeviceFault>
 /// Does the disk actions that the dispatch hands out, one after another, until the dispatch answers `Stop` or the site has stopped.
 ///
 /// It reports each outcome to the dispatch, and asks again after `Again`. The site has to own the disk. The dispatch must have handed out
-/// nothing yet, and may hand out only actions that begin inside the disk or right behind its end.
+/// nothing yet, and may hand out only actions that begin inside the disk or right after its end.
 pub fn flush<S: Site, D: Dispatch<DiskLog>, R: Wait>(
     rt: &R,
     mut site: S,

@@ -30,7 +30,7 @@ pub trait Log {
     ghost handed: { Self → Self.Job → Self };
 
     /// The log once this outcome of the last job is reported.
-    ghost told: { Self → Self.Outcome → Self };
+    ghost reported: { Self → Self.Outcome → Self };
 }
 
 /// The disk's actions, each with its outcome.
@@ -43,7 +43,7 @@ impl Log for DiskLog {
 
     ghost handed = { λ log job. log ++ record { job = job; outcome = None } ∷ [] };
 
-    ghost told = { with_outcome };
+    ghost reported = { with_outcome };
 }
 
 /// The issues and settles of one slave, each with its outcome.
@@ -56,7 +56,7 @@ impl Log for RomLog {
 
     ghost handed = { λ log job. log ++ record { job = job; outcome = None } ∷ [] };
 
-    ghost told = { with_outcome };
+    ghost reported = { with_outcome };
 }
 
 impl Log for CycleLog {
@@ -66,7 +66,7 @@ impl Log for CycleLog {
 
     ghost handed = { λ log job. log ++ record { prefix = job.plan.prefix; size = job.plan.image.outputs + job.plan.image.inputs } ∷ [] };
 
-    ghost told = { λ log outcome. log };
+    ghost reported = { λ log outcome. log };
 }
 
 /// The log of one slave's jobs, with the slave's number.

@@ -98,6 +98,6 @@ breaks_on why.Memory opened last breaks = leads opened last breaks.leads
 pub fails_on : (line : Line) (old : Seen) (fault : OpenFault) (later : Line) (new : Seen) → FailsToRecover line old fault later new → Follows old new
 fails_on line old fault later new (inl unopened) = unopened.quiet.follows
 fails_on line old fault later new (inr cut) =
-    let behind : Follows old cut.last.seen =
+    let after : Follows old cut.last.seen =
     Follows-then old cut.opened.seen cut.last.seen cut.opens.1.quiet.follows (breaks_on fault cut.opened cut.last cut.breaks) in
-    subst (λ (s : Seen). Follows old s) cut.is behind
+    subst (λ (s : Seen). Follows old s) cut.is after

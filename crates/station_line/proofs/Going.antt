@@ -20,8 +20,8 @@ goes_then a b c one two = record {
   goes_on = Follows-then a b c one.goes_on two.goes_on;
   keeps = λ machine kept.
       let before = one.keeps machine kept in
-      let behind = two.keeps machine before.passes.now in
-      Passes-stays (KeptFor machine) a c (Passes-then (LeavesOnly (KeptFor machine)) a b c before.passes behind.passes);
+      let after = two.keeps machine before.passes.now in
+      Passes-stays (KeptFor machine) a c (Passes-then (LeavesOnly (KeptFor machine)) a b c before.passes after.passes);
 }
 
 -- what an open or a recovery ends with

@@ -1,5 +1,5 @@
 pub mod Formatted
-pub mod Judged
+pub mod Validated
 pub mod Refused
 pub mod Saved
 pub mod SwitchedOn

@@ -42,8 +42,8 @@ pub as-many : (old new : Line) (count : ℕ) → new ≡ old → length old.size
 as-many old new count same is = ap (λ (l : Line). length l.sizes) same ∙ is
 
 -- the station was opened after a recovery
-pub starts-behind : (was_old : Bool) (site : SiteValue) (its : Line) (left : Seen) (s : Station) → was_old ≡ true → IsMigrated site.seen its left → IsOpened its left s → StartsFrom was_old site s
-starts-behind was_old site its left s old migrated opens = subst (λ (b : Bool). StartsFrom b site s) (sym old) (record {
+pub starts-after : (was_old : Bool) (site : SiteValue) (its : Line) (left : Seen) (s : Station) → was_old ≡ true → IsMigrated site.seen its left → IsOpened its left s → StartsFrom was_old site s
+starts-after was_old site its left s old migrated opens = subst (λ (b : Bool). StartsFrom b site s) (sym old) (record {
   r = migrated.r;
   recovered = migrated.recovered;
   begins = migrated.begins;
@@ -52,7 +52,7 @@ starts-behind was_old site its left s old migrated opens = subst (λ (b : Bool).
 
 pub starts-migrated : (was_old : Bool) (site left : SiteValue) (result : Result Station (SiteValue × OpenFault)) → was_old ≡ true → IsMigrated site.seen left.line left.seen
     → IfOk result (λ s. Opens left.line left.seen s) → IfOk result (λ s. BeginsSession left.seen s) → IfOk result (λ s. StartsFrom was_old site s)
-starts-migrated was_old site left (Ok s) old migrated opens begins = starts-behind was_old site left.line left.seen s old migrated (record { opens = opens; begins = begins })
+starts-migrated was_old site left (Ok s) old migrated opens begins = starts-after was_old site left.line left.seen s old migrated (record { opens = opens; begins = begins })
 starts-migrated was_old site left (Err e) old migrated opens begins = tt
 
 -- of which version the journal is

@@ -11,7 +11,7 @@ use Rattle.station_alone.specs.declared.choice.Choice.TheVariants.{Submit}
 use Rattle.station_alone.specs.declared.choice.Answer.{Answer}
 use Rattle.station_alone.specs.declared.choice.Answer.TheVariants.{Accepted, Refused, Did, Idle, Ended, Failed, NoMemory}
 use Rattle.station_alone.specs.Station.{Station}
-use Rattle.station_alone.specs.Steps.{told_number, told_refusal}
+use Rattle.station_alone.specs.Steps.{reported_number, reported_refusal}
 use Rattle.station_alone.specs.Keeping.{Went, accepted_by}
 use Rattle.station_files.specs.declared.faults.Fault.{Fault}
 use Rattle.station_files.specs.declared.faults.ExitStatus.{ExitStatus}
@@ -65,32 +65,32 @@ among-by command (Failed fault) = inr refl
 among-by command NoMemory = inr refl
 
 -- the answer to a command that was submitted
-told-cause : (refusal : SubmitRefusal) (cause : Cause) → AnswersCommand (told_refusal refusal cause)
-told-cause refusal (causes.BadCategory kind) = tt
-told-cause refusal causes.NoRoom = tt
-told-cause refusal causes.NoSlave = tt
-told-cause refusal causes.SameSlave = tt
-told-cause refusal causes.EmptyGroup = tt
-told-cause refusal causes.GroupTooLong = tt
-told-cause refusal causes.ImageTooLong = tt
-told-cause refusal causes.BadCheck = tt
-told-cause refusal causes.NoSuchCategory = tt
-told-cause refusal causes.SeveralCategories = tt
-told-cause refusal causes.BadChain = tt
-told-cause refusal causes.ImageOverLimit = tt
-told-cause refusal causes.Memory = tt
-told-cause refusal causes.WrongIdentity = tt
+reported-cause : (refusal : SubmitRefusal) (cause : Cause) → AnswersCommand (reported_refusal refusal cause)
+reported-cause refusal (causes.BadCategory kind) = tt
+reported-cause refusal causes.NoRoom = tt
+reported-cause refusal causes.NoSlave = tt
+reported-cause refusal causes.SameSlave = tt
+reported-cause refusal causes.EmptyGroup = tt
+reported-cause refusal causes.GroupTooLong = tt
+reported-cause refusal causes.ImageTooLong = tt
+reported-cause refusal causes.BadCheck = tt
+reported-cause refusal causes.NoSuchCategory = tt
+reported-cause refusal causes.SeveralCategories = tt
+reported-cause refusal causes.BadChain = tt
+reported-cause refusal causes.ImageOverLimit = tt
+reported-cause refusal causes.Memory = tt
+reported-cause refusal causes.WrongIdentity = tt
 
-told-number : (result : Result ℕ SubmitRefusal) → AnswersCommand (told_number result)
-told-number (Ok number) = tt
-told-number (Err (refusals.Command refusal)) = told-cause (refusals.Command refusal) refusal.cause
-told-number (Err refusals.TooLarge) = tt
-told-number (Err refusals.Full) = tt
-told-number (Err refusals.Closed) = tt
-told-number (Err refusals.OldJournal) = tt
+reported-number : (result : Result ℕ SubmitRefusal) → AnswersCommand (reported_number result)
+reported-number (Ok number) = tt
+reported-number (Err (refusals.Command refusal)) = reported-cause (refusals.Command refusal) refusal.cause
+reported-number (Err refusals.TooLarge) = tt
+reported-number (Err refusals.Full) = tt
+reported-number (Err refusals.Closed) = tt
+reported-number (Err refusals.OldJournal) = tt
 
 pub answers-command : (command : Command) (answer : Answer) (old new : Station) → Went (Submit command) old answer new → AnswersCommand answer
-answers-command command answer old new went = subst AnswersCommand (sym went.steps.answered) (told-number went.steps.result)
+answers-command command answer old new went = subst AnswersCommand (sym went.steps.answered) (reported-number went.steps.result)
 
 pub goes-went : (command : Command) (answer : Answer) (old new : Station) → Went (Submit command) old answer new → Goes (accepted_by (Submit command) answer) old new
 goes-went command answer old new went = goes-by (accepted_by (Submit command) answer) 0 old new went.goes_on

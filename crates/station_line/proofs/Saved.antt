@@ -17,5 +17,5 @@ holds_line_ok (Err fault) mid new journal bytes names contents here changes held
 -- no other file changes
 pub changes_line : (old mid new : Known) (journal : List ℕ) (names : List (List ℕ)) → ChangesOnly old mid journal → ChangesAmong mid new names → ChangesAmong old new (journal ∷ names)
 changes_line old mid new journal names first then = λ other absent.
-    let apart : other ≢ journal = λ same. absent (Contains-append_left (journal ∷ []) names other (0, omega arith, sym same)) in
-    then other (λ there. absent (Contains-append_right (journal ∷ []) names other there)) ∙ first other apart
+    let separate : other ≢ journal = λ same. absent (Contains-append_left (journal ∷ []) names other (0, omega arith, sym same)) in
+    then other (λ there. absent (Contains-append_right (journal ∷ []) names other there)) ∙ first other separate

@@ -10,7 +10,7 @@ use Rattle.esc_model.specs.SlaveHalf.{SlaveHalf, powered_up}
 use Rattle.site_core.specs.State.{Seen, word_counts}
 use Rattle.esc_rom.specs.Owned.{OwnsAll}
 use Rattle.site_shadow.specs.Line.{half_of, halves_of, owned}
-use Rattle.site_shadow.specs.Site.{IsWhole, SiteValue, value_of}
+use Rattle.site_shadow.specs.Site.{IsComplete, SiteValue, value_of}
 use Rattle.site_shadow.specs.Unsynced.{of_bytes}
 use Rattle.station_line.specs.Site.{powered_up_from, IsSiteOf}
 
@@ -67,8 +67,8 @@ owned-at (n ∷ sizes) (suc slave) all below = owned-at sizes slave all.1 (omega
 pub counted : (halves : List SlaveHalf) (slaves : List (List ℕ)) (sizes : List ℕ) → halves ≡ powered_up_from 4097 slaves → sizes ≡ map length slaves → word_counts halves ≡ sizes
 counted halves slaves sizes on sized = ap word_counts on ∙ with_counts 4097 slaves ∙ sym sized
 
-pub is_whole : (sizes counts : List ℕ) (slaves : List (List ℕ)) → sizes ≡ map length slaves → 1 ≤ length slaves → length slaves ≤ 64 → AllByRecursion IsDeviceSize sizes → counts ≡ sizes → IsWhole sizes counts None
-is_whole sizes counts slaves sized some most devices same =
+pub is_complete : (sizes counts : List ℕ) (slaves : List (List ℕ)) → sizes ≡ map length slaves → 1 ≤ length slaves → length slaves ≤ 64 → AllByRecursion IsDeviceSize sizes → counts ≡ sizes → IsComplete sizes counts None
+is_complete sizes counts slaves sized some most devices same =
     let many : length sizes ≡ length slaves = ap length sized ∙ length-map slaves length in
     let P : List ℕ → Type 0 = λ held. (slave count : ℕ) → slice_get held slave ≡ Some count → 0 < count → count ≡ slice_index sizes slave in
     record {

@@ -4,6 +4,6 @@ pub mod Faults
 pub mod Init
 pub mod Opened
 pub mod OpenFiles
-pub mod Judging
+pub mod Validating
 pub mod Refusals
 pub mod Rounds

@@ -35,7 +35,7 @@ pub fn fault_of_book(fault: BookFault) -> Fault
     }
 }
 
-/// Takes the answers to the commands of a script, in order, and behind them the totals. Each writer takes them as lines of text.
+/// Takes the answers to the commands of a script, in order, and after them the totals. Each writer takes them as lines of text.
 pub trait Answers {
     ghost use Rattle.std.specs.Prelude.{IfErr};
     ghost use Rattle.station_files.specs.Faults.{IsOfStream};

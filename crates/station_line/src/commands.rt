@@ -13,7 +13,7 @@ use station_files::{ExitStatus, Fault, Refused, worse};
 use station_listing::Code;
 
 /// Submits the commands in order to a station of `slaves` slaves, tells the answer to each, serves them in rounds, and tells the totals,
-/// also behind a fault. A refusal raises the status. A command is dropped once it is answered.
+/// also after a fault. A refusal raises the status. A command is dropped once it is answered.
 ///
 /// # Errors
 ///

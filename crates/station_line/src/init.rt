@@ -2,7 +2,7 @@
 ghost use Rattle.std.specs.Prelude.{◌≡◌, length, vec_len, IfErr, IfOk, OnOk, ⊤};
 ghost use Rattle.station_files.specs.Faults.{IsOfStream};
 ghost use Rattle.station_files.specs.Files.{ChangesAmong};
-ghost use Rattle.station_files.specs.FileNames.{IsLineApart};
+ghost use Rattle.station_files.specs.FileNames.{IsLineSeparate};
 ghost use Rattle.station_line.specs.Init.{Formats, HoldsEmpty, IsOfFormatting, IsUnformatted, RefusesInit, RefusesUnformatted};
 ghost use Rattle.station_line.specs.Site.{files_of};
 
@@ -11,7 +11,9 @@ use crate::site::{save_site, site_of};
 use sii_words::Words;
 use site_journal::format;
 use site_mem::FaultPlan;
-use station_files::{Entry, Fault, Place, Store, Wrong, keep_line_apart, load_line, load_slaves};
+use station_files::{
+    Entry, Fault, Place, Store, Wrong, keep_line_separate, load_line, load_slaves,
+};
 use station_listing::Code;
 use station_text::LineFile;
 use std::alloc::Global;
@@ -29,7 +31,7 @@ struct Unformatted {
 ///
 /// # Errors
 ///
-/// As for `load_line` and `load_slaves`; then as for `keep_line_apart`; `File` where the store can't tell whether the journal's file exists;
+/// As for `load_line` and `load_slaves`; then as for `keep_line_separate`; `File` where the store can't tell whether the journal's file exists;
 /// `Exists` where it does. Nothing is written up to there. Then `Disk` or `Stopped`, as the disk in memory answers; the files are saved
 /// nevertheless. Then `File` or `Memory`, where a file can't be written or the output fails.
 pub fn init_line<S: Store, W: Write>(
@@ -64,13 +66,13 @@ fn load_unformatted<S: Store>(
 ) -> Result<Unformatted, Fault>
     ensures given { IfOk result (λ given. IsUnformatted (S.files store.old) name.now given.line given.slaves.items) }
     ensures count { IfOk result (λ given. vec_len given.slaves ≡ vec_len given.line.images) }
-    ensures apart { IfOk result (λ given. IsLineApart S.leads given.line name.now) }
+    ensures separate { IfOk result (λ given. IsLineSeparate S.leads given.line name.now) }
     ensures refused { IfErr result (RefusesUnformatted (S.files store.old) S.leads name.now) }
     ensures same { S.files store.new ≡ S.files store.old }
 {
     let line = load_line(alloc, name, store)?;
     let slaves = load_slaves(alloc, &line, store)?;
-    keep_line_apart(alloc, &line, name, store)?;
+    keep_line_separate(alloc, &line, name, store)?;
     match store.look(line.journal.as_str())? {
         Entry::Absent => Ok(Unformatted { line, slaves }),
         _ => {

@@ -2,20 +2,20 @@
 ghost use Rattle.std.specs.Prelude.{◌≡◌, ◌∷◌, ◌++◌, [], IfErr, IfOk, OnOk};
 ghost use Rattle.station_files.specs.ScriptFiles.{SpellsCommands};
 ghost use Rattle.station_files.specs.FileNames.{spelt};
-ghost use Rattle.station_files.specs.Locations.{AreApart};
-ghost use Rattle.station_line.specs.Judging.{HasJournal, IsRunApart};
+ghost use Rattle.station_files.specs.Locations.{AreSeparate};
+ghost use Rattle.station_line.specs.Validating.{HasJournal, IsRunSeparate};
 ghost use Rattle.station_line.specs.Opened.{is_old, Loads};
 ghost use Rattle.station_line.specs.Refusals.{RefusesCommandFiles, RefusesRun};
 
 use crate::faults::of_journal;
 use crate::session::{Session, load_session};
 use sii_edit::Command;
-use station_files::{Fault, FileNames, Store, keep_apart, load_script};
+use station_files::{Fault, FileNames, Store, keep_separate, load_script};
 use std::alloc::Global;
 
 /// What was read for a run.
 #[derive(Drop)]
-pub struct Given<L> {
+pub struct LoadedLine<L> {
     /// The line.
     pub session: Session<L>,
     /// The commands of the script, in order.
@@ -27,19 +27,19 @@ pub struct Given<L> {
 ///
 /// # Errors
 ///
-/// As for `load_session`, then as for `load_script` and `keep_apart`; then `NotAJournal`, `BadVersion`, `WrongLine` or `BadJournal`
+/// As for `load_session`, then as for `load_script` and `keep_separate`; then `NotAJournal`, `BadVersion`, `WrongLine` or `BadJournal`
 /// where the journal is refused.
 pub fn load<S: Store>(
     alloc: Global,
     name: &str,
     script: &str,
     store: &mut S,
-) -> Result<Given<S::Lock>, Fault>
+) -> Result<LoadedLine<S::Lock>, Fault>
     ensures loaded { IfOk result (λ given. Loads (S.files store.old) name.now given.session.line given.session.site) }
     ensures old { IfOk result (λ given. given.session.is_old ≡ is_old given.session.site.seen.state.disk.bytes) }
     ensures journal { IfOk result (λ given. HasJournal given.session.site.line.sizes given.session.site.seen.state.disk.bytes) }
     ensures spelt { IfOk result (λ given. SpellsCommands (S.files store.old) script.now given.commands.items) }
-    ensures apart { IfOk result (λ given. IsRunApart S.leads given.session.line name.now script.now) }
+    ensures separate { IfOk result (λ given. IsRunSeparate S.leads given.session.line name.now script.now) }
     ensures refused { IfErr result (RefusesRun (S.files store.old) S.leads name.now script.now) }
     ensures same { S.files store.new ≡ S.files store.old }
 {
@@ -51,7 +51,7 @@ pub fn load<S: Store>(
     };
     match load_commands(alloc, script, files, store) {
         Ok(commands) => match refusal {
-            None => Ok(Given { session, commands }),
+            None => Ok(LoadedLine { session, commands }),
             Some(fault) => {
                 drop(session);
                 drop(commands);
@@ -69,7 +69,7 @@ pub fn load<S: Store>(
 ///
 /// # Errors
 ///
-/// As for `load_script`, then as for `keep_apart`.
+/// As for `load_script`, then as for `keep_separate`.
 fn load_commands<S: Store>(
     alloc: Global,
     script: &str,
@@ -77,14 +77,14 @@ fn load_commands<S: Store>(
     store: &mut S,
 ) -> Result<Vec<Command>, Fault>
     ensures spelt { IfOk result (λ commands. SpellsCommands (S.files store.old) script.now commands.items) }
-    ensures apart { OnOk result (AreApart S.leads files.written (spelt files.names.items ++ script.now ∷ [])) }
+    ensures separate { OnOk result (AreSeparate S.leads files.written (spelt files.names.items ++ script.now ∷ [])) }
     ensures refused { IfErr result (RefusesCommandFiles (S.files store.old) S.leads files.has_capture files.written (spelt files.names.items)
         script.now) }
     ensures same { S.files store.new ≡ S.files store.old }
 {
     let commands = load_script(alloc, script, store)?;
     let all = files.with_script(alloc, script)?;
-    match keep_apart(alloc, &all, store) {
+    match keep_separate(alloc, &all, store) {
         Ok(()) => Ok(commands),
         Err(fault) => {
             drop(commands);

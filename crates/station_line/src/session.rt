@@ -1,17 +1,17 @@
 //! Reads a line and its journal from their files.
 ghost use Rattle.std.specs.Prelude.{◌≡◌, IfErr, IfOk};
-ghost use Rattle.station_files.specs.FileNames.{IsLineApart};
-ghost use Rattle.station_line.specs.Judging.{IsJudged};
+ghost use Rattle.station_files.specs.FileNames.{IsLineSeparate};
+ghost use Rattle.station_line.specs.Validating.{IsValidated};
 ghost use Rattle.station_line.specs.Refusals.{RefusesSession};
 ghost use Rattle.station_line.specs.Opened.{is_old, Loads};
 
-use crate::judging::refusal_of;
 use crate::site::site_of;
+use crate::validating::refusal_of;
 use jrn_format::{JournalFault, version};
 use site_mem::FaultPlan;
 use site_shadow::ShadowSite;
 use station_files::{
-    Fault, MOST_OF_JOURNAL, Store, keep_line_apart, load_line, load_slaves, read_file,
+    Fault, MOST_OF_JOURNAL, Store, keep_line_separate, load_line, load_slaves, read_file,
 };
 use station_text::LineFile;
 use std::alloc::Global;
@@ -37,7 +37,7 @@ pub struct Session<L> {
 /// # Errors
 ///
 /// As for `load_line`; `Busy` where another station has locked the journal, `File` where the system can't lock it; as for `load_slaves`;
-/// as for `read_file` of the journal; then as for `keep_line_apart`. `Memory` may come at any point.
+/// as for `read_file` of the journal; then as for `keep_line_separate`. `Memory` may come at any point.
 pub fn load_session<S: Store>(
     alloc: Global,
     name: &str,
@@ -45,8 +45,8 @@ pub fn load_session<S: Store>(
 ) -> Result<Session<S::Lock>, Fault>
     ensures loaded { IfOk result (λ session. Loads (S.files store.old) name.now session.line session.site) }
     ensures old { IfOk result (λ session. session.is_old ≡ is_old session.site.seen.state.disk.bytes) }
-    ensures apart { IfOk result (λ session. IsLineApart S.leads session.line name.now) }
-    ensures judged { IfOk result (λ session. IsJudged session.site session.refusal) }
+    ensures separate { IfOk result (λ session. IsLineSeparate S.leads session.line name.now) }
+    ensures validated { IfOk result (λ session. IsValidated session.site session.refusal) }
     ensures refused { IfErr result (RefusesSession (S.files store.old) S.leads name.now) }
     ensures same { S.files store.new ≡ S.files store.old }
 {
@@ -57,7 +57,7 @@ pub fn load_session<S: Store>(
     let Some(lock) = lock else {
         return Err(Fault::File);
     };
-    keep_line_apart(alloc, &line, name, store)?;
+    keep_line_separate(alloc, &line, name, store)?;
     let is_old = is_old(&journal);
     let refusal = refusal_of(alloc, line.journal.as_str(), &journal, &slaves, store)?;
     let site = site_of(alloc, &slaves, journal, FaultPlan::none())?;

@@ -15,7 +15,7 @@ use Rattle.station_listing.specs.declared.listing.CheckByte.{CheckByte}
 use Rattle.station_listing.specs.declared.listing.CheckByte.TheVariants.{Right, Wrong}
 use Rattle.station_listing.specs.declared.listing.ListedCategory.{ListedCategory}
 use Rattle.station_listing.specs.declared.listing.ListedChain.{ListedChain}
-use Rattle.station_listing.specs.declared.listing.ListedChain.TheVariants.{Whole, RunsOut}
+use Rattle.station_listing.specs.declared.listing.ListedChain.TheVariants.{Complete, RunsOut}
 use Rattle.station_listing.specs.declared.listing.Listing.{Listing}
 
 -- the bytes of these words spell this number of items
@@ -47,7 +47,7 @@ pub record SaysMember (member : Member) (listed : ListedCategory) : Type 0 where
 
 -- this is the listing of the chain: its categories, or the header from which on it can't be read
 abbrev pub SaysChain : List ℕ → ListedChain → Type 0
-SaysChain words (Whole listed) = (members : List Member) × IsChain words members × AllZip SaysMember members listed.items
+SaysChain words (Complete listed) = (members : List Member) × IsChain words members × AllZip SaysMember members listed.items
 SaysChain words (RunsOut at) = IsCutAt words at
 
 -- this is the listing of the check byte: the low byte of word 7 is right, or differs from the check byte of the words
@@ -65,7 +65,7 @@ pub record SaysImage (words : List ℕ) (listing : Listing) : Type 0 where
 
 -- the chain and all contents can be read
 abbrev pub IsReadable : ListedChain → Type 0
-IsReadable (Whole listed) = All (λ category. category.content ≢ Malformed) listed.items
+IsReadable (Complete listed) = All (λ category. category.content ≢ Malformed) listed.items
 IsReadable (RunsOut at) = ⊥
 
 -- the check byte is right, and the chain and all contents can be read

@@ -37,7 +37,7 @@ pub enum CheckByte {
 #[derive(Drop)]
 pub enum ListedChain {
     /// The categories, in order.
-    Whole(Vec<ListedCategory>),
+    Complete(Vec<ListedCategory>),
     /// The chain can't be read: the header at word `at`, or the content after it, goes on past the last word.
     RunsOut { at: usize },
 }
@@ -64,13 +64,13 @@ pub fn list_image(alloc: Global, image: &ImageFile) -> Result<Listing, AllocErro
     Ok(Listing {
         count: image.as_slice().len(),
         alias: image.alias(),
-        check: judge_check(image),
+        check: validate_check(image),
         identity: image.identity(),
         chain: list_chain(alloc, image.as_slice())?,
     })
 }
 
-fn judge_check(image: &ImageFile) -> CheckByte
+fn validate_check(image: &ImageFile) -> CheckByte
     ensures { SaysCheck image.now result }
 {
     if image.check_ok() {
@@ -88,7 +88,7 @@ fn list_chain(alloc: Global, words: &[u16]) -> Result<ListedChain, AllocError>
     ensures { IfOk result (SaysChain words.now) }
 {
     match chain(alloc, words) {
-        Ok(categories) => Ok(ListedChain::Whole(list_categories(alloc, words, &categories)?)),
+        Ok(categories) => Ok(ListedChain::Complete(list_categories(alloc, words, &categories)?)),
         Err(ChainFault::RunsOut { at }) => Ok(ListedChain::RunsOut { at }),
         Err(ChainFault::Memory) => Err(AllocError),
     }
@@ -139,7 +139,7 @@ impl ListedChain {
         ensures { IsTrue result ↔ IsReadable self.now }
     {
         match self {
-            ListedChain::Whole(categories) => categories
+            ListedChain::Complete(categories) => categories
                 .iter()
                 .all(|category| !category.content.is_malformed()),
             ListedChain::RunsOut { .. } => false,

@@ -22,7 +22,7 @@ more [] slave half is inside = absurd (omega arith)
 more (h ∷ halves) zero half is inside = ap (λ (x : Option SlaveHalf). (half_of x).words ∷ []) (sym is)
 more (h ∷ halves) (suc slave) half is inside = ap (λ (rest : List (List ℕ)). (half_of h).words ∷ rest) (more halves slave half is (omega arith))
 
--- one more slave behind the others
+-- one more slave after the others
 pub words_more : (halves : List (Option SlaveHalf)) (all : List SlaveHalf) (slave count : ℕ) (half : Option SlaveHalf) (words : List ℕ) (items : List (List ℕ)) → halves_of halves ≡ all
     → half ≡ get_or halves slave half → slave < count → count ≡ length all → items ≡ words_in (take slave all) → words ≡ (half_of half).words → items ++ words ∷ [] ≡ words_in (take (slave + 1) all)
 words_more halves all slave count half words items same is below many before here =

@@ -17,7 +17,7 @@ use site_mem::FaultPlan;
 use site_shadow::ShadowSite;
 use station_alone::Alone;
 use station_files::{ExitStatus, Fault, Store};
-use station_line::{Answers, Given, Session, load, of_open, open_station, serve_commands};
+use station_line::{Answers, LoadedLine, Session, load, of_open, open_station, serve_commands};
 use station_rows::{Form, Rows};
 use std::alloc::Global;
 use std::io::Write;
@@ -59,7 +59,7 @@ pub fn plan_script<S: Store, W: Write>(
 {
     match load(alloc, name, script, store) {
         Ok(given) => {
-            let Given { session, commands } = given;
+            let LoadedLine { session, commands } = given;
             let Session {
                 line: _,
                 site,

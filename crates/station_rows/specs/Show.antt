@@ -20,11 +20,11 @@ pub record ListsInput (hex : Bool) (input : List ℕ) (listing : Listing) : Type
 -- the status is that of the listing of an image with these words
 pub record ShowsImage (words : List ℕ) (status : ExitStatus) : Type 0 where
   pub listing : Listing
-  pub judged : IsStatusOf listing status
+  pub validated : IsStatusOf listing status
   pub says : SaysImage words listing
 
 -- the status is that of the listing of the input's image
 pub record ShowsStatus (hex : Bool) (input : Option (List ℕ)) (status : ExitStatus) : Type 0 where
   pub listing : Listing
-  pub judged : IsStatusOf listing status
+  pub validated : IsStatusOf listing status
   pub says : IfSome input (λ text. ListsInput hex text listing)

@@ -27,7 +27,7 @@ pub(crate) fn put_image(rows: &mut Rows, listing: &Listing) -> Result<(), AllocE
     ];
     rows.put("image", &row)?;
     match &listing.chain {
-        ListedChain::Whole(categories) => put_categories(rows, categories),
+        ListedChain::Complete(categories) => put_categories(rows, categories),
         ListedChain::RunsOut { at } => {
             rows.put("runs_out", &[said("", "runs out"), named("at", *at)])
         }

@@ -13,5 +13,5 @@ pub use cell::{Cell, END, bare, data, named, said, said_place};
 pub use items::{CategoryItems, ItemListing, Line, lines_of, list_items};
 pub use layout::{put_layout, show_layout};
 pub use rows::{Form, Rows};
-pub use show::{Shown, show_image};
+pub use show::{ShowOptions, show_image};
 pub use value::{Value, printed};

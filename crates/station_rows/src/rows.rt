@@ -5,7 +5,7 @@ ghost use Rattle.station_files.specs.Faults.{IsOfStream};
 use crate::cell::Cell;
 use crate::value::Value;
 use serde::{Described, Serialize, Serializer};
-use station_files::{Fault, write_whole};
+use station_files::{Fault, write_complete};
 use std::alloc::{AllocError, Global};
 use std::fmt;
 use std::io::Write;
@@ -13,7 +13,7 @@ use std::io::Write;
 /// How a listing is printed.
 #[derive(Clone, Copy)]
 pub enum Form {
-    /// As text, for people: the cells of a row one behind another, each with its name.
+    /// As text, for people: the cells of a row one after another, each with its name.
     Text,
     /// As JSON, for programs: an object a row, whose key `row` says what it is.
     Json,
@@ -93,7 +93,7 @@ impl Rows {
     pub fn write<W: Write>(&self, output: &mut W) -> Result<(), Fault>
         ensures { IfErr result IsOfStream }
     {
-        write_whole(self.text.as_bytes(), output)
+        write_complete(self.text.as_bytes(), output)
     }
 }
 

@@ -15,7 +15,7 @@ use std::io::{Read, Write};
 
 /// What is shown of which image.
 #[derive(Clone, Copy)]
-pub struct Shown<'a> {
+pub struct ShowOptions<'a> {
     /// Whether the image is hexadecimal text.
     pub hex: bool,
     /// Whether each item is printed too.
@@ -26,7 +26,7 @@ pub struct Shown<'a> {
     pub file: Option<&'a str>,
 }
 
-/// Reads an EEPROM image and prints its listing, and its items behind it if they are asked for. The status is `Done` where the check byte is
+/// Reads an EEPROM image and prints its listing, and its items after it if they are asked for. The status is `Done` where the check byte is
 /// right and the chain and all contents can be read, and `File` otherwise.
 ///
 /// # Errors
@@ -35,7 +35,7 @@ pub struct Shown<'a> {
 /// before the listing is complete.
 pub fn show_image<R: Read, S: Store, W: Write>(
     alloc: Global,
-    shown: Shown<'_>,
+    shown: ShowOptions<'_>,
     input: &mut R,
     store: &mut S,
     output: &mut W,
@@ -51,7 +51,7 @@ pub fn show_image<R: Read, S: Store, W: Write>(
     print_image(alloc, shown.all, shown.form, &image, output)
 }
 
-/// Prints the listing of an image, with `all` its items behind it, and returns the status.
+/// Prints the listing of an image, with `all` its items after it, and returns the status.
 fn print_image<W: Write>(
     alloc: Global,
     all: bool,

@@ -67,7 +67,7 @@ impl<'a> Value<'a> {
         }
     }
 
-    /// Puts the value as JSON, behind its key.
+    /// Puts the value as JSON, after its key.
     pub(crate) fn put<S: Serializer>(self, out: &mut S) -> Result<(), S::Error> {
         match self {
             Value::Null | Value::Name(0, _) => out.unit(),

@@ -1,6 +1,6 @@
 //! Arguments that several subcommands have.
 
-use command_line::{Argument, Given, INPUT, Kind};
+use command_line::{Argument, INPUT, Kind, ParsedArguments};
 use station_rows::Form;
 
 /// The help text on line files.
@@ -72,7 +72,7 @@ pub(crate) const JSON: Argument = Argument {
 };
 
 /// The form that a subcommand with this argument was asked for.
-pub(crate) fn form_of(given: &Given<'_>) -> Form {
+pub(crate) fn form_of(given: &ParsedArguments<'_>) -> Form {
     if given.has("json") {
         Form::Json
     } else {
@@ -81,7 +81,7 @@ pub(crate) fn form_of(given: &Given<'_>) -> Form {
 }
 
 /// The name of the script; `INPUT` where it is to come from standard input (`-`).
-pub(crate) fn script_of<'a>(given: &Given<'a>) -> &'a str {
+pub(crate) fn script_of<'a>(given: &ParsedArguments<'a>) -> &'a str {
     match given.script() {
         "-" => INPUT,
         name => name,

@@ -2,9 +2,9 @@
 
 use crate::arguments::{JSON, form_of};
 use crate::request::Task;
-use command_line::{Argument, Given, Kind, Subcommand, is_digits};
+use command_line::{Argument, Kind, ParsedArguments, Subcommand, is_digits};
 use line_changes::Compared;
-use station_rows::Shown;
+use station_rows::ShowOptions;
 
 /// The help text on what `show` prints, and on its exit status.
 const SHOW_ANSWERS: &str = "Answers:
@@ -162,8 +162,8 @@ pub(crate) fn diff_row() -> Subcommand {
 }
 
 /// The task of `show`.
-pub(crate) fn show_task<'a>(given: &Given<'a>) -> Task<'a> {
-    Task::Show(Shown {
+pub(crate) fn show_task<'a>(given: &ParsedArguments<'a>) -> Task<'a> {
+    Task::Show(ShowOptions {
         hex: given.has("hex"),
         all: given.has("all"),
         form: form_of(given),
@@ -172,7 +172,7 @@ pub(crate) fn show_task<'a>(given: &Given<'a>) -> Task<'a> {
 }
 
 /// The task of `alias`. The value may have digits only.
-pub(crate) fn alias_task<'a>(given: &Given<'a>) -> Result<Task<'a>, &'static str> {
+pub(crate) fn alias_task<'a>(given: &ParsedArguments<'a>) -> Result<Task<'a>, &'static str> {
     let text = given.word("VALUE");
     match text.parse::<u16>() {
         Ok(value) if is_digits(text) => Ok(Task::Alias {
@@ -185,7 +185,7 @@ pub(crate) fn alias_task<'a>(given: &Given<'a>) -> Result<Task<'a>, &'static str
 }
 
 /// The task of `diff`. Only one of the images can be read from standard input.
-pub(crate) fn diff_task<'a>(given: &Given<'a>) -> Result<Task<'a>, &'static str> {
+pub(crate) fn diff_task<'a>(given: &ParsedArguments<'a>) -> Result<Task<'a>, &'static str> {
     let old = file_of(given, "A");
     let new = file_of(given, "B");
     if old.is_none() && new.is_none() {
@@ -200,7 +200,7 @@ pub(crate) fn diff_task<'a>(given: &Given<'a>) -> Result<Task<'a>, &'static str>
 }
 
 /// The name of a file; `None` where it is left out, or `-`, and standard input is meant.
-fn file_of<'a>(given: &Given<'a>, argument: &str) -> Option<&'a str> {
+fn file_of<'a>(given: &ParsedArguments<'a>, argument: &str) -> Option<&'a str> {
     match given.text(argument) {
         Some("-") | None => None,
         found => found,

@@ -1,10 +1,10 @@
 //! The subcommands that work on a line: `init`, `run` and `recover`.
 
 use crate::arguments::{LINE, QUIET, REPORT, SCRIPT, script_of};
-use command_line::{Argument, Given, Kind, Subcommand, TYPED_COMMANDS};
-use line_changes::{Before, look_before, report_behind};
+use command_line::{Argument, Kind, ParsedArguments, Subcommand, TYPED_COMMANDS};
+use line_changes::{Before, look_before, report_after};
 use station_files::{ExitStatus, Failures, Fault, Store, worse};
-use station_session::{Answers, Fuse, RunNames, Watch, recover_line, run_script};
+use station_session::{AnswerStreams, Fuse, RunNames, Watch, recover_line, run_script};
 use std::alloc::Global;
 use std::io::Write;
 use std::rt::Clock;
@@ -130,7 +130,7 @@ pub(crate) fn recover_row() -> Subcommand {
 }
 
 /// The task of `run`.
-pub(crate) fn run_task<'a>(given: &Given<'a>) -> Result<RunTask<'a>, &'static str> {
+pub(crate) fn run_task<'a>(given: &ParsedArguments<'a>) -> Result<RunTask<'a>, &'static str> {
     let fuse = match given.cut("fuse")? {
         Some((writes, left)) => Some(Fuse { writes, left }),
         None => None,
@@ -151,11 +151,16 @@ pub(crate) fn serve_run<
     S: Store,
     W: Write,
     T: Write + Send,
->(watch: Watch<'_, T, H>, run: RunTask<'_>, store: &mut S, answers: Answers<'_, W>) -> ExitStatus {
+>(
+    watch: Watch<'_, T, H>,
+    run: RunTask<'_>,
+    store: &mut S,
+    answers: AnswerStreams<'_, W>,
+) -> ExitStatus {
     let alloc = watch.rt.alloc();
-    let Answers { output, failures } = answers;
+    let AnswerStreams { output, failures } = answers;
     let looked = look_before(alloc, run.reports, run.names.line, store);
-    let lent = Answers {
+    let lent = AnswerStreams {
         output: &mut *output,
         failures: &mut *failures,
     };
@@ -169,12 +174,12 @@ pub(crate) fn serve_recovery<H: Wait + Clock + AllocGlobal, S: Store, W: Write, 
     line: &str,
     reports: bool,
     store: &mut S,
-    answers: Answers<'_, W>,
+    answers: AnswerStreams<'_, W>,
 ) -> ExitStatus {
     let alloc = watch.rt.alloc();
-    let Answers { output, failures } = answers;
+    let AnswerStreams { output, failures } = answers;
     let looked = look_before(alloc, reports, line, store);
-    let lent = Answers {
+    let lent = AnswerStreams {
         output: &mut *output,
         failures: &mut *failures,
     };
@@ -192,6 +197,6 @@ fn end_report<S: Store, W: Write>(
     failures: &mut Failures,
 ) -> ExitStatus {
     let status = failures.note_status(ended);
-    let reported = report_behind(alloc, looked, status, store, output);
+    let reported = report_after(alloc, looked, status, store, output);
     worse(status, failures.note_end(reported))
 }

@@ -1,7 +1,7 @@
 //! The subcommands that print of the program itself: `explain`, `completions` and `man`.
 
-use command_line::{Argument, Given, Kind, Shell, Subcommand};
-use station_files::{Fault, write_whole};
+use command_line::{Argument, Kind, ParsedArguments, Shell, Subcommand};
+use station_files::{Fault, write_complete};
 use station_listing::{CODES, Code, find_code};
 use std::alloc::{AllocError, Global};
 use std::io::Write;
@@ -69,7 +69,7 @@ pub(crate) fn man_row() -> Subcommand {
 }
 
 /// The shell that `completions` is given: one of the three.
-pub(crate) fn shell_of(given: &Given<'_>) -> Shell {
+pub(crate) fn shell_of(given: &ParsedArguments<'_>) -> Shell {
     match given.word("SHELL") {
         "zsh" => Shell::Zsh,
         "fish" => Shell::Fish,
@@ -82,7 +82,7 @@ pub(crate) fn shell_of(given: &Given<'_>) -> Shell {
 /// # Errors
 ///
 /// Why it is refused: no code has this number or name.
-pub(crate) fn code_asked(given: &Given<'_>) -> Result<Option<Code>, &'static str> {
+pub(crate) fn code_asked(given: &ParsedArguments<'_>) -> Result<Option<Code>, &'static str> {
     let Some(text) = given.text("CODE") else {
         return Ok(None);
     };
@@ -126,5 +126,5 @@ pub(crate) fn print_page<W: Write>(
     output: &mut W,
 ) -> Result<(), Fault> {
     let text = page?;
-    write_whole(text.as_bytes(), output)
+    write_complete(text.as_bytes(), output)
 }

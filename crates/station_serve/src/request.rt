@@ -6,12 +6,12 @@ use crate::line_listings::{journal_row, layout_row, plan_row};
 use crate::line_work::{RunTask, init_row, recover_row, run_row, run_task};
 use crate::pages::{MANUAL_HEAD, code_asked, completions_row, explain_row, man_row, shell_of};
 use command_line::{
-    Argument, Given, Program, Shell, Subcommand, Unread, completion_script, manual_page,
+    Argument, ParsedArguments, Program, Shell, Subcommand, Unread, completion_script, manual_page,
     read_typed, read_words, refuse,
 };
 use line_changes::Compared;
 use station_listing::Code;
-use station_rows::{Form, Shown};
+use station_rows::{Form, ShowOptions};
 use std::alloc::{AllocError, Global};
 
 /// What a command line asks for: a subcommand with its arguments.
@@ -27,7 +27,7 @@ pub enum Task<'a> {
         file: Option<&'a str>,
     },
     /// Prints the listing of an image.
-    Show(Shown<'a>),
+    Show(ShowOptions<'a>),
     /// Prints what two images differ in.
     Diff(Compared<'a>),
     /// Makes an empty journal for a line.
@@ -173,7 +173,7 @@ pub(crate) fn read_arguments<'a>(
 }
 
 /// The task of the subcommand that was given, or why its words are refused.
-fn task_of<'a>(given: &Given<'a>) -> Result<Task<'a>, &'static str> {
+fn task_of<'a>(given: &ParsedArguments<'a>) -> Result<Task<'a>, &'static str> {
     let line = given.word("LINE");
     let form = form_of(given);
     let task = match given.subcommand {

@@ -10,8 +10,8 @@ use line_watch::Progress;
 use station_files::{ExitStatus, Failure, Failures, Fault, Store, report_fault, set_alias};
 use station_line::init_line;
 use station_plan::{plan_script, show_journal};
-use station_rows::{Shown, show_image, show_layout};
-use station_session::{Answers, Watch};
+use station_rows::{ShowOptions, show_image, show_layout};
+use station_session::{AnswerStreams, Watch};
 use station_troubles::{INPUT_OR_OUTPUT, Noting, OUTPUT, tell_more};
 use std::io::{Read, Write};
 use std::rt::Clock;
@@ -70,7 +70,7 @@ fn serve_request<
         is_verbose,
         is_quiet,
     } = request;
-    let is_told = terminal.is_some() || is_verbose;
+    let is_reported = terminal.is_some() || is_verbose;
     let terminal = if is_quiet { None } else { terminal };
     let begun = Progress::begin(rt, terminal);
     let watch = watch_of(rt, begun.as_ref());
@@ -80,7 +80,7 @@ fn serve_request<
         _ => None,
     };
     let mut joined = InputScript::new(store, script);
-    serve_and_tell(watch, task, is_told, input, &mut joined, streams)
+    serve_and_tell(watch, task, is_reported, input, &mut joined, streams)
 }
 
 /// The runtime, and the progress that counts what a task does.
@@ -88,7 +88,7 @@ fn watch_of<'a, T, H>(rt: &'a H, progress: Option<&'a Progress<T>>) -> Watch<'a,
     Watch { rt, progress }
 }
 
-/// Carries out a task, and then prints what has gone wrong. Where `is_told` and that is a fault or a refusal of its own, a line more says what the
+/// Carries out a task, and then prints what has gone wrong. Where `is_reported` and that is a fault or a refusal of its own, a line more says what the
 /// first was about.
 fn serve_and_tell<
     H: Wait + Threads + Clock + AllocGlobal + Sync,
@@ -100,24 +100,24 @@ fn serve_and_tell<
 >(
     watch: Watch<'_, T, H>,
     task: Task<'_>,
-    is_told: bool,
+    is_reported: bool,
     input: &mut R,
     store: &mut S,
     streams: Streams<'_, W, E>,
 ) -> ExitStatus {
     let Streams { output, faults } = streams;
-    let mut noting = Noting::new(watch.rt.alloc(), store, is_told);
+    let mut noting = Noting::new(watch.rt.alloc(), store, is_reported);
     let mut failures = Failures::none();
-    let answers = Answers {
+    let answers = AnswerStreams {
         output,
         failures: &mut failures,
     };
     let status = serve_task(watch, task, input, &mut noting, answers);
     failures.print(faults);
     match failures.first() {
-        Some(failure) if is_told => {
-            let told = noting.told(failure.code(), streams_of(task));
-            tell_more("sii_station", failure.code(), told, faults);
+        Some(failure) if is_reported => {
+            let reported = noting.reported(failure.code(), streams_of(task));
+            tell_more("sii_station", failure.code(), reported, faults);
         }
         _ => {}
     }
@@ -128,7 +128,7 @@ fn serve_and_tell<
 fn streams_of(task: Task<'_>) -> &'static str {
     match task {
         Task::Alias { file: None, .. }
-        | Task::Show(Shown { file: None, .. })
+        | Task::Show(ShowOptions { file: None, .. })
         | Task::Diff(Compared { old: None, .. } | Compared { new: None, .. }) => INPUT_OR_OUTPUT,
         _ => OUTPUT,
     }
@@ -146,14 +146,20 @@ fn serve_task<
     task: Task<'_>,
     input: &mut R,
     store: &mut S,
-    answers: Answers<'_, W>,
+    answers: AnswerStreams<'_, W>,
 ) -> ExitStatus {
     let alloc = watch.rt.alloc();
-    let Answers { output, failures } = answers;
+    let AnswerStreams { output, failures } = answers;
     let ended = match task {
-        Task::Run(run) => return serve_run(watch, run, store, Answers { output, failures }),
+        Task::Run(run) => return serve_run(watch, run, store, AnswerStreams { output, failures }),
         Task::Recover { line, reports } => {
-            return serve_recovery(watch, line, reports, store, Answers { output, failures });
+            return serve_recovery(
+                watch,
+                line,
+                reports,
+                store,
+                AnswerStreams { output, failures },
+            );
         }
         Task::Alias { value, hex, file } => {
             done(set_alias(alloc, value, hex, file, input, store, output))
@@ -191,7 +197,7 @@ where
 
 /// Prints the help or the version that was asked for, or what is wrong with the arguments.
 fn show_usage<W: Write, E: Write>(unread: &Unread, output: &mut W, faults: &mut E) -> ExitStatus {
-    let Unread::Asked(text) = unread else {
+    let Unread::ScanOptions(text) = unread else {
         return unread.report(faults);
     };
     match output

@@ -16,13 +16,13 @@ use Rattle.station_alone.specs.Recovery.{HasRecovered, BeginsRecovered}
 use Rattle.station_text.specs.declared.line_file.LineFile.{LineFile}
 use Rattle.station_files.specs.Faults.{IsFaultless}
 use Rattle.station_files.specs.Files.{Known, ChangesAmong}
-use Rattle.station_files.specs.FileNames.{IsLineApart}
+use Rattle.station_files.specs.FileNames.{IsLineSeparate}
 use Rattle.station_files.specs.Locations.{Leads}
 use Rattle.station_files.specs.ScriptFiles.{SpellsCommands}
 use Rattle.station_files.specs.declared.faults.Fault.{Fault}
 use Rattle.station_files.specs.declared.faults.ExitStatus.{ExitStatus}
 use Rattle.station_files.specs.declared.faults.ExitStatus.TheVariants.{Done}
-use Rattle.station_line.specs.Judging.{HasJournal, IsRunApart}
+use Rattle.station_line.specs.Validating.{HasJournal, IsRunSeparate}
 use Rattle.station_line.specs.Site.{files_of, HoldsSite}
 use Rattle.station_line.specs.Rounds.{ServesSo}
 use Rattle.station_line.specs.Opened.{is_old, Loads, StartsFrom}
@@ -64,10 +64,10 @@ ends-station old new line commands opened left served saved state status one oth
 pub ends-alone : (old new : Known) (line : LineFile) (commands : List Command) (opened left : Station) (served : Result (Unit {0}) Fault) (status saved final : ExitStatus) → served ≡ Ok tt → ServesSo commands served Done status opened left
     → (IsFaultless saved → HoldsSite new line left.seen.state) → ChangesAmong old new (files_of line) → (final ≡ Done → (status ≡ Done) × (saved ≡ Done)) → (IsFaultless final → IsFaultless status × IsFaultless saved)
     → EndsStation true old new line opened commands final
-ends-alone old new line commands opened left served status saved final told so held others done_too faultless_too = record {
+ends-alone old new line commands opened left served status saved final reported so held others done_too faultless_too = record {
   others = others;
   saved = λ good.
-      let served_so = subst (λ (r : Result (Unit {0}) Fault). ServesSo commands r Done status opened left) told so in
+      let served_so = subst (λ (r : Result (Unit {0}) Fault). ServesSo commands r Done status opened left) reported so in
       saves-by new line commands opened left (Ok tt) (Ok tt) left.seen.state status Done saved final served_so refl (held (faultless_too good).1) tt tt tt (faultless_too good).1 (λ done. (done_too done).0);
 }
 
@@ -126,7 +126,7 @@ pub keeps-files : (before now : Seen) (is_sound : Bool) (asked : Option (List As
 keeps-files before now is_sound (Some calls) files new follows keeps = cut_leaves_kept before now is_sound calls files new (first_stays before now new follows) keeps
 keeps-files before now is_sound None files new follows keeps = keeps_unasked before.state
 
--- the contents in them behind a complete recovery
+-- the contents in them after a complete recovery
 recovered-contents : (s : Station) (is_sound : Bool) (asked : Option (List Asked)) → IfSome asked (λ calls. FilesOf calls s.seen is_sound) → HasRecovered s → IsTrue is_sound → IsTrue (is_some asked)
     → BecomeOnly (HasContents s.book) (first_of s.seen) (unwrap_or asked [])
 recovered-contents s is_sound (Some calls) files recovered sound some = recovery_leaves_contents s is_sound calls files recovered sound
@@ -155,24 +155,24 @@ ends-recovered old new line before s left asked saved one other final is_recover
           );
     }
 
--- ---- a fault that is told behind a run
+-- ---- a fault that is told after a run
 
 -- it ends the run as a fault, or the status stays
-pub told-too : (is_cut : Bool) (old new : Known) (line : LineFile) (site : SiteValue) (commands : List Command) (status final : ExitStatus) → EndsRun is_cut old new line site commands status → (final ≡ status) ⊎ (¬ IsFaultless final)
+pub reported-too : (is_cut : Bool) (old new : Known) (line : LineFile) (site : SiteValue) (commands : List Command) (status final : ExitStatus) → EndsRun is_cut old new line site commands status → (final ≡ status) ⊎ (¬ IsFaultless final)
     → EndsRun is_cut old new line site commands final
-told-too is_cut old new line site commands status final ends (inl same) = subst (λ (s : ExitStatus). EndsRun is_cut old new line site commands s) (sym same) ends
-told-too is_cut old new line site commands status final ends (inr bad) = record { others = ends.others; saved = λ good. absurd (bad good) }
+reported-too is_cut old new line site commands status final ends (inl same) = subst (λ (s : ExitStatus). EndsRun is_cut old new line site commands s) (sym same) ends
+reported-too is_cut old new line site commands status final ends (inr bad) = record { others = ends.others; saved = λ good. absurd (bad good) }
 
 -- ---- the whole
 
-pub runs : (leads : Leads) (is_cut : Bool) (old loaded new : Known) (name script : List ℕ) (line : LineFile) (site : SiteValue) (commands : List Command) (status : ExitStatus) → Loads old name line site → IsRunApart leads line name script
+pub runs : (leads : Leads) (is_cut : Bool) (old loaded new : Known) (name script : List ℕ) (line : LineFile) (site : SiteValue) (commands : List Command) (status : ExitStatus) → Loads old name line site → IsRunSeparate leads line name script
     → HasJournal site.line.sizes site.seen.state.disk.bytes → SpellsCommands old script commands → loaded ≡ old → EndsRun is_cut loaded new line site commands status → RunsFiles leads is_cut old new name script status
-runs leads is_cut old loaded new name script line site commands status given apart journal spelt same ends =
+runs leads is_cut old loaded new name script line site commands status given separate journal spelt same ends =
     let P : Known → Type 0 = λ files. EndsRun is_cut files new line site commands status in
-    record { line = line; site = site; loaded = given; apart = apart; journal = journal; commands = commands; spelt = spelt; ends = subst P same ends }
+    record { line = line; site = site; loaded = given; separate = separate; journal = journal; commands = commands; spelt = spelt; ends = subst P same ends }
 
-pub recovers : (leads : Leads) (old loaded new : Known) (name : List ℕ) (line : LineFile) (site : SiteValue) (status : ExitStatus) (asked : Option (List Asked)) → Loads old name line site → IsLineApart leads line name → HasJournal site.line.sizes site.seen.state.disk.bytes → loaded ≡ old
+pub recovers : (leads : Leads) (old loaded new : Known) (name : List ℕ) (line : LineFile) (site : SiteValue) (status : ExitStatus) (asked : Option (List Asked)) → Loads old name line site → IsLineSeparate leads line name → HasJournal site.line.sizes site.seen.state.disk.bytes → loaded ≡ old
     → EndsRecovery loaded new line site.seen status asked → RecoversFiles leads old new name status asked
-recovers leads old loaded new name line site status asked given apart journal same ends =
+recovers leads old loaded new name line site status asked given separate journal same ends =
     let P : Known → Type 0 = λ files. EndsRecovery files new line site.seen status asked in
-    record { line = line; site = site; loaded = given; apart = apart; journal = journal; ends = subst P same ends }
+    record { line = line; site = site; loaded = given; separate = separate; journal = journal; ends = subst P same ends }

@@ -29,21 +29,21 @@ saved_so (Err fault) is_sound is = tt
 abbrev pub log_of : {F : Type 0} → Option (Finished F) → Option (List Asked)
 log_of files = option_map (λ done. done.log) files
 
-pub told_of : {F : Type 0} (files : Option (Finished F)) (now : Seen) (is_sound : Bool) → IfSome files (λ done. FilesOf done.log now is_sound)
+pub reported_of : {F : Type 0} (files : Option (Finished F)) (now : Seen) (is_sound : Bool) → IfSome files (λ done. FilesOf done.log now is_sound)
     → IfSome (log_of files) (λ calls. FilesOf calls now is_sound)
-told_of (Some done) now is_sound told = told
-told_of None now is_sound told = tt
+reported_of (Some done) now is_sound reported = reported
+reported_of None now is_sound reported = tt
 
 -- what is told of the files of a site, by its device
-pub told_files : (F : Type 0) (device : FileDevice F) (files : Option (Finished F)) (now : Seen) (is_sound : Bool) → Follows device now
+pub reported_files : (F : Type 0) (device : FileDevice F) (files : Option (Finished F)) (now : Seen) (is_sound : Bool) → Follows device now
     → (IsTrue is_sound → (device.has_failed ≡ false) × ¬ IsTrue now.is_stopped) → IfSome files (λ done. HasLog device.asking.calls done.log)
     → IfSome files (λ done. FilesOf done.log now is_sound)
-told_files F device (Some done) now is_sound follows sound log = site_has_files F device done.log now is_sound follows log sound
-told_files F device None now is_sound follows sound log = tt
+reported_files F device (Some done) now is_sound follows sound log = site_has_files F device done.log now is_sound follows log sound
+reported_files F device None now is_sound follows sound log = tt
 
 -- where the line was saved, its files are told of
-pub saved_and_told : {T E F : Type 0} (saved : Result T E) (files : Option (Finished F)) (is_sound is_none : Bool) → is_sound ≡ true
+pub saved_and_reported : {T E F : Type 0} (saved : Result T E) (files : Option (Finished F)) (is_sound is_none : Bool) → is_sound ≡ true
     → is_some files ≡ not is_none → is_none ≡ false → OnOk saved (IsTrue is_sound × IsTrue (is_some (log_of files)))
-saved_and_told (Ok kept) (Some done) is_sound is_none is some none = (is, refl)
-saved_and_told (Ok kept) None is_sound is_none is some none = absurd (let e : false ≡ true = some ∙ ap not none in cc)
-saved_and_told (Err fault) files is_sound is_none is some none = tt
+saved_and_reported (Ok kept) (Some done) is_sound is_none is some none = (is, refl)
+saved_and_reported (Ok kept) None is_sound is_none is some none = absurd (let e : false ≡ true = some ∙ ap not none in cc)
+saved_and_reported (Err fault) files is_sound is_none is some none = tt

@@ -18,7 +18,7 @@ use Rattle.site_file.specs.declared.asking.LineFile.{LineFile as FileName}
 use Rattle.site_file.specs.declared.asking.LineFile.TheVariants.{Journal as JournalFile, Image}
 use Rattle.site_file.specs.declared.files.FileDevice.{FileDevice}
 use Rattle.site_file.specs.declared.asking.Asked.{Asked}
-use Rattle.site_file.specs.declared.asking.FileTold.{FileTold}
+use Rattle.site_file.specs.declared.asking.FileLog.{FileLog}
 use Rattle.site_file.specs.Asking.{HasLog, TellsLog}
 use Rattle.site_file.specs.Following as files
 use Rattle.site_file.specs.Held.{is_same}
@@ -35,7 +35,7 @@ use Rattle.station_alone.specs.Opening.{BeginsSession}
 use Rattle.station_jobs.specs.declared.log.SlaveLog.{SlaveLog}
 use Rattle.station_jobs.specs.Ends.{Stay}
 use Rattle.station_jobs.specs.Flushing.{IsFlushed}
-use Rattle.kept_files.specs.KeptFiles.{KeptBehind, has_file}
+use Rattle.kept_files.specs.KeptFiles.{KeptAfter, has_file}
 use Rattle.kept_files.specs.Cuts.{IsKeptPair}
 use Rattle.kept_files.specs.DeskFiles.{DeskOnFiles, PartOnFiles}
 use Rattle.kept_files.proofs.OnFiles.{device_kept, device_served, site_keeps_on, site_keeps_serving}
@@ -49,23 +49,23 @@ use Rattle.station_files.specs.ScriptFiles.{SpellsCommands}
 use Rattle.station_files.specs.declared.faults.ExitStatus.{ExitStatus}
 use Rattle.station_files.specs.declared.faults.Fault.{Fault}
 use Rattle.script_session.specs.declared.closing.Ending.{Ending}
-use Rattle.script_session.specs.AtDesk.{DeskServes, EndsFollowed, IsUnservedTold, PartsEnd, ServesParts, seen_of}
+use Rattle.script_session.specs.AtDesk.{DeskServes, EndsFollowed, IsUnservedReported, PartsEnd, ServesParts, seen_of}
 use Rattle.script_session.specs.AtDesk as at_desk
-use Rattle.script_session.specs.declared.told.UnservedTold.{UnservedTold}
-use Rattle.script_session.specs.declared.told.UnservedTold.TheVariants as unserved
-use Rattle.script_session.specs.declared.told.DeskTold.{DeskTold}
-use Rattle.script_session.specs.declared.told.PartTold.{PartTold}
-use Rattle.script_session.specs.Parts.{AreFollowed, AreSound, AreToldOf, BeginsWith, EndsWith, IsDeskTold, IsTogether, IsWorkFollowed, Soundly}
+use Rattle.script_session.specs.declared.logs.UnservedLog.{UnservedLog}
+use Rattle.script_session.specs.declared.logs.UnservedLog.TheVariants as unserved
+use Rattle.script_session.specs.declared.logs.DeskLog.{DeskLog}
+use Rattle.script_session.specs.declared.logs.PartLog.{PartLog}
+use Rattle.script_session.specs.Parts.{AreFollowed, AreSound, AreReportedOf, BeginsWith, EndsWith, IsDeskReported, IsTogether, IsWorkFollowed, Soundly}
 use Rattle.script_session.specs.Parts.{Telling}
 use Rattle.script_session.proofs.LeftLaws.{first, opened-on, placed-back}
 use Rattle.script_session.proofs.SlaveLaws.{placed-at}
-use Rattle.script_session.specs.Behind.{GoesBehindDesk, GoesFollowed, ServesSome, Tells}
-use Rattle.station_session.specs.RunFiles.{BeginsPart, DeskGoes, GoesAlone, GoesBehind, HoldTogether, IsLeftBy, KeepsAtDesk, KeepsParts}
+use Rattle.script_session.specs.After.{GoesAfterDesk, GoesFollowed, ServesSome, Tells}
+use Rattle.station_session.specs.RunFiles.{BeginsPart, DeskGoes, GoesAlone, GoesAfter, HoldTogether, IsLeftBy, KeepsAtDesk, KeepsParts}
 use Rattle.station_session.specs.RunFiles.{OfDevices, OfFiles, RunsFollowed, KeepsRunFiles, RunKeepsFiles, Says, ServesFollowedBy, ServesOn}
-use Rattle.station_session.specs.declared.told.RunTold.{RunTold}
-use Rattle.station_session.specs.RunFiles.{DeskTells, HaveAsked, IsTold, KeepsAsTold, KeepsDeskAsTold, KeepsPartsAsTold, ServesAsTold, TellsOf}
-use Rattle.station_session.specs.RunFiles.{desk_of, line_told, opening_of}
-use Rattle.station_session.specs.RunFiles.{unbegun, idle, apart, served, unopened, opened, unrecovered, recovered}
+use Rattle.station_session.specs.declared.logs.RunLog.{RunLog}
+use Rattle.station_session.specs.RunFiles.{DeskTells, HaveAsked, IsReported, KeepsAsReported, KeepsDeskAsReported, KeepsPartsAsReported, ServesAsReported, TellsOf}
+use Rattle.station_session.specs.RunFiles.{desk_of, line_reported, opening_of}
+use Rattle.station_session.specs.RunFiles.{unbegun, idle, separate, served, unopened, opened, unrecovered, recovered}
 use Rattle.station_line.specs.Opened.{GoesKept, Loads}
 use Rattle.station_line.specs.Rounds.{Goes}
 use Rattle.station_line.specs.Site.{IsFollowed}
@@ -86,7 +86,7 @@ HasFileDevice F {D} follows = (device : D) (seen : Seen) → follows device seen
 
 -- the parts of a line that a desk has served
 abbrev parts_of : (station : Station) (commands : List Command) (ending : Ending) → DeskServes station commands ending → PartsEnd station
-parts_of station commands ending desk = record { sites = desk.sites; apart = desk.apart; ends = desk.ends; of_sites = desk.of_sites }
+parts_of station commands ending desk = record { sites = desk.sites; separate = desk.separate; ends = desk.ends; of_sites = desk.of_sites }
 
 -- by devices that keep this
 module _ (F : Type 0) {D : Type 0} (follows : D → Seen → Type 0) (to_file : HasFileDevice F follows) where
@@ -99,7 +99,7 @@ module _ (F : Type 0) {D : Type 0} (follows : D → Seen → Type 0) (to_file : 
         let start = parts.ends.flusher.start.seen in
         let end = parts.ends.flusher.site.seen in
         let device = to_file disk.0 end disk.1 in
-        part_has_its_file F (is_same JournalFile) start end device.0 (ap (λ (s : SiteValue). s.seen.past) parts.of_sites.flusher ∙ parts.apart.new) (flushed_follows parts.ends.flusher.log start end flushed) device.1
+        part_has_its_file F (is_same JournalFile) start end device.0 (ap (λ (s : SiteValue). s.seen.past) parts.of_sites.flusher ∙ parts.separate.new) (flushed_follows parts.ends.flusher.log start end flushed) device.1
 
     journal_device : journal_part.device ≡ (to_file disk.0 parts.ends.flusher.site.seen disk.1).0
     unfolding journal_part
@@ -107,14 +107,14 @@ module _ (F : Type 0) {D : Type 0} (follows : D → Seen → Type 0) (to_file : 
         let start = parts.ends.flusher.start.seen in
         let end = parts.ends.flusher.site.seen in
         let device = to_file disk.0 end disk.1 in
-        device_of_part F (is_same JournalFile) start end device.0 (ap (λ (s : SiteValue). s.seen.past) parts.of_sites.flusher ∙ parts.apart.new) (flushed_follows parts.ends.flusher.log start end flushed) device.1
+        device_of_part F (is_same JournalFile) start end device.0 (ap (λ (s : SiteValue). s.seen.past) parts.of_sites.flusher ∙ parts.separate.new) (flushed_follows parts.ends.flusher.log start end flushed) device.1
 
     image_part : (slave : ℕ) (end : Stay SiteValue SlaveLog) → slice_get parts.ends.workers.items slave ≡ Some end → PartOnFiles F (is_same (Image slave)) end.start.seen end.site.seen
     image_part slave end here =
         let work = works slave end here in
         let device = to_file work.followed.0 end.site.seen work.followed.1 in
         let worker = placed-back (λ place (x : SiteValue) (e : Stay SiteValue SlaveLog). IsEndOfSlave place x e) 0 parts.sites.slaves.items parts.ends.workers.items slave end parts.of_sites.workers here in
-        let half = placed-back BeginsWith 0 station.seen.state.halves parts.sites.slaves.items slave worker.0 parts.apart.slaves worker.1 in
+        let half = placed-back BeginsWith 0 station.seen.state.halves parts.sites.slaves.items slave worker.0 parts.separate.slaves worker.1 in
         part_has_its_file F (is_same (Image slave)) end.start.seen end.site.seen device.0 (ap (λ (s : SiteValue). s.seen.past) worker.2.start ∙ half.2.new) (worked_follows end.log.slave end.log.jobs end.start.seen end.site.seen work.worked) device.1
 
     image_device : (slave : ℕ) (end : Stay SiteValue SlaveLog) (here : slice_get parts.ends.workers.items slave ≡ Some end)
@@ -124,7 +124,7 @@ module _ (F : Type 0) {D : Type 0} (follows : D → Seen → Type 0) (to_file : 
         let work = works slave end here in
         let device = to_file work.followed.0 end.site.seen work.followed.1 in
         let worker = placed-back (λ place (x : SiteValue) (e : Stay SiteValue SlaveLog). IsEndOfSlave place x e) 0 parts.sites.slaves.items parts.ends.workers.items slave end parts.of_sites.workers here in
-        let half = placed-back BeginsWith 0 station.seen.state.halves parts.sites.slaves.items slave worker.0 parts.apart.slaves worker.1 in
+        let half = placed-back BeginsWith 0 station.seen.state.halves parts.sites.slaves.items slave worker.0 parts.separate.slaves worker.1 in
         device_of_part F (is_same (Image slave)) end.start.seen end.site.seen device.0 (ap (λ (s : SiteValue). s.seen.past) worker.2.start ∙ half.2.new) (worked_follows end.log.slave end.log.jobs end.start.seen end.site.seen work.worked) device.1
 
     desk : DeskOnFiles F seen_of parts.ends.flusher parts.ends.workers.items
@@ -140,11 +140,11 @@ module _ (F : Type 0) {D : Type 0} (follows : D → Seen → Type 0) (to_file : 
     begins : (name : FileName) (file : File) → Holds station.seen.state name file → BeginsPart parts.ends name file
     begins JournalFile file holds =
         let same : station.seen.state.disk ≡ parts.ends.flusher.start.seen.state.disk =
-        synced ∙ sym parts.apart.disk ∙ sym (ap (λ (s : SiteValue). s.seen.state.disk) parts.of_sites.flusher) in
+        synced ∙ sym parts.separate.disk ∙ sym (ap (λ (s : SiteValue). s.seen.state.disk) parts.of_sites.flusher) in
         subst (λ (d : Disk). HoldsDisk d file) same holds
     begins (Image slave) file holds = λ end here.
         let worker = placed-back (λ place (x : SiteValue) (e : Stay SiteValue SlaveLog). IsEndOfSlave place x e) 0 parts.sites.slaves.items parts.ends.workers.items slave end parts.of_sites.workers here in
-        let half = placed-back BeginsWith 0 station.seen.state.halves parts.sites.slaves.items slave worker.0 parts.apart.slaves worker.1 in
+        let half = placed-back BeginsWith 0 station.seen.state.halves parts.sites.slaves.items slave worker.0 parts.separate.slaves worker.1 in
         let same_place : 0 + slave ≡ slave = omega arith in
         record {
           half = half.0;
@@ -159,9 +159,9 @@ module _ (F : Type 0) {D : Type 0} (follows : D → Seen → Type 0) (to_file : 
       kept = λ machine calls begun images begins answered bytes cut.
           subst (LeftKept machine calls images) (sym begins.book)
           (cut_leaves_kept_parts F SiteValue seen_of parts.ends.flusher parts.ends.workers.items desk machine begins.journal old calls begun images
-          (opened-on station calls parts.sites parts.ends parts.apart parts.of_sites machine begins)
+          (opened-on station calls parts.sites parts.ends parts.separate parts.of_sites machine begins)
           (subst (λ (b : Book). AreAnswered b calls) begins.book answered)
-          (first station calls parts.sites parts.ends parts.apart parts.of_sites) bytes cut);
+          (first station calls parts.sites parts.ends parts.separate parts.of_sites) bytes cut);
     }
 
     -- where no call of a device has failed and no site has stopped, and the disk is synced, the files hold what is put together
@@ -195,64 +195,64 @@ module _ (F : Type 0) {D : Type 0} (follows : D → Seen → Type 0) (to_file : 
       hold_together = record { journal = journal_together; images = image_together }
 
 -- each end is of a worker whose device is told of
-told-work : {D T : Type 0} (follows : D → Seen → Type 0) (well : D → Type 0) (tells : D → T → Type 0) (told : List (PartTold T)) (workers : List (Stay SiteValue SlaveLog))
-    → AreToldOf follows well tells told workers → (slave : ℕ) (end : Stay SiteValue SlaveLog) → slice_get workers slave ≡ Some end
-    → (part : PartTold T) × (slice_get told slave ≡ Some part) × IsWorkFollowed (Telling follows well tells part) end
-told-work follows well tells [] [] all slave end here = absurd cc
-told-work follows well tells [] (e ∷ workers) all slave end here = absurd all
-told-work follows well tells (t ∷ told) [] all slave end here = absurd all
-told-work follows well tells (t ∷ told) (e ∷ workers) all zero end here =
+reported-work : {D T : Type 0} (follows : D → Seen → Type 0) (well : D → Type 0) (tells : D → T → Type 0) (reported : List (PartLog T)) (workers : List (Stay SiteValue SlaveLog))
+    → AreReportedOf follows well tells reported workers → (slave : ℕ) (end : Stay SiteValue SlaveLog) → slice_get workers slave ≡ Some end
+    → (part : PartLog T) × (slice_get reported slave ≡ Some part) × IsWorkFollowed (Telling follows well tells part) end
+reported-work follows well tells [] [] all slave end here = absurd cc
+reported-work follows well tells [] (e ∷ workers) all slave end here = absurd all
+reported-work follows well tells (t ∷ reported) [] all slave end here = absurd all
+reported-work follows well tells (t ∷ reported) (e ∷ workers) all zero end here =
     let same : e ≡ end = cc in (t, refl, subst (IsWorkFollowed (Telling follows well tells t)) same all.0)
-told-work follows well tells (t ∷ told) (e ∷ workers) all (suc slave) end here = told-work follows well tells told workers all.1 slave end here
+reported-work follows well tells (t ∷ reported) (e ∷ workers) all (suc slave) end here = reported-work follows well tells reported workers all.1 slave end here
 
 -- all of these parts are sound, so this one is
-sound-at : {T : Type 0} (told : List (PartTold T)) (slave : ℕ) (part : PartTold T) → AllByRecursion (λ (one : PartTold T). IsTrue one.is_sound) told
-    → slice_get told slave ≡ Some part → IsTrue part.is_sound
-sound-at told slave part all here = at-place (λ one. IsTrue one.is_sound) told slave part all here
+sound-at : {T : Type 0} (reported : List (PartLog T)) (slave : ℕ) (part : PartLog T) → AllByRecursion (λ (one : PartLog T). IsTrue one.is_sound) reported
+    → slice_get reported slave ≡ Some part → IsTrue part.is_sound
+sound-at reported slave part all here = at-place (λ one. IsTrue one.is_sound) reported slave part all here
 
 -- the calls of a device, by what is told of it
-told-calls : (F : Type 0) (device kept : FileDevice F) (calls : List Asked) (told : Option (List Asked)) → kept ≡ device → HasLog kept.asking.calls calls
-    → TellsLog device.asking.calls told → IfSome told (λ asked. asked ≡ calls)
-told-calls F device kept calls None same log tells = tt
-told-calls F device kept calls (Some asked) same log tells =
+reported-calls : (F : Type 0) (device kept : FileDevice F) (calls : List Asked) (reported : Option (List Asked)) → kept ≡ device → HasLog kept.asking.calls calls
+    → TellsLog device.asking.calls reported → IfSome reported (λ asked. asked ≡ calls)
+reported-calls F device kept calls None same log tells = tt
+reported-calls F device kept calls (Some asked) same log tells =
     append_cancel_left device.asking.calls.begun.value asked calls (sym tells ∙ subst (λ (d : FileDevice F). HasLog d.asking.calls calls) same log)
 
 -- what a device tells of its log, its device of files has asked
-abbrev pub TellsFile : (F : Type 0) → {D : Type 0} → (follows : D → Seen → Type 0) → HasFileDevice F follows → (D → FileTold → Type 0) → Type 0
+abbrev pub TellsFile : (F : Type 0) → {D : Type 0} → (follows : D → Seen → Type 0) → HasFileDevice F follows → (D → FileLog → Type 0) → Type 0
 TellsFile F {D} follows to_file tells =
-    (device : D) (seen : Seen) (f : follows device seen) (told : FileTold) → tells device told → TellsLog (to_file device seen f).0.asking.calls told.calls
+    (device : D) (seen : Seen) (f : follows device seen) (reported : FileLog) → tells device reported → TellsLog (to_file device seen f).0.asking.calls reported.calls
 
 -- by devices that keep this and tell of it
-module _ (F : Type 0) {D : Type 0} (follows : D → Seen → Type 0) (to_file : HasFileDevice F follows) (tells : D → FileTold → Type 0) (tells_file : TellsFile F follows to_file tells) where
-  is-told : (device : D) (seen : Seen) (f : follows device seen) (kept : FileDevice F) (calls : List Asked) (told : Option FileTold)
-      → kept ≡ (to_file device seen f).0 → HasLog kept.asking.calls calls → IfSome told (tells device) → IsTold told (λ asked. asked ≡ calls)
-  is-told device seen f kept calls None same log none = tt
-  is-told device seen f kept calls (Some told) same log tell = told-calls F (to_file device seen f).0 kept calls told.calls same log (tells_file device seen f told tell)
+module _ (F : Type 0) {D : Type 0} (follows : D → Seen → Type 0) (to_file : HasFileDevice F follows) (tells : D → FileLog → Type 0) (tells_file : TellsFile F follows to_file tells) where
+  is-reported : (device : D) (seen : Seen) (f : follows device seen) (kept : FileDevice F) (calls : List Asked) (reported : Option FileLog)
+      → kept ≡ (to_file device seen f).0 → HasLog kept.asking.calls calls → IfSome reported (tells device) → IsReported reported (λ asked. asked ≡ calls)
+  is-reported device seen f kept calls None same log none = tt
+  is-reported device seen f kept calls (Some reported) same log tell = reported-calls F (to_file device seen f).0 kept calls reported.calls same log (tells_file device seen f reported tell)
 
-  goes_on_files : (told : Option FileTold) (before now : Seen) → before.past ≡ [] → GoesFollowed (TellsOf follows tells told) before now
-      → KeepsAsTold F told before now
-  goes_on_files told before now new stage =
+  goes_on_files : (reported : Option FileLog) (before now : Seen) → before.past ≡ [] → GoesFollowed (TellsOf follows tells reported) before now
+      → KeepsAsReported F reported before now
+  goes_on_files reported before now new stage =
       let device = to_file stage.followed.0 now stage.followed.1.0 in
       let first = first_stays before now new stage.goes.goes_on in
       let keeps = site_keeps_on F device.0 before now device.1 new first stage.goes.keeps in
       record {
         keeps = keeps;
-        asked = is-told stage.followed.0 now stage.followed.1.0 keeps.device keeps.calls told (device_kept F device.0 before now device.1 new first stage.goes.keeps) keeps.log stage.followed.1.1;
+        asked = is-reported stage.followed.0 now stage.followed.1.0 keeps.device keeps.calls reported (device_kept F device.0 before now device.1 new first stage.goes.keeps) keeps.log stage.followed.1.1;
       }
 
-  serves_on_files : (told : Option FileTold) (commands : List Command) (before now : Seen) → before.past ≡ []
-      → ServesOn (TellsOf follows tells told) commands before now → ServesAsTold F told commands before now
-  serves_on_files told commands before now new serves =
+  serves_on_files : (reported : Option FileLog) (commands : List Command) (before now : Seen) → before.past ≡ []
+      → ServesOn (TellsOf follows tells reported) commands before now → ServesAsReported F reported commands before now
+  serves_on_files reported commands before now new serves =
       let device = to_file serves.followed.0 now serves.followed.1.0 in
       let first = first_stays before now new serves.goes_on in
       let keeps = site_keeps_serving F device.0 commands before now device.1 new first serves.keeps in
       record {
         keeps = keeps;
-        asked = is-told serves.followed.0 now serves.followed.1.0 keeps.device keeps.calls told (device_served F device.0 commands before now device.1 new first serves.keeps) keeps.log serves.followed.1.1;
+        asked = is-reported serves.followed.0 now serves.followed.1.0 keeps.device keeps.calls reported (device_served F device.0 commands before now device.1 new first serves.keeps) keeps.log serves.followed.1.1;
       }
 
 -- a device that keeps this, and of which nothing has failed on a site that goes on
-module _ (F : Type 0) {D : Type 0} (follows : D → Seen → Type 0) (well : D → Type 0) (tells : D → FileTold → Type 0) (to_file : HasFileDevice F follows) (tells_file : TellsFile F follows to_file tells)
+module _ (F : Type 0) {D : Type 0} (follows : D → Seen → Type 0) (well : D → Type 0) (tells : D → FileLog → Type 0) (to_file : HasFileDevice F follows) (tells_file : TellsFile F follows to_file tells)
     (well_file : (device : D) (seen : Seen) (f : follows device seen) → well device → (to_file device seen f).0.has_failed ≡ false) where
   soundly_file : HasFileDevice F (Soundly follows well)
   soundly_file device seen soundly = to_file device seen soundly.0
@@ -282,179 +282,179 @@ module _ (F : Type 0) {D : Type 0} (follows : D → Seen → Type 0) (well : D �
 
   -- where the devices are told of
   module _ (station : Station) (synced : station.seen.state.disk ≡ of_bytes station.seen.state.disk.bytes) (desk : PartsEnd station)
-      (told : DeskTold FileTold) (tellings : IsDeskTold follows well tells station.seen told desk.ends) where
-    told_disk : IsFollowed follows desk.ends.flusher.site.seen
-    told_disk = (tellings.disk.0, tellings.disk.1.0)
+      (reported : DeskLog FileLog) (tellings : IsDeskReported follows well tells station.seen reported desk.ends) where
+    reported_disk : IsFollowed follows desk.ends.flusher.site.seen
+    reported_disk = (tellings.disk.0, tellings.disk.1.0)
 
-    told_works : (slave : ℕ) (end : Stay SiteValue SlaveLog) → slice_get desk.ends.workers.items slave ≡ Some end → IsWorkFollowed follows end
-    told_works slave end is =
-        let w = told-work follows well tells told.slaves.items desk.ends.workers.items tellings.slaves slave end is in
+    reported_works : (slave : ℕ) (end : Stay SiteValue SlaveLog) → slice_get desk.ends.workers.items slave ≡ Some end → IsWorkFollowed follows end
+    reported_works slave end is =
+        let w = reported-work follows well tells reported.slaves.items desk.ends.workers.items tellings.slaves slave end is in
         record { worked = w.2.worked; followed = (w.2.followed.0, w.2.followed.1.0) }
 
-    keeps_told : KeepsParts F station desk.ends
-    keeps_told = keeps_parts F follows to_file station synced desk tellings.flushed told_disk told_works
+    keeps_reported : KeepsParts F station desk.ends
+    keeps_reported = keeps_parts F follows to_file station synced desk tellings.flushed reported_disk reported_works
 
-    have_asked : HaveAsked told desk.ends keeps_told.desk
-    unfolding keeps_told keeps_parts desk told_disk told_works
+    have_asked : HaveAsked reported desk.ends keeps_reported.desk
+    unfolding keeps_reported keeps_parts desk reported_disk reported_works
     have_asked = record {
-      journal = subst (λ (d : FileDevice F). TellsLog d.asking.calls told.disk.told.calls)
-          (sym (journal_device F follows to_file station synced desk tellings.flushed told_disk told_works))
-          (tells_file tellings.disk.0 desk.ends.flusher.site.seen tellings.disk.1.0 told.disk.told tellings.disk.1.1);
+      journal = subst (λ (d : FileDevice F). TellsLog d.asking.calls reported.disk.reported.calls)
+          (sym (journal_device F follows to_file station synced desk tellings.flushed reported_disk reported_works))
+          (tells_file tellings.disk.0 desk.ends.flusher.site.seen tellings.disk.1.0 reported.disk.reported tellings.disk.1.1);
       images = λ slave end is.
-          let w = told-work follows well tells told.slaves.items desk.ends.workers.items tellings.slaves slave end is in (
+          let w = reported-work follows well tells reported.slaves.items desk.ends.workers.items tellings.slaves slave end is in (
             w.0,
             w.1,
-            subst (λ (d : FileDevice F). TellsLog d.asking.calls w.0.told.calls)
-                (sym (image_device F follows to_file station synced desk tellings.flushed told_disk told_works slave end is))
-                (tells_file w.2.followed.0 end.site.seen w.2.followed.1.0 w.0.told w.2.followed.1.1),
+            subst (λ (d : FileDevice F). TellsLog d.asking.calls w.0.reported.calls)
+                (sym (image_device F follows to_file station synced desk tellings.flushed reported_disk reported_works slave end is))
+                (tells_file w.2.followed.0 end.site.seen w.2.followed.1.0 w.0.reported w.2.followed.1.1),
           );
     }
 
-    told_together : (site : SiteValue) → IsTogether desk.ends site → AreSound told → desk.ends.flusher.site.seen.state.disk ≡ of_bytes desk.ends.flusher.site.seen.state.disk.bytes
-        → HoldTogether desk.ends keeps_told.desk site
-    unfolding keeps_told keeps_parts desk told_disk told_works
-    told_together site together sound all_synced =
+    reported_together : (site : SiteValue) → IsTogether desk.ends site → AreSound reported → desk.ends.flusher.site.seen.state.disk ≡ of_bytes desk.ends.flusher.site.seen.state.disk.bytes
+        → HoldTogether desk.ends keeps_reported.desk site
+    unfolding keeps_reported keeps_parts desk reported_disk reported_works
+    reported_together site together sound all_synced =
         let ends = desk.ends in
         let here = tellings.disk.1.2 sound.disk in
-        hold_together F follows to_file station synced desk tellings.flushed told_disk told_works site together
+        hold_together F follows to_file station synced desk tellings.flushed reported_disk reported_works site together
         (well_file tellings.disk.0 ends.flusher.site.seen tellings.disk.1.0 here.0, here.1)
         (λ slave end is.
-        let w = told-work follows well tells told.slaves.items ends.workers.items tellings.slaves slave end is in
-        let there = w.2.followed.1.2 (sound-at told.slaves.items slave w.0 sound.slaves w.1) in
+        let w = reported-work follows well tells reported.slaves.items ends.workers.items tellings.slaves slave end is in
+        let there = w.2.followed.1.2 (sound-at reported.slaves.items slave w.0 sound.slaves w.1) in
         (well_file w.2.followed.0 end.site.seen w.2.followed.1.0 there.0, there.1)) all_synced
 
-    keeps_as_told : (site : SiteValue) → IsTogether desk.ends site → (sound : Result (Unit {0}) Fault) → OnOk sound (AreSound told) → EndsFollowed follows well station sound desk.ends
-        → KeepsDeskAsTold F (Some told) station sound desk.ends site
-    keeps_as_told site together (Ok done) are followed =
-        record { keeps = record { parts = keeps_told; together = told_together site together are followed.synced }; asked = have_asked }
-    keeps_as_told site together (Err fault) are followed = record { keeps = record { parts = keeps_told; together = tt }; asked = have_asked }
+    keeps_as_reported : (site : SiteValue) → IsTogether desk.ends site → (sound : Result (Unit {0}) Fault) → OnOk sound (AreSound reported) → EndsFollowed follows well station sound desk.ends
+        → KeepsDeskAsReported F (Some reported) station sound desk.ends site
+    keeps_as_reported site together (Ok done) are followed =
+        record { keeps = record { parts = keeps_reported; together = reported_together site together are followed.synced }; asked = have_asked }
+    keeps_as_reported site together (Err fault) are followed = record { keeps = record { parts = keeps_reported; together = tt }; asked = have_asked }
 
   -- where the line wasn't put together
-  parts_as_told : (told : Option (DeskTold FileTold)) (station : Station) → station.seen.state.disk ≡ of_bytes station.seen.state.disk.bytes
-      → (parts : PartsEnd station) → IsSomeAnd told (λ one. IsDeskTold follows well tells station.seen one parts.ends)
-      → KeepsPartsAsTold F told station parts.ends
-  parts_as_told None station synced parts tellings = absurd tellings
-  parts_as_told (Some told) station synced parts tellings =
-      record { keeps = keeps_told station synced parts told tellings; asked = have_asked station synced parts told tellings }
+  parts_as_reported : (reported : Option (DeskLog FileLog)) (station : Station) → station.seen.state.disk ≡ of_bytes station.seen.state.disk.bytes
+      → (parts : PartsEnd station) → IsSomeAnd reported (λ one. IsDeskReported follows well tells station.seen one parts.ends)
+      → KeepsPartsAsReported F reported station parts.ends
+  parts_as_reported None station synced parts tellings = absurd tellings
+  parts_as_reported (Some reported) station synced parts tellings =
+      record { keeps = keeps_reported station synced parts reported tellings; asked = have_asked station synced parts reported tellings }
 
-  desk_as_told : (told : Option (DeskTold FileTold)) (station : Station) → station.seen.state.disk ≡ of_bytes station.seen.state.disk.bytes → (commands : List Command) (ending : Ending) (site : SiteValue)
-      (sound : Result (Unit {0}) Fault) (parts : ServesParts station commands ending site) → DeskTells follows well tells told station sound parts.desk.ends
-      → KeepsDeskAsTold F told station sound parts.desk.ends site
-  desk_as_told None station synced commands ending site sound parts tell =
+  desk_as_reported : (reported : Option (DeskLog FileLog)) (station : Station) → station.seen.state.disk ≡ of_bytes station.seen.state.disk.bytes → (commands : List Command) (ending : Ending) (site : SiteValue)
+      (sound : Result (Unit {0}) Fault) (parts : ServesParts station commands ending site) → DeskTells follows well tells reported station sound parts.desk.ends
+      → KeepsDeskAsReported F reported station sound parts.desk.ends site
+  desk_as_reported None station synced commands ending site sound parts tell =
       record { keeps = keeps_desk station synced commands ending site sound parts tell.followed; asked = tt }
-  desk_as_told (Some told) station synced commands ending site sound parts tell =
-      keeps_as_told station synced (parts_of station commands ending parts.desk) told tell.tell.0 site parts.together sound tell.tell.1 tell.followed
+  desk_as_reported (Some reported) station synced commands ending site sound parts tell =
+      keeps_as_reported station synced (parts_of station commands ending parts.desk) reported tell.tell.0 site parts.together sound tell.tell.1 tell.followed
 
-  module _ (told : RunTold FileTold) where
+  module _ (reported : RunLog FileLog) where
     alone_on_files : (commands : List Command) (left : Seen) (status : ExitStatus) → left.past ≡ []
-        → GoesAlone (OfDevices follows well tells told) commands left status → GoesAlone (OfFiles F told) commands left status
+        → GoesAlone (OfDevices follows well tells reported) commands left status → GoesAlone (OfFiles F reported) commands left status
     alone_on_files commands left status new (unrecovered last stage bad) = unrecovered last
-        (goes_on_files F follows to_file tells tells_file told.behind left last new stage) bad
+        (goes_on_files F follows to_file tells tells_file reported.after left last new stage) bad
     alone_on_files commands left status new (recovered accepted last among serves) = recovered accepted last among
-        (serves_on_files F follows to_file tells tells_file told.behind accepted left last new serves)
+        (serves_on_files F follows to_file tells tells_file reported.after accepted left last new serves)
 
-    behind_on_files : (is_driven : Bool) (sound : Result (Unit {0}) Fault) (commands : List Command) (left : Seen) (status : ExitStatus)
-        → left.past ≡ [] → GoesBehind (OfDevices follows well tells told) is_driven sound commands left status
-        → GoesBehind (OfFiles F told) is_driven sound commands left status
-    behind_on_files true (Ok done) commands left status new goes = (goes.0, goes_on_files F follows to_file tells tells_file told.behind left goes.0 new goes.1)
-    behind_on_files false (Ok done) commands left status new goes = alone_on_files commands left status new goes
-    behind_on_files true (Err fault) commands left status new goes = goes
-    behind_on_files false (Err fault) commands left status new goes = goes
+    after_on_files : (is_driven : Bool) (sound : Result (Unit {0}) Fault) (commands : List Command) (left : Seen) (status : ExitStatus)
+        → left.past ≡ [] → GoesAfter (OfDevices follows well tells reported) is_driven sound commands left status
+        → GoesAfter (OfFiles F reported) is_driven sound commands left status
+    after_on_files true (Ok done) commands left status new goes = (goes.0, goes_on_files F follows to_file tells tells_file reported.after left goes.0 new goes.1)
+    after_on_files false (Ok done) commands left status new goes = alone_on_files commands left status new goes
+    after_on_files true (Err fault) commands left status new goes = goes
+    after_on_files false (Err fault) commands left status new goes = goes
 
     desk_on_files : (station : Station) → station.seen.state.disk ≡ of_bytes station.seen.state.disk.bytes
-        → (commands : List Command) (status : ExitStatus) → ServesFollowedBy follows well tells station commands status told
-        → DeskGoes (OfFiles F told) station commands status
+        → (commands : List Command) (status : ExitStatus) → ServesFollowedBy follows well tells station commands status reported
+        → DeskGoes (OfFiles F reported) station commands status
     desk_on_files station synced commands status (unbegun bad) = unbegun bad
     desk_on_files station synced commands status (idle parts none tellings bad) =
-        idle parts none (parts_as_told told.desk station synced parts tellings) bad
-    desk_on_files station synced commands status (apart ending desk tellings bad) =
-        apart ending desk (parts_as_told told.desk station synced (parts_of station commands ending desk) tellings) bad
+        idle parts none (parts_as_reported reported.desk station synced parts tellings) bad
+    desk_on_files station synced commands status (separate ending desk tellings bad) =
+        separate ending desk (parts_as_reported reported.desk station synced (parts_of station commands ending desk) tellings) bad
     desk_on_files station synced commands status (served ending site sound parts tell closes) =
-        served ending site sound parts (desk_as_told told.desk station synced commands ending site sound parts tell)
-        (λ closed. behind_on_files ending.is_driven sound commands site.seen status parts.together.new (closes closed))
+        served ending site sound parts (desk_as_reported reported.desk station synced commands ending site sound parts tell)
+        (λ closed. after_on_files ending.is_driven sound commands site.seen status parts.together.new (closes closed))
 
-    pub run_on_files : (before : Seen) (commands : List Command) (status : ExitStatus) → before.past ≡ [] → RunsFollowed follows well tells before commands status told
-        → RunKeepsFiles F before commands status told
+    pub run_on_files : (before : Seen) (commands : List Command) (status : ExitStatus) → before.past ≡ [] → RunsFollowed follows well tells before commands status reported
+        → RunKeepsFiles F before commands status reported
     run_on_files before commands status new (unopened last stage bad) =
-        unopened last (goes_on_files F follows to_file tells tells_file (line_told told.desk told.opening) before last new stage) bad
+        unopened last (goes_on_files F follows to_file tells tells_file (line_reported reported.desk reported.opening) before last new stage) bad
     run_on_files before commands status new (opened station stage synced goes) =
-        opened station (goes_on_files F follows to_file tells tells_file (line_told told.desk told.opening) before station.seen new stage) synced
+        opened station (goes_on_files F follows to_file tells tells_file (line_reported reported.desk reported.opening) before station.seen new stage) synced
         (desk_on_files station synced commands status goes)
 
 -- ---- the run
 
 -- the station wasn't opened
-pub told-opening : {T : Type 0} (tellings : Option (DeskTold T)) (opening : Option T) (told : T) → tellings ≡ None → opening ≡ Some told → line_told tellings opening ≡ Some told
-told-opening {T} tellings opening told none some = ap (λ (d : Option (DeskTold T)). line_told d opening) none ∙ some
+pub reported-opening : {T : Type 0} (tellings : Option (DeskLog T)) (opening : Option T) (reported : T) → tellings ≡ None → opening ≡ Some reported → line_reported tellings opening ≡ Some reported
+reported-opening {T} tellings opening reported none some = ap (λ (d : Option (DeskLog T)). line_reported d opening) none ∙ some
 
 -- where a fault is told of one status, so it is of the final one
-alone_told : (says : Says) (commands : List Command) (left : Seen) (one final : ExitStatus) → (¬ IsFaultless one → ¬ IsFaultless final)
+alone_reported : (says : Says) (commands : List Command) (left : Seen) (one final : ExitStatus) → (¬ IsFaultless one → ¬ IsFaultless final)
     → GoesAlone says commands left one → GoesAlone says commands left final
-alone_told says commands left one final worse (unrecovered last stage bad) = unrecovered last stage (worse bad)
-alone_told says commands left one final worse (recovered accepted last among serves) = recovered accepted last among serves
+alone_reported says commands left one final worse (unrecovered last stage bad) = unrecovered last stage (worse bad)
+alone_reported says commands left one final worse (recovered accepted last among serves) = recovered accepted last among serves
 
-pub behind_told : (says : Says) (is_driven : Bool) (sound : Result (Unit {0}) Fault) (commands : List Command) (left : Seen) (one final : ExitStatus)
-    → (¬ IsFaultless one → ¬ IsFaultless final) → GoesBehind says is_driven sound commands left one
-    → GoesBehind says is_driven sound commands left final
-behind_told says true (Ok done) commands left one final worse goes = goes
-behind_told says false (Ok done) commands left one final worse goes = alone_told says commands left one final worse goes
-behind_told says true (Err fault) commands left one final worse goes = worse goes
-behind_told says false (Err fault) commands left one final worse goes = worse goes
+pub after_reported : (says : Says) (is_driven : Bool) (sound : Result (Unit {0}) Fault) (commands : List Command) (left : Seen) (one final : ExitStatus)
+    → (¬ IsFaultless one → ¬ IsFaultless final) → GoesAfter says is_driven sound commands left one
+    → GoesAfter says is_driven sound commands left final
+after_reported says true (Ok done) commands left one final worse goes = goes
+after_reported says false (Ok done) commands left one final worse goes = alone_reported says commands left one final worse goes
+after_reported says true (Err fault) commands left one final worse goes = worse goes
+after_reported says false (Err fault) commands left one final worse goes = worse goes
 
--- the parts ended soundly, and this is what went behind the desk, where the commands were submitted there and where they weren't
-pub behind_driven : (says : Says) (is_driven : Bool) (sound : Result (Unit {0}) Fault) (commands : List Command) (left : Seen) (status : ExitStatus)
-    → sound ≡ Ok tt → is_driven ≡ true → (last : Seen) × says.behind left last
-    → GoesBehind says is_driven sound commands left status
-behind_driven says is_driven sound commands left status is driven goes =
-    subst (λ (r : Result (Unit {0}) Fault). GoesBehind says is_driven r commands left status) (sym is)
-    (subst (λ (b : Bool). GoesBehind says b (Ok tt) commands left status) (sym driven) goes)
+-- the parts ended soundly, and this is what went after the desk, where the commands were submitted there and where they weren't
+pub after_driven : (says : Says) (is_driven : Bool) (sound : Result (Unit {0}) Fault) (commands : List Command) (left : Seen) (status : ExitStatus)
+    → sound ≡ Ok tt → is_driven ≡ true → (last : Seen) × says.after left last
+    → GoesAfter says is_driven sound commands left status
+after_driven says is_driven sound commands left status is driven goes =
+    subst (λ (r : Result (Unit {0}) Fault). GoesAfter says is_driven r commands left status) (sym is)
+    (subst (λ (b : Bool). GoesAfter says b (Ok tt) commands left status) (sym driven) goes)
 
-pub behind_alone : (says : Says) (is_driven : Bool) (sound : Result (Unit {0}) Fault) (commands : List Command) (left : Seen) (status : ExitStatus)
+pub after_alone : (says : Says) (is_driven : Bool) (sound : Result (Unit {0}) Fault) (commands : List Command) (left : Seen) (status : ExitStatus)
     → sound ≡ Ok tt → is_driven ≡ false → GoesAlone says commands left status
-    → GoesBehind says is_driven sound commands left status
-behind_alone says is_driven sound commands left status is undriven goes =
-    subst (λ (r : Result (Unit {0}) Fault). GoesBehind says is_driven r commands left status) (sym is)
-    (subst (λ (b : Bool). GoesBehind says b (Ok tt) commands left status) (sym undriven) goes)
+    → GoesAfter says is_driven sound commands left status
+after_alone says is_driven sound commands left status is undriven goes =
+    subst (λ (r : Result (Unit {0}) Fault). GoesAfter says is_driven r commands left status) (sym is)
+    (subst (λ (b : Bool). GoesAfter says b (Ok tt) commands left status) (sym undriven) goes)
 
 -- the recovery failed
-pub behind_failed : (says : Says) (is_driven : Bool) (sound : Result (Unit {0}) Fault) (commands : List Command) (left : Seen) (status : ExitStatus)
-    → sound ≡ Ok tt → ¬ IsFaultless status → (last : Seen) → says.behind left last
-    → GoesBehind says is_driven sound commands left status
-behind_failed says true sound commands left status is bad last stage = behind_driven says true sound commands left status is refl (last, stage)
-behind_failed says false sound commands left status is bad last stage = behind_alone says false sound commands left status is refl
+pub after_failed : (says : Says) (is_driven : Bool) (sound : Result (Unit {0}) Fault) (commands : List Command) (left : Seen) (status : ExitStatus)
+    → sound ≡ Ok tt → ¬ IsFaultless status → (last : Seen) → says.after left last
+    → GoesAfter says is_driven sound commands left status
+after_failed says true sound commands left status is bad last stage = after_driven says true sound commands left status is refl (last, stage)
+after_failed says false sound commands left status is bad last stage = after_alone says false sound commands left status is refl
     (unrecovered last stage bad)
 
 -- the parts didn't end soundly
-pub behind_unsound : (says : Says) (is_driven : Bool) (sound : Result (Unit {0}) Fault) (fault : Fault) (commands : List Command) (left : Seen)
-    (status : ExitStatus) → sound ≡ Err fault → ¬ IsFaultless status → GoesBehind says is_driven sound commands left status
-behind_unsound says true sound fault commands left status is bad = subst
-    (λ (r : Result (Unit {0}) Fault). GoesBehind says true r commands left status) (sym is) bad
-behind_unsound says false sound fault commands left status is bad = subst
-    (λ (r : Result (Unit {0}) Fault). GoesBehind says false r commands left status) (sym is) bad
+pub after_unsound : (says : Says) (is_driven : Bool) (sound : Result (Unit {0}) Fault) (fault : Fault) (commands : List Command) (left : Seen)
+    (status : ExitStatus) → sound ≡ Err fault → ¬ IsFaultless status → GoesAfter says is_driven sound commands left status
+after_unsound says true sound fault commands left status is bad = subst
+    (λ (r : Result (Unit {0}) Fault). GoesAfter says true r commands left status) (sym is) bad
+after_unsound says false sound fault commands left status is bad = subst
+    (λ (r : Result (Unit {0}) Fault). GoesAfter says false r commands left status) (sym is) bad
 
 -- the commands that were left are those of the run
-pub behind_unserved : (says : Says) (is_driven : Bool) (sound : Result (Unit {0}) Fault) (unserved commands : List Command) (left : Seen)
-    (status : ExitStatus) → (is_driven ≡ false → unserved ≡ commands) → GoesBehind says is_driven sound unserved left status
-    → GoesBehind says is_driven sound commands left status
-behind_unserved says true (Ok done) unserved commands left status same goes = goes
-behind_unserved says false (Ok done) unserved commands left status same goes = subst (λ (l : List Command). GoesAlone says l left status) (same refl)
+pub after_unserved : (says : Says) (is_driven : Bool) (sound : Result (Unit {0}) Fault) (unserved commands : List Command) (left : Seen)
+    (status : ExitStatus) → (is_driven ≡ false → unserved ≡ commands) → GoesAfter says is_driven sound unserved left status
+    → GoesAfter says is_driven sound commands left status
+after_unserved says true (Ok done) unserved commands left status same goes = goes
+after_unserved says false (Ok done) unserved commands left status same goes = subst (λ (l : List Command). GoesAlone says l left status) (same refl)
     goes
-behind_unserved says true (Err fault) unserved commands left status same goes = goes
-behind_unserved says false (Err fault) unserved commands left status same goes = goes
+after_unserved says true (Err fault) unserved commands left status same goes = goes
+after_unserved says false (Err fault) unserved commands left status same goes = goes
 
 -- ---- on one thread
 
--- a site was recovered, and commands were accepted on it behind that
-pub serves_behind : {D : Type 0} (follows : D → Seen → Type 0) (before : Seen) (r : Station) (accepted : List Command) (s : Station)
+-- a site was recovered, and commands were accepted on it after that
+pub serves_after : {D : Type 0} (follows : D → Seen → Type 0) (before : Seen) (r : Station) (accepted : List Command) (s : Station)
     → GoesKept before r.seen → BeginsSession before r → Goes accepted r s → IsFollowed follows s.seen
     → ServesOn follows accepted before s.seen
-serves_behind follows before r accepted s goes begins serves followed = record {
+serves_after follows before r accepted s goes begins serves followed = record {
   goes_on = Follows-then before r.seen s.seen goes.goes_on serves.led;
   keeps = λ machine kept.
       let first = goes.keeps machine kept in
       let session = begins machine kept in
-      let behind = serves.keeps (reopened machine session.k) session.of session.kept in
-      let next : Pair → Type 0 = KeptBehind machine session.k accepted in
+      let after = serves.keeps (reopened machine session.k) session.of session.kept in
+      let next : Pair → Type 0 = KeptAfter machine session.k accepted in
       record {
         k = session.k;
         may_keep = session.may_keep;
@@ -464,78 +464,78 @@ serves_behind follows before r accepted s goes begins serves followed = record {
             (Passes-weaker (LeavesOnly (KeptFor machine)) (LeavesOnly next) before r.seen (λ state only pair leaves. inl (only pair leaves))
             first.passes)
             (Passes-weaker (LeavesOnly (KeptWith (reopened machine session.k) accepted)) (LeavesOnly next) r.seen s.seen
-            (λ state only pair leaves. inr (only pair leaves)) behind.on_the_way.passes));
+            (λ state only pair leaves. inr (only pair leaves)) after.on_the_way.passes));
       };
   followed = followed;
 }
 
-pub goes_alone : {D T : Type 0} (follows : D → Seen → Type 0) (well : D → Type 0) (tells : D → T → Type 0) (told : RunTold T) (before : Seen) (r : Station)
-    (commands : List Command) (status : ExitStatus) → GoesKept before r.seen → BeginsSession before r → ServesSome (TellsOf follows tells told.behind) commands r
-    → GoesAlone (OfDevices follows well tells told) commands before status
-goes_alone follows well tells told before r commands status goes begins some =
+pub goes_alone : {D T : Type 0} (follows : D → Seen → Type 0) (well : D → Type 0) (tells : D → T → Type 0) (reported : RunLog T) (before : Seen) (r : Station)
+    (commands : List Command) (status : ExitStatus) → GoesKept before r.seen → BeginsSession before r → ServesSome (TellsOf follows tells reported.after) commands r
+    → GoesAlone (OfDevices follows well tells reported) commands before status
+goes_alone follows well tells reported before r commands status goes begins some =
     recovered some.accepted some.last.seen some.among
-    (serves_behind (TellsOf follows tells told.behind) before r some.accepted some.last goes begins some.goes some.followed)
+    (serves_after (TellsOf follows tells reported.after) before r some.accepted some.last goes begins some.goes some.followed)
 
--- what went behind a desk whose parts ended soundly
-pub goes_behind_desk : {D T : Type 0} (follows : D → Seen → Type 0) (well : D → Type 0) (tells : D → T → Type 0) (told : RunTold T) (behind : T)
+-- what went after a desk whose parts ended soundly
+pub goes_after_desk : {D T : Type 0} (follows : D → Seen → Type 0) (well : D → Type 0) (tells : D → T → Type 0) (reported : RunLog T) (after : T)
     (is_driven : Bool) (sound : Result (Unit {0}) Fault) (commands : List Command) (left : Seen) (ended : Result ExitStatus Fault) (status : ExitStatus)
-    → sound ≡ Ok tt → told.behind ≡ Some behind → OnErr ended (¬ IsFaultless status)
-    → GoesBehindDesk (Tells follows tells behind) is_driven commands left ended
-    → GoesBehind (OfDevices follows well tells told) is_driven sound commands left status
-goes_behind_desk {D} {T} follows well tells told behind true sound commands left ended status is tells_so bad goes =
-    behind_driven (OfDevices follows well tells told) true sound commands left status is refl
+    → sound ≡ Ok tt → reported.after ≡ Some after → OnErr ended (¬ IsFaultless status)
+    → GoesAfterDesk (Tells follows tells after) is_driven commands left ended
+    → GoesAfter (OfDevices follows well tells reported) is_driven sound commands left status
+goes_after_desk {D} {T} follows well tells reported after true sound commands left ended status is tells_so bad goes =
+    after_driven (OfDevices follows well tells reported) true sound commands left status is refl
     (goes.0, subst (λ (t : Option T). GoesFollowed (TellsOf follows tells t) left goes.0) (sym tells_so) goes.1)
-goes_behind_desk {D} {T} follows well tells told behind false sound commands left ended status is tells_so bad (inl (last, fault, goes, failed)) =
-    behind_failed (OfDevices follows well tells told) false sound commands left status is
+goes_after_desk {D} {T} follows well tells reported after false sound commands left ended status is tells_so bad (inl (last, fault, goes, failed)) =
+    after_failed (OfDevices follows well tells reported) false sound commands left status is
     (subst (λ (r : Result ExitStatus Fault). OnErr r (¬ IsFaultless status)) failed bad) last
     (subst (λ (t : Option T). GoesFollowed (TellsOf follows tells t) left last) (sym tells_so) goes)
-goes_behind_desk {D} {T} follows well tells told behind false sound commands left ended status is tells_so bad (inr serves) =
-    behind_alone (OfDevices follows well tells told) false sound commands left status is refl
-    (goes_alone follows well tells told left serves.r commands status serves.goes serves.begins
+goes_after_desk {D} {T} follows well tells reported after false sound commands left ended status is tells_so bad (inr serves) =
+    after_alone (OfDevices follows well tells reported) false sound commands left status is refl
+    (goes_alone follows well tells reported left serves.r commands status serves.goes serves.begins
     (subst (λ (t : Option T). ServesSome (TellsOf follows tells t) commands serves.r) (sym tells_so) serves.serves))
 
 -- what a line was not served with, by what `serve_by_threads` tells
-pub not_served : {D T : Type 0} (follows : D → Seen → Type 0) (well : D → Type 0) (tells : D → T → Type 0) (told : RunTold T) (station : Station)
-    (commands : List Command) (why : UnservedTold T) (status : ExitStatus) → ¬ IsFaultless status → told.desk ≡ desk_of why
-    → IsUnservedTold follows well tells station commands why → ServesFollowedBy follows well tells station commands status told
-not_served follows well tells told station commands (unserved.Line part) status bad is (at_desk.line _ followed) = unbegun bad
-not_served follows well tells told station commands (unserved.Apart devices) status bad is (at_desk.apart _ parts none tellings) =
+pub not_served : {D T : Type 0} (follows : D → Seen → Type 0) (well : D → Type 0) (tells : D → T → Type 0) (reported : RunLog T) (station : Station)
+    (commands : List Command) (why : UnservedLog T) (status : ExitStatus) → ¬ IsFaultless status → reported.desk ≡ desk_of why
+    → IsUnservedReported follows well tells station commands why → ServesFollowedBy follows well tells station commands status reported
+not_served follows well tells reported station commands (unserved.Line part) status bad is (at_desk.line _ followed) = unbegun bad
+not_served follows well tells reported station commands (unserved.Separate devices) status bad is (at_desk.separate _ parts none tellings) =
     idle parts none
-    (subst (λ (d : Option (DeskTold _)). IsSomeAnd d (λ one. IsDeskTold follows well tells station.seen one parts.ends)) (sym is) tellings) bad
-not_served follows well tells told station commands (unserved.Desk devices) status bad is (at_desk.desk _ ending served_by tellings) =
-    apart ending served_by
-    (subst (λ (d : Option (DeskTold _)). IsSomeAnd d (λ one. IsDeskTold follows well tells station.seen one served_by.ends)) (sym is) tellings) bad
+    (subst (λ (d : Option (DeskLog _)). IsSomeAnd d (λ one. IsDeskReported follows well tells station.seen one parts.ends)) (sym is) tellings) bad
+not_served follows well tells reported station commands (unserved.Desk devices) status bad is (at_desk.desk _ ending served_by tellings) =
+    separate ending served_by
+    (subst (λ (d : Option (DeskLog _)). IsSomeAnd d (λ one. IsDeskReported follows well tells station.seen one served_by.ends)) (sym is) tellings) bad
 
-pub unserved_line : {D T : Type 0} (follows : D → Seen → Type 0) (well : D → Type 0) (tells : D → T → Type 0) (told : RunTold T) (station : Station)
-    (commands : List Command) (why : UnservedTold T) → told.desk ≡ desk_of why → told.opening ≡ opening_of why
-    → IsUnservedTold follows well tells station commands why → IsFollowed (TellsOf follows tells (line_told told.desk told.opening)) station.seen
-unserved_line follows well tells told station commands why same_desk same_opening is =
-    subst (λ (d : Option (DeskTold _)). IsFollowed (TellsOf follows tells (line_told d told.opening)) station.seen) (sym same_desk)
-    (subst (λ (o : Option _). IsFollowed (TellsOf follows tells (line_told (desk_of why) o)) station.seen) (sym same_opening) (by why is))
+pub unserved_line : {D T : Type 0} (follows : D → Seen → Type 0) (well : D → Type 0) (tells : D → T → Type 0) (reported : RunLog T) (station : Station)
+    (commands : List Command) (why : UnservedLog T) → reported.desk ≡ desk_of why → reported.opening ≡ opening_of why
+    → IsUnservedReported follows well tells station commands why → IsFollowed (TellsOf follows tells (line_reported reported.desk reported.opening)) station.seen
+unserved_line follows well tells reported station commands why same_desk same_opening is =
+    subst (λ (d : Option (DeskLog _)). IsFollowed (TellsOf follows tells (line_reported d reported.opening)) station.seen) (sym same_desk)
+    (subst (λ (o : Option _). IsFollowed (TellsOf follows tells (line_reported (desk_of why) o)) station.seen) (sym same_opening) (by why is))
   where
-    by : (why : UnservedTold _) → IsUnservedTold follows well tells station commands why
-        → IsFollowed (TellsOf follows tells (line_told (desk_of why) (opening_of why))) station.seen
+    by : (why : UnservedLog _) → IsUnservedReported follows well tells station commands why
+        → IsFollowed (TellsOf follows tells (line_reported (desk_of why) (opening_of why))) station.seen
     by (unserved.Line part) (at_desk.line _ followed) = (followed.0, (followed.1.0, followed.1.1))
-    by (unserved.Apart devices) (at_desk.apart _ parts none tellings) = (tellings.before.0, (tellings.before.1.0, tellings.before.1.1))
+    by (unserved.Separate devices) (at_desk.separate _ parts none tellings) = (tellings.before.0, (tellings.before.1.0, tellings.before.1.1))
     by (unserved.Desk devices) (at_desk.desk _ ending served_by tellings) = (tellings.before.0, (tellings.before.1.0, tellings.before.1.1))
 
-desk_told : (F : Type 0) (told : RunTold FileTold) (station : Station) (commands : List Command) (one final : ExitStatus) → ¬ IsFaultless final
-    → DeskGoes (OfFiles F told) station commands one → DeskGoes (OfFiles F told) station commands final
-desk_told F told station commands one final bad (unbegun was) = unbegun bad
-desk_told F told station commands one final bad (idle parts none keeps was) = idle parts none keeps bad
-desk_told F told station commands one final bad (apart ending desk keeps was) = apart ending desk keeps bad
-desk_told F told station commands one final bad (served ending site sound parts desk closes) =
-    served ending site sound parts desk (λ closed. behind_told (OfFiles F told) ending.is_driven sound commands site.seen one final (λ was. bad)
+desk_reported : (F : Type 0) (reported : RunLog FileLog) (station : Station) (commands : List Command) (one final : ExitStatus) → ¬ IsFaultless final
+    → DeskGoes (OfFiles F reported) station commands one → DeskGoes (OfFiles F reported) station commands final
+desk_reported F reported station commands one final bad (unbegun was) = unbegun bad
+desk_reported F reported station commands one final bad (idle parts none keeps was) = idle parts none keeps bad
+desk_reported F reported station commands one final bad (separate ending desk keeps was) = separate ending desk keeps bad
+desk_reported F reported station commands one final bad (served ending site sound parts desk closes) =
+    served ending site sound parts desk (λ closed. after_reported (OfFiles F reported) ending.is_driven sound commands site.seen one final (λ was. bad)
     (closes closed))
 
--- a fault that is told behind a run ends it as a fault, or the status stays
-pub told_as : (F : Type 0) (before : Seen) (commands : List Command) (one final : ExitStatus) (told : RunTold FileTold) → (final ≡ one) ⊎ (¬ IsFaultless final)
-    → RunKeepsFiles F before commands one told → RunKeepsFiles F before commands final told
-told_as F before commands one final told (inl same) kept = subst (λ (s : ExitStatus). RunKeepsFiles F before commands s told) (sym same) kept
-told_as F before commands one final told (inr bad) (unopened last stage was) = unopened last stage bad
-told_as F before commands one final told (inr bad) (opened station stage synced goes) = opened station stage synced
-    (desk_told F told station commands one final bad goes)
+-- a fault that is told after a run ends it as a fault, or the status stays
+pub reported_as : (F : Type 0) (before : Seen) (commands : List Command) (one final : ExitStatus) (reported : RunLog FileLog) → (final ≡ one) ⊎ (¬ IsFaultless final)
+    → RunKeepsFiles F before commands one reported → RunKeepsFiles F before commands final reported
+reported_as F before commands one final reported (inl same) kept = subst (λ (s : ExitStatus). RunKeepsFiles F before commands s reported) (sym same) kept
+reported_as F before commands one final reported (inr bad) (unopened last stage was) = unopened last stage bad
+reported_as F before commands one final reported (inr bad) (opened station stage synced goes) = opened station stage synced
+    (desk_reported F reported station commands one final bad goes)
 
-pub runs_kept : (F : Type 0) (old : Known) (name script : List ℕ) (line : LineFile) (site : SiteValue) (commands : List Command) (status : ExitStatus) (told : RunTold FileTold) → Loads old name line site
-    → SpellsCommands old script commands → RunKeepsFiles F site.seen commands status told → KeepsRunFiles F old name script status told
-runs_kept F known name script line site commands status told loaded spelt kept = record { line = line; site = site; loaded = loaded; commands = commands; spelt = spelt; kept = kept }
+pub runs_kept : (F : Type 0) (old : Known) (name script : List ℕ) (line : LineFile) (site : SiteValue) (commands : List Command) (status : ExitStatus) (reported : RunLog FileLog) → Loads old name line site
+    → SpellsCommands old script commands → RunKeepsFiles F site.seen commands status reported → KeepsRunFiles F old name script status reported
+runs_kept F known name script line site commands status reported loaded spelt kept = record { line = line; site = site; loaded = loaded; commands = commands; spelt = spelt; kept = kept }

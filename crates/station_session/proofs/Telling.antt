@@ -4,11 +4,11 @@ use Rattle.std.specs.Prelude.{IfSome, List, None, Option}
 use Rattle.std.specs.Option.{ForSome}
 use Rattle.site_shadow.specs.declared.lending.LinePart.{LinePart}
 use Rattle.site_file.specs.declared.asking.Asked.{Asked}
-use Rattle.site_file.specs.declared.asking.FileTold.{FileTold}
+use Rattle.site_file.specs.declared.asking.FileLog.{FileLog}
 use Rattle.site_file.specs.Parts.{AreOf}
 
-pub told_own : (told : FileTold) (part : LinePart) → told.part ≡ Some part → IfSome told.calls (AreOf (Some part))
-told_own told part is = by told.calls (subst (λ (p : Option LinePart). ForSome told.calls (AreOf p)) is told.own)
+pub reported_own : (reported : FileLog) (part : LinePart) → reported.part ≡ Some part → IfSome reported.calls (AreOf (Some part))
+reported_own reported part is = by reported.calls (subst (λ (p : Option LinePart). ForSome reported.calls (AreOf p)) is reported.own)
   where
     by : (calls : Option (List Asked)) → ForSome calls (AreOf (Some part)) → IfSome calls (AreOf (Some part))
     by None own = tt

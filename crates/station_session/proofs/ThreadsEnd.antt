@@ -14,10 +14,10 @@ use Rattle.station_files.specs.declared.faults.ExitStatus.TheVariants.{Done}
 use Rattle.station_line.specs.Site.{files_of}
 use Rattle.script_session.specs.declared.threads.Left.{Left}
 use Rattle.script_session.specs.AtDesk.{LeavesSo}
-use Rattle.script_session.proofs.DeskLaws.{served-told}
+use Rattle.script_session.proofs.DeskLaws.{served-reported}
 use Rattle.station_session.specs.Session.{EndsStation}
-use Rattle.script_session.specs.Saving.{SavesBehind, SavesLeft}
-use Rattle.script_session.proofs.SavingLaws.{behind-unserved, behind-worse}
+use Rattle.script_session.specs.Saving.{SavesAfter, SavesLeft}
+use Rattle.script_session.proofs.SavingLaws.{after-unserved, after-worse}
 
 -- nothing was served, and nothing is saved
 pub ends-unserved : (is_cut : Bool) (files : Known) (line : LineFile) (opened : Station) (commands : List Command) (status : ExitStatus) → ¬ IsFaultless status → EndsStation is_cut files files line opened commands status
@@ -35,40 +35,40 @@ ends-left old new line opened commands left status served same others saved = re
         answers = left.ending.status;
         worst = s.worst;
         site = left.site;
-        served = served-told opened commands left.ending left.site s.told served;
-        behind = behind-unserved left.ending.is_driven new line left.site.seen left.unserved.items commands status same s.behind;
+        served = served-reported opened commands left.ending left.site s.reported served;
+        after = after-unserved left.ending.is_driven new line left.site.seen left.unserved.items commands status same s.after;
       };
 }
 
 -- no fault is told where the status has none
-well-told : (told : Result (Unit {0}) Fault) (one : ExitStatus) → OnErr told (¬ IsFaultless one) → IsFaultless one → told ≡ Ok tt
-well-told (Ok done) one bad good = refl
-well-told (Err fault) one bad good = absurd (bad good)
+well-reported : (reported : Result (Unit {0}) Fault) (one : ExitStatus) → OnErr reported (¬ IsFaultless one) → IsFaultless one → reported ≡ Ok tt
+well-reported (Ok done) one bad good = refl
+well-reported (Err fault) one bad good = absurd (bad good)
 
 -- Of a desk that isn't closed a fault is told.
-pub not-closed : {F : Type 0} (closed : Result (Unit {0}) F) (why : F) (told : Result (Unit {0}) Fault) (one : ExitStatus) → closed ≡ Err why → OnOk told (closed ≡ Ok tt) → OnErr told (¬ IsFaultless one) → ¬ IsFaultless one
-not-closed closed why told one failed closes bad good =
-    let is : closed ≡ Ok tt = subst (λ (r : Result (Unit {0}) Fault). OnOk r (closed ≡ Ok tt)) (well-told told one bad good) closes in
+pub not-closed : {F : Type 0} (closed : Result (Unit {0}) F) (why : F) (reported : Result (Unit {0}) Fault) (one : ExitStatus) → closed ≡ Err why → OnOk reported (closed ≡ Ok tt) → OnErr reported (¬ IsFaultless one) → ¬ IsFaultless one
+not-closed closed why reported one failed closes bad good =
+    let is : closed ≡ Ok tt = subst (λ (r : Result (Unit {0}) Fault). OnOk r (closed ≡ Ok tt)) (well-reported reported one bad good) closes in
     let never : Err why ≡ Ok tt = sym failed ∙ is in
     absurd cc
 
 -- The status of the answers, that of what is told and that of saving are at most that of the run.
-pub saves-left : {T : Type 0} (files : Known) (line : LineFile) (left : Left SiteValue T) (one saved both final : ExitStatus) → OnErr left.ending.told (¬ IsFaultless one)
-    → (IsFaultless saved → SavesBehind files line left.site.seen left.ending.is_driven left.unserved.items saved) → (both ≡ Done → (one ≡ Done) × (saved ≡ Done)) → (IsFaultless both → IsFaultless one × IsFaultless saved)
+pub saves-left : {T : Type 0} (files : Known) (line : LineFile) (left : Left SiteValue T) (one saved both final : ExitStatus) → OnErr left.ending.reported (¬ IsFaultless one)
+    → (IsFaultless saved → SavesAfter files line left.site.seen left.ending.is_driven left.unserved.items saved) → (both ≡ Done → (one ≡ Done) × (saved ≡ Done)) → (IsFaultless both → IsFaultless one × IsFaultless saved)
     → (final ≡ Done → (left.ending.status ≡ Done) × (both ≡ Done)) → (IsFaultless final → IsFaultless left.ending.status × IsFaultless both) → IsFaultless final → SavesLeft files line left final
 saves-left files line left one saved both final bad keeps both_done both_good final_done final_good good =
     let each = both_good (final_good good).1 in
-    let behind = keeps each.1 in
+    let after = keeps each.1 in
     record {
       worst = λ done. (final_done done).0;
-      told = well-told left.ending.told one bad each.0;
-      behind = behind-worse left.ending.is_driven files line left.site.seen left.unserved.items saved final (λ done. (both_done (final_done done).1).1) behind;
+      reported = well-reported left.ending.reported one bad each.0;
+      after = after-worse left.ending.is_driven files line left.site.seen left.unserved.items saved final (λ done. (both_done (final_done done).1).1) after;
     }
 
--- the files hold what went behind the desk, where that ended without a fault
-pub saved-behind : (ended : Result ExitStatus Fault) (files : Known) (line : LineFile) (before : Seen) (is_driven : Bool) (commands : List Command)
-    (status : ExitStatus) → IfOk ended (SavesBehind files line before is_driven commands) → IfOk ended (λ given. status ≡ given)
-    → OnErr ended (¬ IsFaultless status) → IsFaultless status → SavesBehind files line before is_driven commands status
-saved-behind (Ok given) files line before is_driven commands status saves is bad good =
-    subst (λ (s : ExitStatus). SavesBehind files line before is_driven commands s) (sym is) saves
-saved-behind (Err fault) files line before is_driven commands status saves is bad good = absurd (bad good)
+-- the files hold what went after the desk, where that ended without a fault
+pub saved-after : (ended : Result ExitStatus Fault) (files : Known) (line : LineFile) (before : Seen) (is_driven : Bool) (commands : List Command)
+    (status : ExitStatus) → IfOk ended (SavesAfter files line before is_driven commands) → IfOk ended (λ given. status ≡ given)
+    → OnErr ended (¬ IsFaultless status) → IsFaultless status → SavesAfter files line before is_driven commands status
+saved-after (Ok given) files line before is_driven commands status saves is bad good =
+    subst (λ (s : ExitStatus). SavesAfter files line before is_driven commands s) (sym is) saves
+saved-after (Err fault) files line before is_driven commands status saves is bad good = absurd (bad good)

@@ -1,5 +1,5 @@
 -- A run on the files of a line: what a power cut leaves in them as the station is opened, while its desk is at work, and as the line is recovered
--- behind it.
+-- after it.
 use Rattle.std.specs.Prelude.{◌≡◌, ℕ, Bool, true, false, List, ◌++◌, Result, Ok, Err, OnOk, Option, Some, None, is_some, IfSome}
 use Rattle.std.specs.Prelude.{IsSomeAnd}
 use Rattle.std.specs.Prelude.{slice_get, IsTrue}
@@ -11,7 +11,7 @@ use Rattle.site_shadow.specs.Unsynced.{of_bytes}
 use Rattle.site_file.specs.declared.asking.LineFile.{LineFile as FileName}
 use Rattle.site_file.specs.declared.asking.LineFile.TheVariants.{Journal, Image}
 use Rattle.site_file.specs.declared.asking.Asked.{Asked}
-use Rattle.site_file.specs.declared.asking.FileTold.{FileTold}
+use Rattle.site_file.specs.declared.asking.FileLog.{FileLog}
 use Rattle.site_file.specs.Parts.{AreOf}
 use Rattle.site_shadow.specs.declared.lending.LinePart.{LinePart}
 use Rattle.site_shadow.specs.declared.lending.LinePart.TheVariants as parts
@@ -36,42 +36,42 @@ use Rattle.station_files.specs.ScriptFiles.{SpellsCommands}
 use Rattle.station_files.specs.declared.faults.ExitStatus.{ExitStatus}
 use Rattle.station_files.specs.declared.faults.Fault.{Fault}
 use Rattle.script_session.specs.declared.closing.Ending.{Ending}
-use Rattle.script_session.specs.Behind.{GoesFollowed}
+use Rattle.script_session.specs.After.{GoesFollowed}
 use Rattle.script_session.specs.AtDesk.{BeginsAs, DeskServes, EndsFollowed, PartsEnd, ServesParts, seen_of}
-use Rattle.script_session.specs.declared.told.DeskTold.{DeskTold}
-use Rattle.script_session.specs.declared.told.UnservedTold.{UnservedTold}
-use Rattle.script_session.specs.declared.told.UnservedTold.TheVariants as unserved
-use Rattle.script_session.specs.declared.told.PartTold.{PartTold}
-use Rattle.script_session.specs.Parts.{AreSound, AreUnserved, IsDeskTold}
-use Rattle.station_session.specs.declared.told.RunTold.{RunTold}
+use Rattle.script_session.specs.declared.logs.DeskLog.{DeskLog}
+use Rattle.script_session.specs.declared.logs.UnservedLog.{UnservedLog}
+use Rattle.script_session.specs.declared.logs.UnservedLog.TheVariants as unserved
+use Rattle.script_session.specs.declared.logs.PartLog.{PartLog}
+use Rattle.script_session.specs.Parts.{AreSound, AreUnserved, IsDeskReported}
+use Rattle.station_session.specs.declared.logs.RunLog.{RunLog}
 use Rattle.station_line.specs.Rounds.{AreAmong}
 use Rattle.station_line.specs.Site.{IsFollowed}
 use Rattle.station_line.specs.Opened.{Loads}
 
 -- ---- how far a run comes
 
--- What is said of a run: of a site before the station was opened on it and behind that; of a site before it was recovered behind a desk and behind
--- that; of one before it was recovered and then accepted these commands on one thread, and behind that; of a station and the ends of a desk's
+-- What is said of a run: of a site before the station was opened on it and after that; of a site before it was recovered after a desk and behind
+-- that; of one before it was recovered and then accepted these commands on one thread, and after that; of a station and the ends of a desk's
 -- threads; and of these, of whether the parts ended soundly, and of the site that was put together.
 pub record Says : Type 1 where
   pub opening : Seen → Seen → Type 0
-  pub behind : Seen → Seen → Type 0
+  pub after : Seen → Seen → Type 0
   pub serving : List Command → Seen → Seen → Type 0
   pub parts : Station → Ends SiteValue → Type 0
   pub desk : Station → Result (Unit {0}) Fault → Ends SiteValue → SiteValue → Type 0
 
--- The commands weren't submitted at a desk that was closed. Behind it the line was recovered, and some of them were accepted on one thread; or the
+-- The commands weren't submitted at a desk that was closed. After it the line was recovered, and some of them were accepted on one thread; or the
 -- recovery failed.
 pub data GoesAlone (says : Says) (commands : List Command) (left : Seen) (status : ExitStatus) : Type 0 where
-  unrecovered : (last : Seen) → says.behind left last → ¬ IsFaultless status → GoesAlone says commands left status
+  unrecovered : (last : Seen) → says.after left last → ¬ IsFaultless status → GoesAlone says commands left status
   recovered : (accepted : List Command) (last : Seen) → AreAmong accepted commands → says.serving accepted left last
       → GoesAlone says commands left status
 
--- A recovery went behind a closed desk, and then the commands if they weren't submitted there; or the parts didn't end soundly, and a fault is told.
-abbrev pub GoesBehind : Says → (is_driven : Bool) → (sound : Result (Unit {0}) Fault) → List Command → (left : Seen) → ExitStatus → Type 0
-GoesBehind says true (Ok done) commands left status = (last : Seen) × says.behind left last
-GoesBehind says false (Ok done) commands left status = GoesAlone says commands left status
-GoesBehind says is_driven (Err fault) commands left status = ¬ IsFaultless status
+-- A recovery went after a closed desk, and then the commands if they weren't submitted there; or the parts didn't end soundly, and a fault is told.
+abbrev pub GoesAfter : Says → (is_driven : Bool) → (sound : Result (Unit {0}) Fault) → List Command → (left : Seen) → ExitStatus → Type 0
+GoesAfter says true (Ok done) commands left status = (last : Seen) × says.after left last
+GoesAfter says false (Ok done) commands left status = GoesAlone says commands left status
+GoesAfter says is_driven (Err fault) commands left status = ¬ IsFaultless status
 
 -- The line of an open station was served so.
 pub data DeskGoes (says : Says) (station : Station) (commands : List Command) (status : ExitStatus) : Type 0 where
@@ -81,14 +81,14 @@ pub data DeskGoes (says : Says) (station : Station) (commands : List Command) (s
   idle : (parts : PartsEnd station) → AreUnserved parts.ends → says.parts station parts.ends → ¬ IsFaultless status
       → DeskGoes says station commands status
   -- a desk served its parts, and what they left couldn't be put together
-  apart : (ending : Ending) (desk : DeskServes station commands ending) → says.parts station desk.ends → ¬ IsFaultless status
+  separate : (ending : Ending) (desk : DeskServes station commands ending) → says.parts station desk.ends → ¬ IsFaultless status
       → DeskGoes says station commands status
-  -- a desk served its parts; if it was closed, a recovery went behind it
+  -- a desk served its parts; if it was closed, a recovery went after it
   served : (ending : Ending) (site : SiteValue) (sound : Result (Unit {0}) Fault) (parts : ServesParts station commands ending site)
       → says.desk station sound parts.desk.ends site
-      → (ending.closed ≡ Ok tt → GoesBehind says ending.is_driven sound commands site.seen status) → DeskGoes says station commands status
+      → (ending.closed ≡ Ok tt → GoesAfter says ending.is_driven sound commands site.seen status) → DeskGoes says station commands status
 
--- The station was opened, perhaps behind a recovery, with its disk synced, and its line served so; or it couldn't be opened.
+-- The station was opened, perhaps after a recovery, with its disk synced, and its line served so; or it couldn't be opened.
 pub data RunGoes (says : Says) (before : Seen) (commands : List Command) (status : ExitStatus) : Type 0 where
   unopened : (last : Seen) → says.opening before last → ¬ IsFaultless status → RunGoes says before commands status
   opened : (station : Station) → says.opening before station.seen → station.seen.state.disk ≡ of_bytes station.seen.state.disk.bytes
@@ -104,50 +104,50 @@ pub record ServesOn {D : Type 0} (follows : D → Seen → Type 0) (commands : L
   pub followed : IsFollowed follows now
 
 -- what is told of the line's device as the station was opened: with those of its parts, if it was taken apart
-abbrev pub line_told : {T : Type 0} → Option (DeskTold T) → Option T → Option T
-line_told (Some desk) other = Some desk.line.told
-line_told None other = other
+abbrev pub line_reported : {T : Type 0} → Option (DeskLog T) → Option T → Option T
+line_reported (Some desk) other = Some desk.line.reported
+line_reported None other = other
 
 -- the same, and what is told of devices at a desk, by what is told where a line was not served
-abbrev pub opening_of : {T : Type 0} → UnservedTold T → Option T
-opening_of (unserved.Line part) = Some part.told
-opening_of (unserved.Apart desk) = None
+abbrev pub opening_of : {T : Type 0} → UnservedLog T → Option T
+opening_of (unserved.Line part) = Some part.reported
+opening_of (unserved.Separate desk) = None
 opening_of (unserved.Desk desk) = None
 
-abbrev pub desk_of : {T : Type 0} → UnservedTold T → Option (DeskTold T)
+abbrev pub desk_of : {T : Type 0} → UnservedLog T → Option (DeskLog T)
 desk_of (unserved.Line part) = None
-desk_of (unserved.Apart desk) = Some desk
+desk_of (unserved.Separate desk) = Some desk
 desk_of (unserved.Desk desk) = Some desk
 
 -- A device keeps this of a site, and what is told, if something is, is told of it.
 abbrev pub TellsOf : {D T : Type 0} → (D → Seen → Type 0) → (D → T → Type 0) → Option T → D → Seen → Type 0
-TellsOf follows tells told device seen = follows device seen × IfSome told (tells device)
+TellsOf follows tells reported device seen = follows device seen × IfSome reported (tells device)
 
 -- Devices have followed the parts of a line at a desk; and what is told of them, if something is, they tell.
-pub record DeskTells {D T : Type 0} (follows : D → Seen → Type 0) (well : D → Type 0) (tells : D → T → Type 0) (told : Option (DeskTold T))
+pub record DeskTells {D T : Type 0} (follows : D → Seen → Type 0) (well : D → Type 0) (tells : D → T → Type 0) (reported : Option (DeskLog T))
     (station : Station) (sound : Result (Unit {0}) Fault) (ends : Ends SiteValue) : Type 0 where
   pub followed : EndsFollowed follows well station sound ends
-  pub tell : IfSome told (λ desk. IsDeskTold follows well tells station.seen desk ends × OnOk sound (AreSound desk))
+  pub tell : IfSome reported (λ desk. IsDeskReported follows well tells station.seen desk ends × OnOk sound (AreSound desk))
 
 -- what devices that keep this say of a run of which this is told
-abbrev pub OfDevices : {D T : Type 0} → (D → Seen → Type 0) → (D → Type 0) → (D → T → Type 0) → RunTold T → Says
-OfDevices follows well tells told = record {
-  opening = GoesFollowed (TellsOf follows tells (line_told told.desk told.opening));
-  behind = GoesFollowed (TellsOf follows tells told.behind);
-  serving = ServesOn (TellsOf follows tells told.behind);
-  parts = λ station ends. IsSomeAnd told.desk (λ desk. IsDeskTold follows well tells station.seen desk ends);
-  desk = λ station sound ends site. DeskTells follows well tells told.desk station sound ends;
+abbrev pub OfDevices : {D T : Type 0} → (D → Seen → Type 0) → (D → Type 0) → (D → T → Type 0) → RunLog T → Says
+OfDevices follows well tells reported = record {
+  opening = GoesFollowed (TellsOf follows tells (line_reported reported.desk reported.opening));
+  after = GoesFollowed (TellsOf follows tells reported.after);
+  serving = ServesOn (TellsOf follows tells reported.after);
+  parts = λ station ends. IsSomeAnd reported.desk (λ desk. IsDeskReported follows well tells station.seen desk ends);
+  desk = λ station sound ends site. DeskTells follows well tells reported.desk station sound ends;
 }
 
 -- A run, with devices that keep this of its sites.
 abbrev pub RunsFollowed : {D T : Type 0} → (D → Seen → Type 0) → (D → Type 0) → (D → T → Type 0) → Seen → List Command
-    → ExitStatus → RunTold T → Type 0
-RunsFollowed follows well tells before commands status told = RunGoes (OfDevices follows well tells told) before commands status
+    → ExitStatus → RunLog T → Type 0
+RunsFollowed follows well tells before commands status reported = RunGoes (OfDevices follows well tells reported) before commands status
 
 -- The same of an open station.
 abbrev pub ServesFollowedBy : {D T : Type 0} → (D → Seen → Type 0) → (D → Type 0) → (D → T → Type 0) → Station → List Command
-    → ExitStatus → RunTold T → Type 0
-ServesFollowedBy follows well tells station commands status told = DeskGoes (OfDevices follows well tells told) station commands status
+    → ExitStatus → RunLog T → Type 0
+ServesFollowedBy follows well tells station commands status reported = DeskGoes (OfDevices follows well tells reported) station commands status
 
 -- ---- on files
 
@@ -188,85 +188,85 @@ pub record KeepsAtDesk (F : Type 0) (station : Station) (sound : Result (Unit {0
   pub together : OnOk sound (HoldTogether ends parts.desk site)
 
 -- What is told of the calls of a device, if something is.
-abbrev pub IsTold : Option FileTold → (List Asked → Type 0) → Type 0
-IsTold told so = IfSome told (λ file. IfSome file.calls so)
+abbrev pub IsReported : Option FileLog → (List Asked → Type 0) → Type 0
+IsReported reported so = IfSome reported (λ file. IfSome file.calls so)
 
 -- As `KeepsOn`, by the calls that are told.
-pub record KeepsAsTold (F : Type 0) (told : Option FileTold) (before now : Seen) : Type 0 where
+pub record KeepsAsReported (F : Type 0) (reported : Option FileLog) (before now : Seen) : Type 0 where
   pub keeps : KeepsOn F before now
-  pub asked : IsTold told (λ calls. calls ≡ keeps.calls)
+  pub asked : IsReported reported (λ calls. calls ≡ keeps.calls)
 
 -- As `KeepsOnServing`, by the calls that are told.
-pub record ServesAsTold (F : Type 0) (told : Option FileTold) (commands : List Command) (before now : Seen) : Type 0 where
+pub record ServesAsReported (F : Type 0) (reported : Option FileLog) (commands : List Command) (before now : Seen) : Type 0 where
   pub keeps : KeepsOnServing F commands before now
-  pub asked : IsTold told (λ calls. calls ≡ keeps.calls)
+  pub asked : IsReported reported (λ calls. calls ≡ keeps.calls)
 
 -- The devices behind the parts of a desk have asked their files what is told of them.
-pub record HaveAsked {F : Type 0} (told : DeskTold FileTold) (ends : Ends SiteValue)
+pub record HaveAsked {F : Type 0} (reported : DeskLog FileLog) (ends : Ends SiteValue)
     (desk : DeskOnFiles F seen_of ends.flusher ends.workers.items) : Type 0 where
-  pub journal : TellsLog desk.journal.device.asking.calls told.disk.told.calls
+  pub journal : TellsLog desk.journal.device.asking.calls reported.disk.reported.calls
   pub images : (slave : ℕ) (end : Stay SiteValue SlaveLog) (is : slice_get ends.workers.items slave ≡ Some end)
-      → (part : PartTold FileTold) × (slice_get told.slaves.items slave ≡ Some part)
-      × TellsLog (desk.images slave end is).device.asking.calls part.told.calls
+      → (part : PartLog FileLog) × (slice_get reported.slaves.items slave ≡ Some part)
+      × TellsLog (desk.images slave end is).device.asking.calls part.reported.calls
 
 -- As `KeepsParts`, by the calls that are told.
-pub record KeepsPartsAsTold (F : Type 0) (told : Option (DeskTold FileTold)) (station : Station) (ends : Ends SiteValue) : Type 0 where
+pub record KeepsPartsAsReported (F : Type 0) (reported : Option (DeskLog FileLog)) (station : Station) (ends : Ends SiteValue) : Type 0 where
   pub keeps : KeepsParts F station ends
-  pub asked : IsSomeAnd told (λ desk. HaveAsked desk ends keeps.desk)
+  pub asked : IsSomeAnd reported (λ desk. HaveAsked desk ends keeps.desk)
 
 -- As `KeepsAtDesk`, by the calls that are told.
-pub record KeepsDeskAsTold (F : Type 0) (told : Option (DeskTold FileTold)) (station : Station) (sound : Result (Unit {0}) Fault)
+pub record KeepsDeskAsReported (F : Type 0) (reported : Option (DeskLog FileLog)) (station : Station) (sound : Result (Unit {0}) Fault)
     (ends : Ends SiteValue) (site : SiteValue) : Type 0 where
   pub keeps : KeepsAtDesk F station sound ends site
-  pub asked : IfSome told (λ desk. HaveAsked desk ends keeps.parts.desk)
+  pub asked : IfSome reported (λ desk. HaveAsked desk ends keeps.parts.desk)
 
 -- what the files of a run keep of which this is told
-abbrev pub OfFiles : Type 0 → RunTold FileTold → Says
-OfFiles F told = record {
-  opening = KeepsAsTold F (line_told told.desk told.opening);
-  behind = KeepsAsTold F told.behind;
-  serving = ServesAsTold F told.behind;
-  parts = KeepsPartsAsTold F told.desk;
-  desk = KeepsDeskAsTold F told.desk;
+abbrev pub OfFiles : Type 0 → RunLog FileLog → Says
+OfFiles F reported = record {
+  opening = KeepsAsReported F (line_reported reported.desk reported.opening);
+  after = KeepsAsReported F reported.after;
+  serving = ServesAsReported F reported.after;
+  parts = KeepsPartsAsReported F reported.desk;
+  desk = KeepsDeskAsReported F reported.desk;
 }
 
 -- What a power cut has left in the files of a run is kept, as far as the run came, however it ended: as the station was opened, at its desk, and in
--- what went behind the desk, each since the log of its device began. Each begins with the files as the one before left them. The logs are those
+-- what went after the desk, each since the log of its device began. Each begins with the files as the one before left them. The logs are those
 -- that the run tells.
-abbrev pub RunKeepsFiles : (F : Type 0) → (before : Seen) → List Command → ExitStatus → RunTold FileTold → Type 0
-RunKeepsFiles F before commands status told = RunGoes (OfFiles F told) before commands status
+abbrev pub RunKeepsFiles : (F : Type 0) → (before : Seen) → List Command → ExitStatus → RunLog FileLog → Type 0
+RunKeepsFiles F before commands status reported = RunGoes (OfFiles F reported) before commands status
 
 -- The line and the script were read, and what a power cut has left in the line's files as the commands were run on them is kept so.
-pub record KeepsRunFiles (F : Type 0) (old : Known) (name script : List ℕ) (status : ExitStatus) (told : RunTold FileTold) : Type 0 where
+pub record KeepsRunFiles (F : Type 0) (old : Known) (name script : List ℕ) (status : ExitStatus) (reported : RunLog FileLog) : Type 0 where
   pub line : LineFile
   pub site : SiteValue
   pub loaded : Loads old name line site
   pub commands : List Command
   pub spelt : SpellsCommands old script commands
-  pub kept : RunKeepsFiles F site.seen commands status told
+  pub kept : RunKeepsFiles F site.seen commands status reported
 
 -- All that a device asked of its files is told, and it was the device of this part: it asked no other file.
-pub record IsPartTold (part : LinePart) (told : FileTold) : Type 0 where
-  pub log : IsTrue (is_some told.calls)
-  pub own : IfSome told.calls (AreOf (Some part))
+pub record IsPartReported (part : LinePart) (reported : FileLog) : Type 0 where
+  pub log : IsTrue (is_some reported.calls)
+  pub own : IfSome reported.calls (AreOf (Some part))
 
 -- The same of the device behind the worker of each slave, in order.
-abbrev pub AreSlavesTold : List (PartTold FileTold) → Type 0
-AreSlavesTold told = (slave : ℕ) (part : PartTold FileTold) → slice_get told slave ≡ Some part → IsPartTold (parts.Slave slave) part.told
+abbrev pub AreSlavesReported : List (PartLog FileLog) → Type 0
+AreSlavesReported reported = (slave : ℕ) (part : PartLog FileLog) → slice_get reported slave ≡ Some part → IsPartReported (parts.Slave slave) part.reported
 
 -- The logs of the line's device before it was taken apart, and of the device of each part are told, each of its own part.
-pub record AreLogsTold (told : DeskTold FileTold) : Type 0 where
-  pub line : IsTrue (is_some told.line.told.calls)
-  pub disk : IsPartTold parts.Disk told.disk.told
-  pub slaves : AreSlavesTold told.slaves.items
+pub record AreLogsReported (reported : DeskLog FileLog) : Type 0 where
+  pub line : IsTrue (is_some reported.line.reported.calls)
+  pub disk : IsPartReported parts.Disk reported.disk.reported
+  pub slaves : AreSlavesReported reported.slaves.items
 
 -- The logs of the line's device as the station was opened, of the devices at the desk, and of the line's behind it are told.
-pub record IsAllTold (told : RunTold FileTold) : Type 0 where
-  pub desk : IsSomeAnd told.desk AreLogsTold
-  pub behind : IsSomeAnd told.behind (λ file. IsTrue (is_some file.calls))
+pub record IsAllReported (reported : RunLog FileLog) : Type 0 where
+  pub desk : IsSomeAnd reported.desk AreLogsReported
+  pub after : IsSomeAnd reported.after (λ file. IsTrue (is_some file.calls))
 
 -- No device is told of: none has had a file of the line.
-pub record IsNoneTold {T : Type 0} (told : RunTold T) : Type 0 where
-  pub opening : told.opening ≡ None
-  pub desk : told.desk ≡ None
-  pub behind : told.behind ≡ None
+pub record IsNoneReported {T : Type 0} (reported : RunLog T) : Type 0 where
+  pub opening : reported.opening ≡ None
+  pub desk : reported.desk ≡ None
+  pub after : reported.after ≡ None

@@ -14,14 +14,14 @@ use Rattle.station_text.specs.declared.line_file.LineFile.{LineFile}
 use Rattle.station_files.specs.Faults.{IsFaultless}
 use Rattle.station_files.specs.declared.faults.Fault.{Fault}
 use Rattle.station_files.specs.Files.{Known, ChangesAmong}
-use Rattle.station_files.specs.FileNames.{IsLineApart}
+use Rattle.station_files.specs.FileNames.{IsLineSeparate}
 use Rattle.station_files.specs.Locations.{Leads}
 use Rattle.station_files.specs.ScriptFiles.{SpellsCommands}
 use Rattle.station_files.specs.declared.faults.ExitStatus.{ExitStatus}
 use Rattle.station_files.specs.declared.faults.ExitStatus.TheVariants.{Done}
 use Rattle.station_line.specs.Opened.{Loads}
 use Rattle.script_session.specs.Saving.{SavesRun, Serves}
-use Rattle.station_line.specs.Judging.{HasJournal, IsRunApart}
+use Rattle.station_line.specs.Validating.{HasJournal, IsRunSeparate}
 use Rattle.station_line.specs.Site.{files_of, HoldsSite}
 
 -- ---- what is read
@@ -60,7 +60,7 @@ pub record RecoversFiles (leads : Leads) (old new : Known) (name : List ℕ) (st
   pub line : LineFile
   pub site : SiteValue
   pub loaded : Loads old name line site
-  pub apart : IsLineApart leads line name
+  pub separate : IsLineSeparate leads line name
   pub journal : HasJournal site.line.sizes site.seen.state.disk.bytes
   pub ends : EndsRecovery old new line site.seen status asked
 
@@ -81,7 +81,7 @@ pub record RunsFiles (leads : Leads) (is_cut : Bool) (old new : Known) (name scr
   pub line : LineFile
   pub site : SiteValue
   pub loaded : Loads old name line site
-  pub apart : IsRunApart leads line name script
+  pub separate : IsRunSeparate leads line name script
   pub journal : HasJournal site.line.sizes site.seen.state.disk.bytes
   pub commands : List Command
   pub spelt : SpellsCommands old script commands

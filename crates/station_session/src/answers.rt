@@ -4,7 +4,7 @@ use station_files::Failures;
 
 /// Where a call prints its answers, and notes what goes wrong.
 #[derive(Drop)]
-pub struct Answers<'a, W> {
+pub struct AnswerStreams<'a, W> {
     /// What was asked for.
     pub output: &'a mut W,
     /// What has gone wrong.

@@ -7,14 +7,14 @@ ghost use Rattle.station_line.specs.Opened.{is_old, IsFresh, StartsFrom};
 ghost use Rattle.station_line.specs.Site.{files_of};
 ghost use Rattle.station_session.specs.Session.{EndsRun, EndsStation, IsRefusal};
 
-use crate::answers::Answers;
+use crate::answers::AnswerStreams;
 use sii_edit::Command;
 use site_journal::ReadFault;
 use site_mem::{FaultPlan, Pattern};
 use site_shadow::{Device, ShadowSite};
 use station_alone::{Alone, OpenFault};
 use station_files::{ExitStatus, Failures, Store, worse};
-use station_line::{Given, Session, migrated, of_open, save_site, serve_commands};
+use station_line::{LoadedLine, Session, migrated, of_open, save_site, serve_commands};
 use station_text::LineFile;
 use std::alloc::Global;
 use std::io::Write;
@@ -31,16 +31,16 @@ pub struct Fuse {
 /// Opens the station on the line in memory, serves the commands up to the power cut, and saves what the line holds.
 pub(crate) fn run_fused<S: Store, W: Write>(
     alloc: Global,
-    given: Given<S::Lock>,
+    given: LoadedLine<S::Lock>,
     fuse: Fuse,
     store: &mut S,
-    answers: Answers<'_, W>,
+    answers: AnswerStreams<'_, W>,
 ) -> ExitStatus
     requires fresh { IsFresh given.session.line given.session.site }
     requires old { given.session.is_old ≡ is_old given.session.site.seen.state.disk.bytes }
     ensures { EndsRun true (S.files store.old) (S.files store.new) given.session.line given.session.site given.commands.items result }
 {
-    let Given { session, commands } = given;
+    let LoadedLine { session, commands } = given;
     let Session {
         line,
         site,
@@ -123,13 +123,13 @@ fn run_station<D: Device + Drop, S: Store, W: Write>(
     mut alone: Alone<ShadowSite<D>>,
     commands: Vec<Command>,
     store: &mut S,
-    answers: Answers<'_, W>,
+    answers: AnswerStreams<'_, W>,
 ) -> ExitStatus
     requires disk { IsTrue alone.line.has_disk }
     requires slaves { length alone.line.sizes ≡ length line.now.images.items }
     ensures { EndsStation true (S.files store.old) (S.files store.new) line.now alone commands.items result }
 {
-    let Answers { output, failures } = answers;
+    let AnswerStreams { output, failures } = answers;
     let mut status = ExitStatus::Done;
     let slaves = line.images.len() as u16;
     let served = serve_commands(&mut alone, slaves, commands, output, &mut status);

@@ -4,16 +4,16 @@
 
 mod answers;
 mod fused;
+mod logs;
 mod on_files;
 mod recovery;
 mod run;
 mod threads;
-mod told;
 mod watch;
 
-pub use answers::Answers;
+pub use answers::AnswerStreams;
 pub use fused::Fuse;
 pub use recovery::{Recovery, recover_line};
+pub use reported::{FilesLog, RunLog};
 pub use run::{Ran, RunNames, run_script};
-pub use told::{FilesTold, RunTold};
 pub use watch::Watch;

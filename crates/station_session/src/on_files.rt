@@ -23,7 +23,7 @@ pub(crate) type WatchedSite<'p, F, T, R> = ShadowSite<Watched<'p, FileDevice<F>,
 
 /// A site on files that was taken apart.
 #[derive(Drop)]
-pub(crate) struct Apart<F> {
+pub(crate) struct Separate<F> {
     pub(crate) parts: Parts,
     /// Whether the files hold the parts: no call on a file has failed, and the site goes on.
     pub(crate) is_sound: bool,
@@ -61,7 +61,7 @@ fn split<D: Device>(site: ShadowSite<D>) -> Parted<D>
 /// Takes a site on files apart.
 pub(crate) fn take_apart<F: RandomAccessFile + Drop, T: Write, R: Clock>(
     site: WatchedSite<'_, F, T, R>,
-) -> Apart<F>
+) -> Separate<F>
     ensures count { length result.parts.halves.items ≡ length site.entry.line.sizes }
     ensures halves { halves_of result.parts.halves.items ≡ site.entry.seen.state.halves }
     ensures disk { IfSome result.parts.disk (λ bytes. bytes.items ≡ site.entry.seen.state.disk.bytes) }
@@ -75,7 +75,7 @@ pub(crate) fn take_apart<F: RandomAccessFile + Drop, T: Write, R: Clock>(
     } = split(site);
     let device = watched.into_device();
     let is_sound = !has_stopped && !device.has_failed();
-    Apart {
+    Separate {
         parts,
         is_sound,
         files: device.finish(),
@@ -105,7 +105,7 @@ pub(crate) fn save_sound<S: Store, T: Write, R: Clock>(
     ensures others { ChangesAmong (S.files store.old) (S.files store.new) (files_of line.now) }
     ensures files { SavedSoundly site.entry.seen result.saved (option_map (λ files. files.log) result.files) }
 {
-    let Apart {
+    let Separate {
         parts,
         is_sound,
         files,

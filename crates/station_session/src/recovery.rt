@@ -5,8 +5,8 @@ ghost use Rattle.station_line.specs.Refusals.{RefusesRecovery};
 ghost use Rattle.station_session.specs.Session.{EndsRecovery, RecoversFiles};
 ghost use Rattle.station_line.specs.Opened.{IsFresh};
 
-use crate::answers::Answers;
-use crate::on_files::{Apart, Saved, WatchedSite, save_sound, take_apart};
+use crate::answers::AnswerStreams;
+use crate::on_files::{Saved, Separate, WatchedSite, save_sound, take_apart};
 use crate::watch::Watch;
 use line_watch::{Cleared, Watched};
 use site_file::{FileDevice, Finished};
@@ -44,7 +44,7 @@ pub fn recover_line<S: Store, W: Write, T: Write, R: Wait + Clock + AllocGlobal>
     watch: Watch<'_, T, R>,
     name: &str,
     store: &mut S,
-    answers: Answers<'_, W>,
+    answers: AnswerStreams<'_, W>,
 ) -> Result<Recovery<S::File>, Fault>
     ensures recovered { IfOk result (λ recovery. RecoversFiles S.leads (S.files store.old) (S.files store.new) name.now recovery.status
         (option_map (λ files. files.log) recovery.files)) }
@@ -67,14 +67,14 @@ fn recover_session<S: Store, W: Write, T: Write, R: Wait + Clock + AllocGlobal>(
     watch: Watch<'_, T, R>,
     session: Session<S::Lock>,
     store: &mut S,
-    answers: Answers<'_, W>,
+    answers: AnswerStreams<'_, W>,
 ) -> Recovery<S::File>
     requires fresh { IsFresh session.line session.site }
     ensures { EndsRecovery (S.files store.old) (S.files store.new) session.line session.site.seen result.status
         (option_map (λ files. files.log) result.files) }
 {
     let Watch { rt, progress } = watch;
-    let Answers { output, failures } = answers;
+    let AnswerStreams { output, failures } = answers;
     let Session {
         line,
         site,
@@ -132,7 +132,7 @@ fn recover_site<S: Store, W: Write, T: Write, R: Clock>(
             }
         }
         Err((left, fault)) => {
-            let Apart { parts, files, .. } = take_apart(left);
+            let Separate { parts, files, .. } = take_apart(left);
             drop(parts);
             Recovery {
                 status: failures.note(of_open(fault)),

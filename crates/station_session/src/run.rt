@@ -3,21 +3,21 @@ ghost use Rattle.std.specs.Prelude.{◌≡◌, is_some, false, IfErr, IfOk, IsTr
 ghost use Rattle.station_files.specs.Faults.{IsFaultless};
 ghost use Rattle.station_line.specs.Opened.{is_old, IsFresh};
 ghost use Rattle.station_line.specs.Refusals.{RefusesRun};
-ghost use Rattle.station_session.specs.RunFiles.{IsAllTold, IsNoneTold, KeepsRunFiles, RunKeepsFiles, RunsFollowed};
+ghost use Rattle.station_session.specs.RunFiles.{IsAllReported, IsNoneReported, KeepsRunFiles, RunKeepsFiles, RunsFollowed};
 ghost use Rattle.station_session.specs.Session.{EndsRun, RunsFiles};
 
-use crate::answers::Answers;
+use crate::answers::AnswerStreams;
 use crate::fused::{Fuse, run_fused};
+use crate::logs::{FilesLog, RunLog, Served, with_all_reported};
 use crate::threads::run_threads;
-use crate::told::{FilesTold, RunTold, Served, with_all_told};
 use crate::watch::Watch;
 use line_watch::{Cleared, Watched};
 use sii_edit::Command;
-use site_file::{FileDevice, FileTold, OpenFiles};
+use site_file::{FileDevice, FileLog, OpenFiles};
 use site_mem::FaultPlan;
 use site_shadow::{Lends, ShadowSite};
 use station_files::{ExitStatus, Failures, Fault, Store};
-use station_line::{Given, Session, load, of_open, open_files, open_station};
+use station_line::{LoadedLine, Session, load, of_open, open_files, open_station};
 use station_text::LineFile;
 use std::io::Write;
 use std::rt::Clock;
@@ -41,7 +41,7 @@ pub struct Ran {
     /// The exit status.
     pub status: ExitStatus,
     /// What was asked of the files.
-    pub told: FilesTold,
+    pub reported: FilesLog,
 }
 
 impl Ran {
@@ -49,12 +49,12 @@ impl Ran {
     fn without_files(is_begun: bool, status: ExitStatus) -> Ran
         ensures begun { result.is_begun ≡ is_begun }
         ensures status { result.status ≡ status }
-        ensures told { IsNoneTold result.told }
+        ensures reported { IsNoneReported result.reported }
     {
         Ran {
             is_begun,
             status,
-            told: RunTold::nothing(),
+            reported: RunLog::nothing(),
         }
     }
 }
@@ -93,15 +93,15 @@ pub fn run_script<
     names: RunNames<'_>,
     fuse: Option<Fuse>,
     store: &mut S,
-    answers: Answers<'_, W>,
+    answers: AnswerStreams<'_, W>,
 ) -> Result<Ran, Fault>
     ensures ran { IfOk result (λ ran. RunsFiles S.leads (is_some fuse) (S.files store.old) (S.files store.new) names.entry.line.now
         names.entry.script.now ran.status) }
     ensures begun { IfOk result (λ ran. IsFaultless ran.status → IsTrue ran.is_begun) }
     ensures kept { is_some fuse ≡ false → IfOk result (λ ran. IsTrue ran.is_begun
-        → KeepsRunFiles S.File (S.files store.old) names.entry.line.now names.entry.script.now ran.status ran.told) }
-    ensures told { is_some fuse ≡ false → IfOk result (λ ran. IsFaultless ran.status → IsAllTold ran.told) }
-    ensures unbegun { IfOk result (λ ran. ran.is_begun ≡ false → IsNoneTold ran.told) }
+        → KeepsRunFiles S.File (S.files store.old) names.entry.line.now names.entry.script.now ran.status ran.reported) }
+    ensures reported { is_some fuse ≡ false → IfOk result (λ ran. IsFaultless ran.status → IsAllReported ran.reported) }
+    ensures unbegun { IfOk result (λ ran. ran.is_begun ≡ false → IsNoneReported ran.reported) }
     ensures refused { IfErr result (RefusesRun (S.files store.old) S.leads names.entry.line.now names.entry.script.now) }
     ensures same { OnErr result (S.files store.new ≡ S.files store.old) }
 {
@@ -115,10 +115,10 @@ pub fn run_script<
 /// Serves the commands, with a fuse in memory, and else on the line's files, which it opens.
 fn run_given<S: Store, W: Write, T: Write + Send, R: Wait + Threads + Clock + AllocGlobal + Sync>(
     watch: Watch<'_, T, R>,
-    given: Given<S::Lock>,
+    given: LoadedLine<S::Lock>,
     fuse: Option<Fuse>,
     store: &mut S,
-    answers: Answers<'_, W>,
+    answers: AnswerStreams<'_, W>,
 ) -> Ran
     requires fresh { IsFresh given.session.line given.session.site }
     requires old { given.session.is_old ≡ is_old given.session.site.seen.state.disk.bytes }
@@ -126,9 +126,9 @@ fn run_given<S: Store, W: Write, T: Write + Send, R: Wait + Threads + Clock + Al
         result.status }
     ensures begun { IsFaultless result.status → IsTrue result.is_begun }
     ensures kept { is_some fuse ≡ false → IsTrue result.is_begun
-        → RunKeepsFiles S.File given.session.site.seen given.commands.items result.status result.told }
-    ensures told { is_some fuse ≡ false → IsFaultless result.status → IsAllTold result.told }
-    ensures unbegun { result.is_begun ≡ false → IsNoneTold result.told }
+        → RunKeepsFiles S.File given.session.site.seen given.commands.items result.status result.reported }
+    ensures reported { is_some fuse ≡ false → IsFaultless result.status → IsAllReported result.reported }
+    ensures unbegun { result.is_begun ≡ false → IsNoneReported result.reported }
 {
     match fuse {
         Some(fuse) => {
@@ -146,7 +146,7 @@ fn run_given<S: Store, W: Write, T: Write + Send, R: Wait + Threads + Clock + Al
                 Ran {
                     is_begun: true,
                     status: served.status,
-                    told: served.told,
+                    reported: served.reported,
                 }
             }
             Err(fault) => {
@@ -160,20 +160,20 @@ fn run_given<S: Store, W: Write, T: Write + Send, R: Wait + Threads + Clock + Al
 /// Serves the commands by threads on the open files of the line. The line of the progress gives way to what is printed.
 fn run_opened<S: Store, W: Write, T: Write + Send, R: Wait + Threads + Clock + AllocGlobal + Sync>(
     watch: Watch<'_, T, R>,
-    given: Given<S::Lock>,
+    given: LoadedLine<S::Lock>,
     files: OpenFiles<S::File>,
     store: &mut S,
-    answers: Answers<'_, W>,
-) -> Served<FileTold>
+    answers: AnswerStreams<'_, W>,
+) -> Served<FileLog>
     requires fresh { IsFresh given.session.line given.session.site }
     requires old { given.session.is_old ≡ is_old given.session.site.seen.state.disk.bytes }
     ensures ends { EndsRun false (S.files store.old) (S.files store.new) given.session.line given.session.site given.commands.items result.status }
-    ensures kept { RunKeepsFiles S.File given.session.site.seen given.commands.items result.status result.told }
-    ensures told { IsFaultless result.status → IsAllTold result.told }
+    ensures kept { RunKeepsFiles S.File given.session.site.seen given.commands.items result.status result.reported }
+    ensures reported { IsFaultless result.status → IsAllReported result.reported }
 {
     let Watch { rt, progress } = watch;
-    let Answers { output, failures } = answers;
-    let Given { session, commands } = given;
+    let AnswerStreams { output, failures } = answers;
+    let LoadedLine { session, commands } = given;
     let Session {
         line,
         site,
@@ -196,7 +196,7 @@ fn run_opened<S: Store, W: Write, T: Write + Send, R: Wait + Threads + Clock + A
         &mut Cleared::new(output, progress, rt),
         failures,
     );
-    let served = with_all_told(served, failures);
+    let served = with_all_reported(served, failures);
     watch.erase();
     served
 }
@@ -209,11 +209,11 @@ fn run_site<D: Lends + Send, S: Store, W: Write, R: Wait + Threads + AllocGlobal
     store: &mut S,
     output: &mut W,
     failures: &mut Failures,
-) -> Served<D::Told>
+) -> Served<D::Logged>
     requires fresh { IsFresh line.now ready.site }
     requires old { ready.is_old ≡ is_old ready.site.seen.state.disk.bytes }
     ensures ends { EndsRun false (S.files store.old) (S.files store.new) line.now ready.site ready.commands.items result.status }
-    ensures goes { RunsFollowed D.follows D.well D.tells ready.site.seen ready.commands.items result.status result.told }
+    ensures goes { RunsFollowed D.follows D.well D.tells ready.site.seen ready.commands.items result.status result.reported }
 {
     let Ready {
         site,
@@ -223,7 +223,7 @@ fn run_site<D: Lends + Send, S: Store, W: Write, R: Wait + Threads + AllocGlobal
     } = ready;
     match open_station(rt.alloc(), site.with_device(device), is_old) {
         Ok(alone) => {
-            let answers = Answers { output, failures };
+            let answers = AnswerStreams { output, failures };
             run_threads(rt, line, alone, commands, store, answers)
         }
         Err((left, fault)) => {
@@ -232,7 +232,7 @@ fn run_site<D: Lends + Send, S: Store, W: Write, R: Wait + Threads + AllocGlobal
             drop(commands);
             Served {
                 status: failures.note(of_open(fault)),
-                told: RunTold::of_opening(device.tell()),
+                reported: RunLog::of_opening(device.tell()),
             }
         }
     }

@@ -4,13 +4,13 @@ ghost use Rattle.station_files.specs.Faults.{IsFaultless};
 ghost use Rattle.station_files.specs.Files.{ChangesAmong};
 ghost use Rattle.station_line.specs.Site.{files_of, IsFollowed};
 ghost use Rattle.script_session.specs.Parts.{IsLineOf};
-ghost use Rattle.station_session.specs.RunFiles.{GoesBehind, OfDevices, ServesFollowedBy, TellsOf, line_told};
+ghost use Rattle.station_session.specs.RunFiles.{GoesAfter, OfDevices, ServesFollowedBy, TellsOf, line_reported};
 ghost use Rattle.station_session.specs.Session.{EndsStation};
-ghost use Rattle.script_session.specs.Saving.{SavesBehind, SavesLeft};
+ghost use Rattle.script_session.specs.Saving.{SavesAfter, SavesLeft};
 
-use crate::answers::Answers;
-use crate::told::{RunTold, Served};
-use script_session::{DeskLeft, DeskTold, Left, Work, end_line, serve_by_threads};
+use crate::answers::AnswerStreams;
+use crate::logs::{RunLog, Served};
+use script_session::{DeskLeft, DeskLog, Left, Work, end_line, serve_by_threads};
 use sii_edit::Command;
 use site_shadow::{Lends, ShadowSite};
 use station_alone::Alone;
@@ -34,12 +34,12 @@ pub(crate) fn run_threads<
     alone: Alone<ShadowSite<D>>,
     commands: Vec<Command>,
     store: &mut S,
-    answers: Answers<'_, W>,
-) -> Served<D::Told>
+    answers: AnswerStreams<'_, W>,
+) -> Served<D::Logged>
     requires none { alone.book.accepted ≡ [] }
     ensures ends { EndsStation false (S.files store.old) (S.files store.new) line.now alone commands.items result.status }
-    ensures followed { IsFollowed (TellsOf D.follows D.tells (line_told result.told.desk result.told.opening)) alone.seen }
-    ensures serves { ServesFollowedBy D.follows D.well D.tells alone commands.items result.status result.told }
+    ensures followed { IsFollowed (TellsOf D.follows D.tells (line_reported result.reported.desk result.reported.opening)) alone.seen }
+    ensures serves { ServesFollowedBy D.follows D.well D.tells alone commands.items result.status result.reported }
 {
     let work = Work {
         commands,
@@ -56,7 +56,7 @@ pub(crate) fn run_threads<
         Ok(left) => end_threads(rt.alloc(), line, left, store, answers),
         Err(why) => Served {
             status: answers.failures.note(why.fault),
-            told: RunTold::of_unserved(why.told),
+            reported: RunLog::of_unserved(why.reported),
         },
     }
 }
@@ -66,67 +66,67 @@ pub(crate) fn run_threads<
 fn end_threads<D: Lends, S: Store, W: Write>(
     alloc: Global,
     line: &LineFile,
-    left: Left<ShadowSite<D>, D::Told>,
+    left: Left<ShadowSite<D>, D::Logged>,
     store: &mut S,
-    answers: Answers<'_, W>,
-) -> Served<D::Told>
+    answers: AnswerStreams<'_, W>,
+) -> Served<D::Logged>
     requires line { IsLineOf (length line.now.images.items) left.site.line }
-    requires told { OnOk left.ending.told (left.ending.closed ≡ Ok tt) }
+    requires reported { OnOk left.ending.reported (left.ending.closed ≡ Ok tt) }
     ensures others { ChangesAmong (S.files store.old) (S.files store.new) (files_of line.now) }
     ensures saved { IsFaultless result.status → SavesLeft (S.files store.new) line.now left result.status }
-    ensures desk { result.told.desk ≡ Some left.told }
-    ensures goes { left.ending.closed ≡ Ok tt → GoesBehind (OfDevices D.follows D.well D.tells result.told) left.ending.is_driven left.sound
+    ensures desk { result.reported.desk ≡ Some left.reported }
+    ensures goes { left.ending.closed ≡ Ok tt → GoesAfter (OfDevices D.follows D.well D.tells result.reported) left.ending.is_driven left.sound
         left.unserved.items left.site.seen result.status }
 {
     let status = left.ending.status;
-    let told = answers.failures.note_end(left.ending.told);
+    let reported = answers.failures.note_end(left.ending.reported);
     match left.ending.closed {
         Ok(()) => {
-            let saved = save_behind(alloc, line, left, store, answers);
+            let saved = save_after(alloc, line, left, store, answers);
             Served {
-                status: worse(status, worse(told, saved.status)),
-                told: saved.told,
+                status: worse(status, worse(reported, saved.status)),
+                reported: saved.reported,
             }
         }
         Err(_) => Served {
-            status: worse(status, told),
-            told: RunTold::of_desk(desk_told(left), None),
+            status: worse(status, reported),
+            reported: RunLog::of_desk(desk_reported(left), None),
         },
     }
 }
 
 /// What is told of the devices of a line that isn't worked on any more.
-fn desk_told<D: Lends>(left: Left<ShadowSite<D>, D::Told>) -> DeskTold<D::Told>
-    ensures { result ≡ left.told }
+fn desk_reported<D: Lends>(left: Left<ShadowSite<D>, D::Logged>) -> DeskLog<D::Logged>
+    ensures { result ≡ left.reported }
 {
     let Left {
         site,
         unserved,
         ending,
         sound: _,
-        told,
+        reported,
     } = left;
     drop(site);
     drop(unserved);
     drop(ending);
-    told
+    reported
 }
 
 /// Recovers the line whose parts ended soundly, and saves what it holds. If the commands were not submitted yet, they are served between the
 /// two. Otherwise notes the fault.
-fn save_behind<D: Lends, S: Store, W: Write>(
+fn save_after<D: Lends, S: Store, W: Write>(
     alloc: Global,
     line: &LineFile,
-    left: Left<ShadowSite<D>, D::Told>,
+    left: Left<ShadowSite<D>, D::Logged>,
     store: &mut S,
-    answers: Answers<'_, W>,
-) -> Served<D::Told>
+    answers: AnswerStreams<'_, W>,
+) -> Served<D::Logged>
     requires { IsLineOf (length line.now.images.items) left.site.line }
     ensures others { ChangesAmong (S.files store.old) (S.files store.new) (files_of line.now) }
     ensures saved { IsFaultless result.status
-        → SavesBehind (S.files store.new) line.now left.site.seen left.ending.is_driven left.unserved.items result.status }
-    ensures desk { result.told.desk ≡ Some left.told }
-    ensures goes { GoesBehind (OfDevices D.follows D.well D.tells result.told) left.ending.is_driven left.sound left.unserved.items left.site.seen
+        → SavesAfter (S.files store.new) line.now left.site.seen left.ending.is_driven left.unserved.items result.status }
+    ensures desk { result.reported.desk ≡ Some left.reported }
+    ensures goes { GoesAfter (OfDevices D.follows D.well D.tells result.reported) left.ending.is_driven left.sound left.unserved.items left.site.seen
         result.status }
 {
     let Left {
@@ -134,7 +134,7 @@ fn save_behind<D: Lends, S: Store, W: Write>(
         unserved,
         ending,
         sound,
-        told,
+        reported,
     } = left;
     match sound {
         Ok(()) => {
@@ -143,10 +143,10 @@ fn save_behind<D: Lends, S: Store, W: Write>(
                 is_driven: ending.is_driven,
                 commands: unserved,
             };
-            let behind = end_line(alloc, line, left, store, answers.output);
+            let after = end_line(alloc, line, left, store, answers.output);
             Served {
-                status: answers.failures.note_status(behind.ended),
-                told: RunTold::of_desk(told, Some(behind.told)),
+                status: answers.failures.note_status(after.ended),
+                reported: RunLog::of_desk(reported, Some(after.reported)),
             }
         }
         Err(fault) => {
@@ -154,7 +154,7 @@ fn save_behind<D: Lends, S: Store, W: Write>(
             drop(unserved);
             Served {
                 status: answers.failures.note(fault),
-                told: RunTold::of_desk(told, None),
+                reported: RunLog::of_desk(reported, None),
             }
         }
     }

@@ -26,18 +26,18 @@ same_key_is key other is = (bytes_decides key other).0 (sym (is_eq-slice_cmp key
 
 found_known : (known : List (List ℕ)) (key other : List ℕ) (value : Data) (rest : Members) (order : Ordering) → slice_cmp nat_cmp key other ≡ order → is_known known other ≡ true → (get_member key rest ≢ None → is_known known key ≡ true)
     → match_ordering order (get_member key rest) (Some value) (get_member key rest) ≢ None → is_known known key ≡ true
-found_known known key other value rest Less is here behind found = behind found
-found_known known key other value rest Equal is here behind found =
+found_known known key other value rest Less is here after found = after found
+found_known known key other value rest Equal is here after found =
     let P : List ℕ → Type 0 = λ k. is_known known k ≡ true in
     subst P (sym (same_key_is key other is)) here
-found_known known key other value rest Greater is here behind found = behind found
+found_known known key other value rest Greater is here after found = after found
 
 -- a key with a value is a known key
 known_at : (known : List (List ℕ)) (key : List ℕ) (table : Members) → HasOnly known table → get_member key table ≢ None → is_known known key ≡ true
 known_at known key no_members only found = absurd (found refl)
 known_at known key (member other value rest) only found =
-    let (here, behind) = and_parts (is_known known other) (has_only known rest) only in
-    found_known known key other value rest (slice_cmp nat_cmp key other) refl here (known_at known key rest behind) found
+    let (here, after) = and_parts (is_known known other) (has_only known rest) only in
+    found_known known key other value rest (slice_cmp nat_cmp key other) refl here (known_at known key rest after) found
 
 -- a key that isn't known has no value
 pub unknown_at : (known : List (List ℕ)) (key : List ℕ) (table : Members) → HasOnly known table → is_known known key ≡ false → get_member key table ≡ None

@@ -1,8 +1,8 @@
 //! What is wrong in a text, in words, and where.
 
 use crate::forms::{Field, Form, Shape};
-use crate::judging::{judge_line, judge_script};
 use crate::places::{Part, blanked, line_at};
+use crate::validating::{validate_line, validate_script};
 use std::alloc::{AllocError, Global};
 use thiserror::Error;
 use toml::{Table, Value};
@@ -96,7 +96,7 @@ impl<'a> Flaw<'a> {
 }
 
 /// Judges the entry of an array, which has to be a table of this form and stands in this part of a text.
-pub(crate) fn judge_entry<'a>(
+pub(crate) fn validate_entry<'a>(
     part: Part<'_>,
     value: &'a Value,
     form: Form,
@@ -104,13 +104,13 @@ pub(crate) fn judge_entry<'a>(
     let Some(table) = value.as_table() else {
         return Err(Flaw::NoTable(Found::of(value, Shape::Table)).within(part));
     };
-    judge_table(part, table, form)?;
+    validate_table(part, table, form)?;
     Ok(table)
 }
 
 /// Judges a table of this form, in this part of a text. Its first flaw is an unknown key, else the first key in the form's order that is missing
 /// or has a value of another shape.
-pub(crate) fn judge_table<'a>(
+pub(crate) fn validate_table<'a>(
     part: Part<'_>,
     table: &'a Table,
     form: Form,
@@ -122,13 +122,13 @@ pub(crate) fn judge_table<'a>(
     }
     for field in form.0 {
         match (table.get(field.key()), *field) {
-            (Some(value), Field::Needed(key, shape) | Field::Free(key, shape)) => {
+            (Some(value), Field::Needed(key, shape) | Field::Optional(key, shape)) => {
                 if !shape.fits(value) {
                     return Err(Flaw::Wrong(key, Found::of(value, shape), shape).within(part));
                 }
             }
             (None, Field::Needed(key, _)) => return Err(Flaw::Missing(key).within(part)),
-            (None, Field::Free(..)) => {}
+            (None, Field::Optional(..)) => {}
         }
     }
     Ok(())
@@ -176,12 +176,12 @@ fn trouble_in(
     kind: TextKind,
 ) -> Result<TextTrouble, AllocError> {
     let code = blanked(alloc, text.as_bytes())?;
-    let part = Part::whole(&code);
-    let judged = match kind {
-        TextKind::Line => judge_line(part, table),
-        TextKind::Script(command) => judge_script(part, table, command),
+    let part = Part::entire(&code);
+    let validated = match kind {
+        TextKind::Line => validate_line(part, table),
+        TextKind::Script(command) => validate_script(part, table, command),
     };
-    let Spot { flaw, at } = match judged {
+    let Spot { flaw, at } = match validated {
         Err(spot) => spot,
         Ok(()) => kind.unknown().within(part),
     };

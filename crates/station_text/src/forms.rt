@@ -28,7 +28,7 @@ pub enum Field {
     /// It must be there.
     Needed(&'static str, Shape),
     /// It may be left out.
-    Free(&'static str, Shape),
+    Optional(&'static str, Shape),
 }
 
 /// The keys of a table, in the order in which they are read. They are printed in words.
@@ -42,7 +42,7 @@ const LARGE: Shape = Shape::Number(0, 4_294_967_295);
 /// A line file.
 pub const LINE: Form = Form(&[
     Field::Needed("journal", Shape::Text),
-    Field::Free("area", Shape::Number(4_096, 4_194_304)),
+    Field::Optional("area", Shape::Number(4_096, 4_194_304)),
     Field::Needed("slave", Shape::Array),
 ]);
 
@@ -54,26 +54,26 @@ pub const SCRIPT: Form = Form(&[Field::Needed("command", Shape::Array)]);
 
 /// A command of a script, which has one of these keys.
 pub const COMMAND: Form = Form(&[
-    Field::Free("alias", Shape::Table),
-    Field::Free("swap", Shape::Pair),
-    Field::Free("category", Shape::Table),
-    Field::Free("image", Shape::Table),
-    Field::Free("group", Shape::Array),
+    Field::Optional("alias", Shape::Table),
+    Field::Optional("swap", Shape::Pair),
+    Field::Optional("category", Shape::Table),
+    Field::Optional("image", Shape::Table),
+    Field::Optional("group", Shape::Array),
 ]);
 
 /// The kinds of an edit of a group, of which it has one.
 pub const EDIT_KINDS: Form = Form(&[
-    Field::Free("alias", Shape::Table),
-    Field::Free("category", Shape::Table),
-    Field::Free("image", Shape::Table),
+    Field::Optional("alias", Shape::Table),
+    Field::Optional("category", Shape::Table),
+    Field::Optional("image", Shape::Table),
 ]);
 
 /// An edit of a group.
 pub const EDIT: Form = Form(&[
-    Field::Free("alias", Shape::Table),
-    Field::Free("category", Shape::Table),
-    Field::Free("image", Shape::Table),
-    Field::Free("expect", Shape::Table),
+    Field::Optional("alias", Shape::Table),
+    Field::Optional("category", Shape::Table),
+    Field::Optional("image", Shape::Table),
+    Field::Optional("expect", Shape::Table),
 ]);
 
 /// The identity that an edit expects.
@@ -110,7 +110,7 @@ impl Field {
     /// The key.
     pub fn key(self) -> &'static str {
         match self {
-            Field::Needed(key, _) | Field::Free(key, _) => key,
+            Field::Needed(key, _) | Field::Optional(key, _) => key,
         }
     }
 }

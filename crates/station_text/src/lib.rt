@@ -7,11 +7,11 @@ mod fault;
 mod flaws;
 mod forms;
 mod hexadecimal;
-mod judging;
 mod line_file;
 mod places;
 mod script_command;
 mod script_file;
+mod validating;
 
 pub use flaws::TextTrouble;
 pub use hexadecimal::{HexFault, hex_lines, read_hex};

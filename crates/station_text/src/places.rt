@@ -9,7 +9,7 @@ enum Within {
     Comment,
     /// A string between `"`.
     Basic,
-    /// The byte behind a `\` in such a string.
+    /// The byte after a `\` in such a string.
     Escape,
     /// A string between `'`.
     Literal,
@@ -69,7 +69,7 @@ pub fn line_at(text: &[u8], at: usize) -> usize {
 
 impl<'t> Part<'t> {
     /// The whole of a text.
-    pub(crate) fn whole(text: &'t [u8]) -> Part<'t> {
+    pub(crate) fn entire(text: &'t [u8]) -> Part<'t> {
         let to = text.len();
         Part {
             text,
@@ -97,11 +97,11 @@ impl<'t> Part<'t> {
 
     /// The part of the entry `index`, from 0, of the array at a key: a table below a header `[[key]]`, or a value between brackets.
     pub(crate) fn entry(self, key: &str, index: usize) -> Part<'t> {
-        let behind = index.saturating_add(1);
+        let after = index.saturating_add(1);
         let array = self.from_key(key);
         let (from, next) = match self.header_at(key, index) {
-            None => (array.value_at(index), array.value_at(behind)),
-            header => (header, self.header_at(key, behind)),
+            None => (array.value_at(index), array.value_at(after)),
+            header => (header, self.header_at(key, after)),
         };
         match from {
             Some(_) => Part {
@@ -149,21 +149,21 @@ impl<'t> Part<'t> {
                 _ => false,
             };
             if is_begin && commas == index {
-                return Some(behind_blanks(self.text, at.saturating_add(1)));
+                return Some(after_blanks(self.text, at.saturating_add(1)));
             }
         }
         None
     }
 }
 
-/// Whether a key stands at an offset: its name, with no other letter of a name before it, and `=`, `.` or `]` behind it.
+/// Whether a key stands at an offset: its name, with no other letter of a name before it, and `=`, `.` or `]` after it.
 fn stands_at(text: &[u8], at: usize, key: &[u8]) -> bool {
     let (Some(before), Some(rest)) = (text.get(..at), text.get(at..)) else {
         return false;
     };
     match (before.last(), rest.strip_prefix(key)) {
-        (Some(byte), Some(behind)) => !is_of_name(*byte) && is_end_of_key(behind),
-        (None, Some(behind)) => is_end_of_key(behind),
+        (Some(byte), Some(after)) => !is_of_name(*byte) && is_end_of_key(after),
+        (None, Some(after)) => is_end_of_key(after),
         _ => false,
     }
 }
@@ -174,8 +174,8 @@ fn is_of_name(byte: u8) -> bool {
 }
 
 /// Whether a key ends before these bytes.
-fn is_end_of_key(behind: &[u8]) -> bool {
-    for byte in behind {
+fn is_end_of_key(after: &[u8]) -> bool {
+    for byte in after {
         match byte {
             b' ' | b'\t' => {}
             _ => return matches!(byte, b'=' | b'.' | b']'),
@@ -210,19 +210,19 @@ fn is_name_at(names: &[u8], from: usize, key: &[u8]) -> bool {
         return false;
     };
     match name.strip_prefix(key) {
-        Some(behind) => matches!(behind.first(), Some(b' ' | b']')),
+        Some(after) => matches!(after.first(), Some(b' ' | b']')),
         None => false,
     }
 }
 
 /// The offset of the first byte from here on that is neither a blank nor the end of a line.
-fn behind_blanks(text: &[u8], at: usize) -> usize {
-    let mut behind = at;
+fn after_blanks(text: &[u8], at: usize) -> usize {
+    let mut after = at;
     for byte in text.iter().skip(at) {
         if !byte.is_ascii_whitespace() {
-            return behind;
+            return after;
         }
-        behind = behind.saturating_add(1);
+        after = after.saturating_add(1);
     }
-    behind
+    after
 }

@@ -33,9 +33,9 @@ placed-through First Then Both goes place (a ∷ xs) (b ∷ ys) (c ∷ zs) first
     (goes place a b c first.0 last.0, placed-through First Then Both goes (suc place) xs ys zs first.1 last.1)
 
 -- the next item stands at the place behind these
-pub stands-behind : {A : Type 0} (xs : List A) (x : A) (rest : List A) → slice_get (xs ++ x ∷ rest) (length xs) ≡ Some x
-stands-behind [] x rest = refl
-stands-behind (y ∷ xs) x rest = stands-behind xs x rest
+pub stands-after : {A : Type 0} (xs : List A) (x : A) (rest : List A) → slice_get (xs ++ x ∷ rest) (length xs) ≡ Some x
+stands-after [] x rest = refl
+stands-after (y ∷ xs) x rest = stands-after xs x rest
 
 pub place-of : {A : Type 0} (all done rest : List A) (x : A) → done ++ x ∷ rest ≡ all → slice_get all (length done) ≡ Some x
-place-of {A} all done rest x is = subst (λ (l : List A). slice_get l (length done) ≡ Some x) is (stands-behind done x rest)
+place-of {A} all done rest x is = subst (λ (l : List A). slice_get l (length done) ≡ Some x) is (stands-after done x rest)

@@ -28,7 +28,7 @@ pub record CycleHands : Type 0 where
   pub log : List CycleNote
   pub has_job : Bool
 
--- This is an action, and not a write that begins behind this byte of the file.
+-- This is an action, and not a write that begins after this byte of the file.
 abbrev pub begins_below : ℕ → DiskNext → Bool
 begins_below limit (disk.Write at bytes) = nat_le at limit
 begins_below limit (disk.Gate at closed) = nat_le at limit

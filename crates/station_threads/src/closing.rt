@@ -102,7 +102,7 @@ fn all_match<T: Tickets, R: Refusals, S: Site>(
 }
 
 /// Says whether everything was handed in and is settled, or why not, as `close` does. Nothing changes.
-fn judge<T: Tickets, R: Refusals, S: Site>(
+fn validate<T: Tickets, R: Refusals, S: Site>(
     book: &mut Served<T, R>,
     shares: &mut [Share<T, R>],
     receipts: &[Receipt],
@@ -183,7 +183,7 @@ pub fn close<T: Tickets, R: Refusals, S: Site>(
         → IfSome left.ends.cycle (λ end. AreTurnsOf T.opened left.book.calls end.log)) }
 {
     let mut book = desk.into_book();
-    match judge(&mut book, shares.as_mut_slice(), receipts.as_slice(), &ends) {
+    match validate(&mut book, shares.as_mut_slice(), receipts.as_slice(), &ends) {
         Ok(()) => Ok(Closed { book, ends }),
         Err(fault) => Err(NotClosed {
             fault,

@@ -9,7 +9,7 @@ ghost use Rattle.desk_book.specs.Submitting.{CountsRefusal};
 
 use crate::patience::Patience;
 use crate::sides::{CycleSide, DiskSide, RomSide};
-use crate::waking::{Sleepers, Wakes, disk_told, slave_told};
+use crate::waking::{Sleepers, Wakes, disk_reported, slave_reported};
 use book_core::Core;
 use book_model::{DiskNext, RomNext, RomOutcome, Status};
 use desk_book::{
@@ -64,7 +64,7 @@ fn open_book<T: Tickets, R: Refusals>(
     ensures limit { IfOk result (λ opened. opened.2 ≡ 8 + core.capacity) }
     ensures next { AppendsNext T.opened }
 {
-    // Its contract says that what the book is appending are the accepted commands right behind the durable ones.
+    // Its contract says that what the book is appending are the accepted commands right after the durable ones.
     let _commands = core.accepted();
     let limit = AREA_START + core.capacity() as usize;
     let Ok(sleepers) = Sleepers::new(alloc, core.contents().len()) else {
@@ -323,7 +323,7 @@ impl<T: Tickets, R: Refusals> Desk<T, R> {
     }
 
     /// Waits until the next process data cycle is due: at once where its image is another one than the last had, or there are no more
-    /// cycles to do, and otherwise `CYCLE_TIME` behind the last one.
+    /// cycles to do, and otherwise `CYCLE_TIME` after the last one.
     pub(crate) fn await_cycle<W: Wait>(&self, rt: &W) {
         let served = self.served.lock(rt);
         if served.repeats_turn() {
@@ -333,13 +333,13 @@ impl<T: Tickets, R: Refusals> Desk<T, R> {
 
     /// Reports the outcome of the disk's action, and wakes those to whom it gives work.
     pub(crate) fn disk_done<W: Wait>(&self, rt: &W, outcome: Result<(), DeviceFault>) {
-        let wakes = disk_told(&mut *self.served.lock(rt), outcome);
+        let wakes = disk_reported(&mut *self.served.lock(rt), outcome);
         self.sleepers.wake(wakes);
     }
 
     /// Reports the outcome of a slave's job, and wakes those to whom it gives work.
     pub(crate) fn slave_done<W: Wait>(&self, rt: &W, slave: u16, outcome: RomOutcome) {
-        let wakes = slave_told(&mut *self.served.lock(rt), slave, outcome);
+        let wakes = slave_reported(&mut *self.served.lock(rt), slave, outcome);
         self.sleepers.wake(wakes);
         self.sleepers.wake_slave(slave);
     }
@@ -370,7 +370,7 @@ impl<T: Tickets, R: Refusals> Desk<T, R> {
         served.into_inner()
     }
 
-    /// The dispatch of the disk's jobs. It hands out no write that begins behind the journal's area.
+    /// The dispatch of the disk's jobs. It hands out no write that begins after the journal's area.
     pub fn disk_side(&self) -> DiskSide<'_, T, R>
         ensures limit { result.limit ≡ self.now.limit }
         ensures fresh { (result.log ≡ []) × (result.has_job ≡ false) }

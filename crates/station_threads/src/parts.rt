@@ -40,7 +40,7 @@ impl<S: Site, D: Dispatch<DiskLog>> DiskPart<S, D> {
     /// A part for the disk of this site.
     ///
     /// The site has to own the disk. The dispatch must have handed out nothing yet, and may hand out only actions that begin inside the
-    /// disk or right behind its end.
+    /// disk or right after its end.
     pub fn new(site: S, dispatch: D) -> Self
         requires disk { IsTrue (S.line site).has_disk }
         requires fresh { D.log dispatch ≡ [] }

@@ -7,7 +7,7 @@ use std::time::Duration;
 /// How many refusals in a row a dispatch bears.
 const TRIES: u32 = 20;
 
-/// How long a dispatch waits behind a refusal, in milliseconds.
+/// How long a dispatch waits after a refusal, in milliseconds.
 const PAUSE: u64 = 10;
 
 /// How often memory was refused to a dispatch since it was granted last.
@@ -32,7 +32,7 @@ impl Patience {
         self.refusals = 0;
     }
 
-    /// Whether memory was refused too often. Behind a refusal it waits a little first.
+    /// Whether memory was refused too often. After a refusal it waits a little first.
     pub(crate) fn has_ended<W: Wait>(&self, rt: &W) -> bool {
         if self.refusals > 0 {
             Parker::new().park_timeout(rt, Duration::from_millis(PAUSE));

@@ -154,7 +154,7 @@ fn join_turning<S: Site + Drop, R: Threads>(rt: &R, turning: Turning<S>) -> Opti
 
 /// The parts of a line, with memory for its workers and their ends.
 #[derive(Drop)]
-struct Prepared<S: Site, F: Dispatch<DiskLog>, D: Dispatch<RomLog>, C: Dispatch<CycleLog>> {
+struct PreparedLine<S: Site, F: Dispatch<DiskLog>, D: Dispatch<RomLog>, C: Dispatch<CycleLog>> {
     line: LineParts<S, F, D, C>,
     room: Room<S>,
     ghost fits: { vec_len line.slaves ≤ room },
@@ -174,7 +174,7 @@ fn serve_in<
 >(
     scope: &'s Scope<'s, E>,
     rt: &'s R,
-    prepared: Prepared<S, F, D, C>,
+    prepared: PreparedLine<S, F, D, C>,
     hook: &'s G,
     meanwhile: &mut M,
 ) -> LineEnds<S>
@@ -182,7 +182,7 @@ fn serve_in<
     ensures slaves { AreSlaveEndsOf prepared.line.slaves.items result.slaves.items }
     ensures cycle { IsEndOfCycle prepared.line.cycle result.cycle }
 {
-    let Prepared { line, room } = prepared;
+    let PreparedLine { line, room } = prepared;
     let Room {
         mut workers,
         mut ends,
@@ -237,7 +237,7 @@ pub fn serve<
     ensures slaves { AreSlaveEndsOf line.slaves.items result.slaves.items }
     ensures cycle { IsEndOfCycle line.cycle result.cycle }
 {
-    let prepared = Prepared { line, room };
+    let prepared = PreparedLine { line, room };
     thread::scope(
         thread::scope_env(),
         rt,

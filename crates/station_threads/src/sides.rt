@@ -93,9 +93,9 @@ impl<'a, T: Tickets, R: Refusals> Dispatch<DiskLog> for DiskSide<'a, T, R> {
 
     ghost has_ended = { λ _. Unit {0} };
 
-    ghost are_told = { λ _ _. Unit {0} };
+    ghost are_reported = { λ _ _. Unit {0} };
 
-    /// The answer is `Stop` in place of a write that begins behind the journal's area. It is `Stop` too once memory stayed refused.
+    /// The answer is `Stop` in place of a write that begins after the journal's area. It is `Stop` too once memory stayed refused.
     fn next<W: Wait>(&mut self, rt: &W) -> Turn<DiskNext> {
         let desk = self.desk;
         if desk.stops_for_memory(rt, &self.patience) {
@@ -146,7 +146,7 @@ impl<'a, T: Tickets, R: Refusals> Dispatch<RomLog> for RomSide<'a, T, R> {
 
     ghost has_ended = { λ _. Unit {0} };
 
-    ghost are_told = { λ _ _. Unit {0} };
+    ghost are_reported = { λ _ _. Unit {0} };
 
     fn next<W: Wait>(&mut self, rt: &W) -> Turn<RomNext> {
         let desk = self.desk;
@@ -200,7 +200,7 @@ impl<'a, T: Tickets, R: Refusals> Dispatch<CycleLog> for CycleSide<'a, T, R> {
 
     ghost has_ended = { λ _. Unit {0} };
 
-    ghost are_told = { λ _ _. Unit {0} };
+    ghost are_reported = { λ _ _. Unit {0} };
 
     fn next<W: Wait>(&mut self, rt: &W) -> Turn<CycleJob> {
         let desk = self.desk;

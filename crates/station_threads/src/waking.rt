@@ -8,7 +8,7 @@
 //! | a slave's worker, with nothing to write | a live batch names it | the sync of a gate whose commands name the slave |
 //! | the same in a finished book | all commands are durable | the sync of a gate |
 //! | the cycle, without an image or with an empty one | more commands are settled | a written word, the sync of a gate (1) |
-//! | the cycle, behind one of the same image | 10 milliseconds are over; more commands are settled | the same |
+//! | the cycle, after one of the same image | 10 milliseconds are over; more commands are settled | the same |
 //! | who waits for a receipt | the command is durable | the sync of a gate |
 //! | who watches `changed` | the status differs | each outcome and each accepted command that changes it |
 //! | all of these | a fault, `finish`, want of memory | the outcome that is a fault, `finish`, `stop_for_memory` |
@@ -53,7 +53,7 @@ pub(crate) struct Wakes {
 }
 
 impl Wakes {
-    /// Nobody: behind an issue there is nothing but to settle it.
+    /// Nobody: after an issue there is nothing but to settle it.
     pub(crate) const NOBODY: Wakes = Wakes {
         disk: false,
         slaves: 0,
@@ -62,7 +62,7 @@ impl Wakes {
         watchers: false,
     };
 
-    /// Everybody: behind a fault, a finish, and want of memory.
+    /// Everybody: after a fault, a finish, and want of memory.
     pub(crate) const EVERYBODY: Wakes = Wakes {
         disk: true,
         slaves: u64::MAX,
@@ -80,7 +80,7 @@ impl Wakes {
         watchers: true,
     };
 
-    /// Those who wait for what differs between these two statuses of a book: behind the outcome before this one, and now. Only outcomes make
+    /// Those who wait for what differs between these two statuses of a book: after the outcome before this one, and now. Only outcomes make
     /// commands durable or settled, and who watches was woken for the commands that were accepted meanwhile.
     fn between(before: &Status, after: &Status) -> Wakes {
         Wakes {
@@ -210,7 +210,7 @@ fn bits_woken<T: Tickets, R: Refusals>(served: &Served<T, R>, before: u64, after
 }
 
 /// Reports the outcome of the disk's action to the book. Answers whom this gives work.
-pub(crate) fn disk_told<T: Tickets, R: Refusals>(
+pub(crate) fn disk_reported<T: Tickets, R: Refusals>(
     served: &mut Served<T, R>,
     outcome: Result<(), DeviceFault>,
 ) -> Wakes {
@@ -227,7 +227,7 @@ pub(crate) fn disk_told<T: Tickets, R: Refusals>(
 }
 
 /// Reports the outcome of a slave's job to the book. Answers whom this gives work, beside the slave's own worker.
-pub(crate) fn slave_told<T: Tickets, R: Refusals>(
+pub(crate) fn slave_reported<T: Tickets, R: Refusals>(
     served: &mut Served<T, R>,
     slave: u16,
     outcome: RomOutcome,

@@ -6,4 +6,4 @@ mod shown;
 mod telling;
 
 pub use noting::Noting;
-pub use telling::{CAPTURE_OR_OUTPUT, INPUT_OR_OUTPUT, OUTPUT, Told, tell_more};
+pub use telling::{CAPTURE_OR_OUTPUT, INPUT_OR_OUTPUT, OUTPUT, Reported, tell_more};

@@ -18,7 +18,7 @@ pub const CAPTURE_OR_OUTPUT: &str = "the capture or standard output can't be wri
 
 /// What is told of a fault or a refusal: where it comes from, and what is wrong there.
 #[derive(Clone, Copy, Debug, Error)]
-pub enum Told<'a> {
+pub enum Reported<'a> {
     #[error("{0}")]
     Wrong(&'a str),
     /// A planned power cut has left a file as it was, since it couldn't be written.
@@ -29,18 +29,18 @@ pub enum Told<'a> {
 impl<S: Store> Noting<'_, S> {
     /// What is told of a fault or a refusal of this code; `streams` of the fault `File` where no call has failed. `None` where nothing was
     /// noted beside it, or memory was refused for a note.
-    pub fn told<'a>(&'a self, code: Code, streams: &'a str) -> Option<Told<'a>> {
+    pub fn reported<'a>(&'a self, code: Code, streams: &'a str) -> Option<Reported<'a>> {
         if !self.notes.is_kept {
             return None;
         }
         match (code, &self.notes.last) {
             (Code::Stopped, Some(note)) if note.is_of_call() => {
-                Some(Told::Unsaved(note.text.as_str()))
+                Some(Reported::Unsaved(note.text.as_str()))
             }
             (_, Some(note)) if note.code.number() == code.number() => {
-                Some(Told::Wrong(note.text.as_str()))
+                Some(Reported::Wrong(note.text.as_str()))
             }
-            (Code::File, _) => Some(Told::Wrong(streams)),
+            (Code::File, _) => Some(Reported::Wrong(streams)),
             _ => None,
         }
     }
@@ -48,10 +48,15 @@ impl<S: Store> Noting<'_, S> {
 
 /// Writes one line on a fault or a refusal of this code: what is told of it, and how `program` explains the code. An error of `faults` is
 /// ignored.
-pub fn tell_more<E: Write>(program: &str, code: Code, told: Option<Told<'_>>, faults: &mut E) {
+pub fn tell_more<E: Write>(
+    program: &str,
+    code: Code,
+    reported: Option<Reported<'_>>,
+    faults: &mut E,
+) {
     let number = code.number();
-    let _ = match told {
-        Some(told) => writeln!(faults, "{told}; see {program} explain {number}"),
+    let _ = match reported {
+        Some(reported) => writeln!(faults, "{reported}; see {program} explain {number}"),
         None => writeln!(faults, "see {program} explain {number}"),
     };
 }

@@ -73,7 +73,7 @@ impl<R: Files<File = File>> Store for FileStore<'_, R> {
 
     fn read(&mut self, alloc: Global, name: &str) -> io::Result<Option<Vec<u8>>> {
         match File::open(self.files, name) {
-            Ok(file) => read_whole(alloc, file).map(Some),
+            Ok(file) => read_entire(alloc, file).map(Some),
             Err(error) if error.kind() == io::ErrorKind::NotFound => Ok(None),
             Err(error) => Err(error),
         }
@@ -172,7 +172,7 @@ fn take_lock(file: &File) -> Result<(), LockFault> {
 }
 
 /// Reads a file to its end. Takes memory for as many bytes as the system says that it has, and no more than a text has.
-fn read_whole(alloc: Global, mut file: File) -> io::Result<Vec<u8>> {
+fn read_entire(alloc: Global, mut file: File) -> io::Result<Vec<u8>> {
     let length = file.metadata()?.len();
     read_about(alloc, length.min(MOST_OF_TEXT) as usize, &mut file)
 }

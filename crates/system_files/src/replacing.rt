@@ -64,7 +64,7 @@ pub(crate) fn place_of<R: Files<File = File>>(
     alloc: Global,
     name: &str,
 ) -> io::Result<Place> {
-    let path = whole_name(files, alloc, name)?;
+    let path = entire_name(files, alloc, name)?;
     let beside = name_beside(alloc, path.as_str())?;
     Ok(Place { path, beside })
 }
@@ -74,7 +74,7 @@ pub(crate) fn place_of<R: Files<File = File>>(
 /// # Errors
 ///
 /// Memory was refused, or the name leads nowhere: through a file that is no folder, or through links in a circle.
-fn whole_name<R: Files<File = File>>(files: &R, alloc: Global, name: &str) -> io::Result<String> {
+fn entire_name<R: Files<File = File>>(files: &R, alloc: Global, name: &str) -> io::Result<String> {
     let mut path = String::from_str(alloc, name)?;
     for _link in 0..MOST_LINKS {
         match files.canonicalize(alloc, path.as_str()) {
@@ -82,16 +82,16 @@ fn whole_name<R: Files<File = File>>(files: &R, alloc: Global, name: &str) -> io
             Err(error) if error.kind() == io::ErrorKind::NotFound => {}
             Err(error) => return Err(error),
         }
-        match behind_link(files, alloc, path.as_str())? {
-            Some(behind) => path = behind,
-            None => return in_whole_folder(files, alloc, path.as_str()),
+        match after_link(files, alloc, path.as_str())? {
+            Some(after) => path = after,
+            None => return in_entire_folder(files, alloc, path.as_str()),
         }
     }
     Err(io::Error::other("too many links"))
 }
 
 /// Where a symbolic link leads; `None` where there is no link of this name.
-fn behind_link<R: Files<File = File>>(
+fn after_link<R: Files<File = File>>(
     files: &R,
     alloc: Global,
     name: &str,
@@ -110,7 +110,7 @@ fn behind_link<R: Files<File = File>>(
 }
 
 /// The whole name of a file that isn't there, in which no link is left.
-fn in_whole_folder<R: Files<File = File>>(
+fn in_entire_folder<R: Files<File = File>>(
     files: &R,
     alloc: Global,
     name: &str,

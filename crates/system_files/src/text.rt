@@ -7,7 +7,7 @@ use std::io::Write;
 /// Where the text goes.
 #[derive(Drop)]
 pub enum Text<E> {
-    /// To this file, behind what it has.
+    /// To this file, after what it has.
     File(File),
     /// To this stream.
     Stream(E),

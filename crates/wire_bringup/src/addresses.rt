@@ -96,7 +96,7 @@ fn find_addresses<W: Wire>(wire: &mut NumberedWire<W>, slaves: u16) -> Result<()
     for slave in 0..slaves {
         stations.set(slave, found_address(wire, slave)?);
     }
-    stations.judge(slaves)?;
+    stations.validate(slaves)?;
     wire.address_by(stations);
     Ok(())
 }

@@ -1,7 +1,7 @@
 //! Taking the EEPROMs of a line's slaves and reading them, before there is a shadow to compare with.
 ghost use Rattle.std.specs.Prelude.{◌≡◌, ◌<◌, ◌≤◌, true, length, slice_index, IfOk, OnOk, IsErr};
 ghost use Rattle.std.specs.List.{All};
-ghost use Rattle.wire_words.specs.Reading.{NothingTold, AllKept};
+ghost use Rattle.wire_words.specs.Reading.{NothingReported, AllKept};
 ghost use Rattle.wire_bringup.specs.Lines.{WordsCame, FoundCame, AllCame};
 
 use crate::found::{FoundLine, FoundSlave, Sizes, SlaveState};
@@ -13,8 +13,8 @@ use std::alloc::Global;
 use std::rt::Clock;
 use wire_frames::{LineFault, NumberedWire, SlaveFault, Stations, Wire, sight};
 use wire_words::{
-    Ahead, Hitch, Reader, Readers, SizeFound, judge_size, measure, nothing_ahead, put,
-    read_in_step, words_at,
+    Ahead, Hitch, Reader, Readers, SizeFound, measure, nothing_ahead, put, read_in_step,
+    validate_size, words_at,
 };
 
 /// Takes the EEPROM from the PDI by force.
@@ -107,7 +107,7 @@ fn readers_of(
     sizes: &Sizes,
 ) -> Readers
     requires { slaves ≤ 64 }
-    ensures { All NothingTold result }
+    ensures { All NothingReported result }
 {
     let mut readers = [Reader::ended(); 64];
     for slave in 0..slaves {
@@ -123,7 +123,7 @@ fn readers_of(
 
 /// The reader of a slave, if its EEPROM was taken.
 fn reader_of(station: u16, hitch: Option<Hitch>, given: Option<u16>) -> Reader
-    ensures { NothingTold result }
+    ensures { NothingReported result }
 {
     match hitch {
         Some(_) => Reader::ended(),
@@ -233,7 +233,7 @@ fn find_slave<W: Wire, C: Clock>(
         Ok(measured) => measured,
         Err(hitch) => return given_up(wire, slave, state, None, hitch),
     };
-    let size = match judge_size(measured, sizes.of_slave(slave), sizes.is_trusted) {
+    let size = match validate_size(measured, sizes.of_slave(slave), sizes.is_trusted) {
         Ok(size) => size,
         Err(fault) => {
             return Ok(FoundSlave {

@@ -78,7 +78,7 @@ fn look_at_all<W: Wire>(
 pub struct LineStates {
     /// How many slaves there are, 1 to 64.
     pub slaves: u16,
-    /// What each is in, in the order of the line. Nothing is known behind the last one.
+    /// What each is in, in the order of the line. Nothing is known after the last one.
     pub states: [SlaveState; 64],
 }
 

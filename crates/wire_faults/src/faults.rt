@@ -52,7 +52,7 @@ pub enum WireFault {
 enum Printed {
     /// As this fault of the station.
     Station(Fault),
-    /// As one that the station doesn't have: its code, and the number behind it.
+    /// As one that the station doesn't have: its code, and the number after it.
     Wire(Code, Option<usize>),
 }
 

@@ -6,28 +6,28 @@ use site_wire::StopReason;
 use station_files::Fault;
 use std::io;
 use std::io::Write;
-use wire_frames::{Cause, LineFault, Sighting, SlaveFault};
+use wire_frames::{LineFault, Sighting, SlaveFault, SlaveTrouble};
 
 /// What to do about what is the matter with a slave.
-fn remedy_of(cause: Cause) -> &'static str {
+fn remedy_of(cause: SlaveTrouble) -> &'static str {
     match cause {
-        Cause::Silence => {
+        SlaveTrouble::Silence => {
             "the cable of the interface, or a slave's power, failed: put it right, and recover the line"
         }
-        Cause::Shared => {
+        SlaveTrouble::Shared => {
             "another master is on the line, or slaves keep their addresses: end it, switch the slaves off and on, and recover the line"
         }
-        Cause::CableOrPower => {
+        SlaveTrouble::CableOrPower => {
             "a cable is pulled, or a slave has no power: put it right, and recover the line"
         }
-        Cause::Restarted =>
+        SlaveTrouble::Restarted =>
             "it lost its power for a moment: look at its supply, and recover the line",
-        Cause::StuckBusy =>
+        SlaveTrouble::StuckBusy =>
             "its EEPROM or its processor hangs: switch it off and on, and recover the line",
-        Cause::NoAcknowledge => {
+        SlaveTrouble::NoAcknowledge => {
             "its EEPROM is missing, is worked on by its own processor, or still writes: look at its board, and recover the line"
         }
-        Cause::Ignores =>
+        SlaveTrouble::Ignores =>
             "it may be held by its own processor or by another master: end it, and recover the line",
     }
 }

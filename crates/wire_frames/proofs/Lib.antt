@@ -1,3 +1,3 @@
-mod Apart
+mod Separate
 pub mod Sending
 pub mod Fitting

@@ -29,7 +29,7 @@ readdressed d e (eeprom it) command content register broadcast = eeprom (record 
     by (inl is) = inl (cc)
     by (inr is) = inr (cc)
 
--- a frame of such a datagram, with its number behind it
+-- a frame of such a datagram, with its number after it
 pub numbered_leaves : (frame : List Pdu) (d : Pdu) (number : ℕ) → LeavesRunning d → frame ≡ ([] ++ d ∷ []) ++ sent (Other 0) 0 number [] ∷ [] → OnlyEeprom frame
 numbered_leaves frame d number leaves is = subst (All LeavesRunning) (sym is)
     (All-cons LeavesRunning d (sent (Other 0) 0 number [] ∷ []) leaves
@@ -55,7 +55,7 @@ is_for_eeprom command address slave register content near way inside is = record
     place : register_of address ≡ register
     place = subst (λ (a : ℕ). register_of a ≡ register) (sym is) (register_is slave register near)
 
-pub told_leaves : (command : Command) (address slave register : ℕ) (content : List ℕ) → slave < 64 → (command ≡ Fprd) ⊎ (command ≡ Fpwr)
+pub reported_leaves : (command : Command) (address slave register : ℕ) (content : List ℕ) → slave < 64 → (command ≡ Fprd) ⊎ (command ≡ Fpwr)
     → InEeprom register (length content) → address ≡ address_of slave register → LeavesRunning (sent command 0 address content)
-told_leaves command address slave register content near way inside is =
+reported_leaves command address slave register content near way inside is =
     eeprom (is_for_eeprom command address slave register content near way inside is)

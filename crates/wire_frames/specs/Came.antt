@@ -81,6 +81,6 @@ abbrev pub Unheard : (Gives : List ℕ → Type 0) → (stations : List ℕ) →
 Unheard Gives stations asked reply = reply.counter ≢ 1 → Unanswered Gives stations asked
 
 -- the same of a read or a write of this register of the slave with this station address
-abbrev pub Told : (Gives : List ℕ → Type 0) → (from command register : ℕ) → List ℕ → Reply → Type 0
-Told Gives from command register content reply = reply.counter ≡ 1 → (command ≡ 4 → length content ≤ 14)
+abbrev pub Reported : (Gives : List ℕ → Type 0) → (from command register : ℕ) → List ℕ → Reply → Type 0
+Reported Gives from command register content reply = reply.counter ≡ 1 → (command ≡ 4 → length content ≤ 14)
     → Answered Gives from command register (back_of command content reply.content)

@@ -28,9 +28,9 @@ abbrev pub OnlyEeprom : List Pdu → Type 0
 OnlyEeprom frame = All LeavesRunning frame
 
 -- The first so many slaves have station addresses of their own, and none of them is 0.
-pub record AreApart (stations : List ℕ) (slaves : ℕ) : Type 0 where
+pub record AreSeparate (stations : List ℕ) (slaves : ℕ) : Type 0 where
   pub given : (k : ℕ) → k < slaves → slice_index stations k ≢ 0
-  pub apart : (j k : ℕ) → j < k → k < slaves → slice_index stations j ≢ slice_index stations k
+  pub separate : (j k : ℕ) → j < k → k < slaves → slice_index stations j ≢ slice_index stations k
 
 -- The fault names a slave that has no address, or two that have the same.
 abbrev pub NamesClash : List ℕ → LineFault → Type 0

@@ -114,7 +114,7 @@ pub fn ask<W: Wire>(
     Some(reply_at(datagram, returned.address, &returned.frame, 0))
 }
 
-/// Looks around on the line, behind a datagram that a slave didn't take: how many slaves answer, and whether one does at its place.
+/// Looks around on the line, after a datagram that a slave didn't take: how many slaves answer, and whether one does at its place.
 pub fn sight<W: Wire>(wire: &mut NumberedWire<W>, slave: u16, last: Last) -> Sighting
     ensures lent { wire.new.is_lent ≡ wire.old.is_lent }
     ensures same { wire.new.stations ≡ wire.old.stations }

@@ -25,7 +25,7 @@ pub struct Sighting {
 
 /// What is the matter with a slave that doesn't do what it is asked to.
 #[derive(Clone, Copy, PartialEq, Eq)]
-pub enum Cause {
+pub enum SlaveTrouble {
     /// The frame doesn't come back.
     Silence,
     /// Several slaves answer to its station address.
@@ -42,50 +42,50 @@ pub enum Cause {
     Ignores,
 }
 
-impl Cause {
+impl SlaveTrouble {
     /// The cause in words.
     pub fn text(self) -> &'static str {
         match self {
-            Cause::Silence => "the frame doesn't come back",
-            Cause::Shared => "several slaves answer to its station address",
-            Cause::CableOrPower => "no slave answers at its place of the line",
-            Cause::Restarted => "the slave at its place has lost its station address",
-            Cause::StuckBusy => "it stays busy",
-            Cause::NoAcknowledge => "its EEPROM doesn't acknowledge",
-            Cause::Ignores => "it doesn't take what is sent to it",
+            SlaveTrouble::Silence => "the frame doesn't come back",
+            SlaveTrouble::Shared => "several slaves answer to its station address",
+            SlaveTrouble::CableOrPower => "no slave answers at its place of the line",
+            SlaveTrouble::Restarted => "the slave at its place has lost its station address",
+            SlaveTrouble::StuckBusy => "it stays busy",
+            SlaveTrouble::NoAcknowledge => "its EEPROM doesn't acknowledge",
+            SlaveTrouble::Ignores => "it doesn't take what is sent to it",
         }
     }
 }
 
 impl Sighting {
     /// What is the matter with this slave, as far as was seen.
-    pub fn cause(&self) -> Cause {
+    pub fn cause(&self) -> SlaveTrouble {
         let Some(counter) = self.counter else {
-            return Cause::Silence;
+            return SlaveTrouble::Silence;
         };
         if counter > 1 {
-            return Cause::Shared;
+            return SlaveTrouble::Shared;
         }
         if counter == 0 {
             return cause_uncounted(self.station, self.given);
         }
         let status = self.status.unwrap_or(0);
         if status >= 0x80 {
-            Cause::StuckBusy
+            SlaveTrouble::StuckBusy
         } else if status >= 0x20 {
-            Cause::NoAcknowledge
+            SlaveTrouble::NoAcknowledge
         } else {
-            Cause::Ignores
+            SlaveTrouble::Ignores
         }
     }
 }
 
 /// Why no slave counts a datagram to this station address, where the slave at its place has the address `station`.
-fn cause_uncounted(station: Option<u16>, given: u16) -> Cause {
+fn cause_uncounted(station: Option<u16>, given: u16) -> SlaveTrouble {
     match station {
-        None => Cause::CableOrPower,
-        Some(station) if station == given => Cause::Ignores,
-        Some(_) => Cause::Restarted,
+        None => SlaveTrouble::CableOrPower,
+        Some(station) if station == given => SlaveTrouble::Ignores,
+        Some(_) => SlaveTrouble::Restarted,
     }
 }
 

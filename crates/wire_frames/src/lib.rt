@@ -15,7 +15,7 @@ mod wire;
 
 pub use asking::{KEPT, Last, Reply, ask, count_answers, read_station, reply_at, sight};
 pub use ethernet::EthernetWire;
-pub use faults::{Cause, LineFault, Sighting, SlaveFault};
+pub use faults::{LineFault, Sighting, SlaveFault, SlaveTrouble};
 pub use handed::Handed;
 pub use numbered::{Carried, NumberedWire, Returned, number_of};
 pub use pace::{ATTEMPTS, Pace, UNCOUNTED};

@@ -60,7 +60,7 @@ pub struct NumberedWire<W> {
 }
 
 impl<W: Wire> NumberedWire<W> {
-    /// A wire that the station has for itself. The first frame has the number behind this one, then they go on by one. Who used the wire
+    /// A wire that the station has for itself. The first frame has the number after this one, then they go on by one. Who used the wire
     /// before should have used others, so the time in nanoseconds is a good one.
     pub fn new(wire: W, number: u32) -> NumberedWire<W>
         ensures { result.is_lent ≡ false }
@@ -72,7 +72,7 @@ impl<W: Wire> NumberedWire<W> {
             resent: 0,
             is_lent: false,
             is_forced: true,
-            room: Room::whole(),
+            room: Room::entire(),
             stations: Stations::own(),
             handed: [Handed::Nothing; 64],
         }
@@ -182,7 +182,7 @@ impl<W: Wire> NumberedWire<W> {
         })
     }
 
-    /// Sends a frame of these datagrams until it comes back, three times at most, and gives it with the number behind them. None where it
+    /// Sends a frame of these datagrams until it comes back, three times at most, and gives it with the number after them. None where it
     /// doesn't. One of more than 1,488 bytes leaves no room for the number, and isn't sent. Station addresses go out as they are.
     pub fn pass_all(&mut self, sent: Frame) -> Option<Carried>
         requires may { self.old.is_lent ≡ true → OnlyEeprom sent }
@@ -211,7 +211,7 @@ impl<W: Wire> NumberedWire<W> {
         None
     }
 
-    /// The frame, with the next number behind its datagrams.
+    /// The frame, with the next number after its datagrams.
     fn numbered_all(&mut self, sent: Frame) -> Option<Frame>
         requires may { self.old.is_lent ≡ true → OnlyEeprom sent }
         ensures may { IfSome result (λ frame. self.old.is_lent ≡ true → OnlyEeprom frame) }
@@ -294,7 +294,7 @@ fn frame_at_front(bytes: &[u8], length: usize) -> Option<Frame>
     Frame::parse(&bytes[..length.min(bytes.len())]).ok()
 }
 
-/// The number behind a frame, if there is one.
+/// The number after a frame, if there is one.
 pub fn number_of(frame: &Frame) -> Option<u32>
     ensures { IfSome result (λ number. HasNumber frame.now number) }
 {

@@ -19,7 +19,7 @@ pub struct Room {
 
 impl Room {
     /// A datagram for each of 64 slaves, as far as they fit a frame.
-    pub fn whole() -> Room {
+    pub fn entire() -> Room {
         Room {
             datagrams: 64,
             bytes: FRAME_BYTES,

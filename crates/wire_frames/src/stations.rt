@@ -1,7 +1,7 @@
 //! The station addresses of the slaves of a line.
 ghost use Rattle.std.specs.Prelude.{◌≡◌, ◌≢◌, ◌⊎◌, ℕ, ◌<◌, ◌≤◌, ◌+◌, ◌/◌, ◌%◌, ◌^◌, slice_index, slice_set, replicate, IfErr, IfSome, OnOk, None};
 ghost use Rattle.ecat_frame.specs.Command.{code_of};
-ghost use Rattle.wire_frames.specs.Sending.{AreApart, NamesClash};
+ghost use Rattle.wire_frames.specs.Sending.{AreSeparate, NamesClash};
 
 use crate::faults::LineFault;
 use crate::registers::{FPRD, FPWR, register_of};
@@ -74,10 +74,10 @@ impl Stations {
     /// # Errors
     ///
     /// For the first slave of which that isn't so: `Unaddressed` where it has 0, and else `SharedAddress`.
-    #[tactic(auto, using(crate::proofs::Apart::apart_none, crate::proofs::Apart::apart_more))]
-    pub fn judge(&self, slaves: u16) -> Result<(), LineFault>
+    #[tactic(auto, using(crate::proofs::Separate::separate_none, crate::proofs::Separate::separate_more))]
+    pub fn validate(&self, slaves: u16) -> Result<(), LineFault>
         requires { slaves ≤ 64 }
-        ensures apart { OnOk result (AreApart self.now.by_slave slaves) }
+        ensures separate { OnOk result (AreSeparate self.now.by_slave slaves) }
         ensures clash { IfErr result (NamesClash self.now.by_slave) }
     {
         for slave in 0..slaves {

@@ -5,7 +5,7 @@ use std::alloc::{AllocError, Global};
 /// What a blank word holds.
 const BLANK: u16 = 0xffff;
 
-/// The words of an EEPROM. Addresses behind its end roll over.
+/// The words of an EEPROM. Addresses after its end roll over.
 #[derive(Drop)]
 pub(crate) struct Chip {
     pub(crate) words: Vec<u16>,

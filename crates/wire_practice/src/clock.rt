@@ -42,7 +42,7 @@ impl Clock for PracticeClock {
     }
 
     fn sleep(&self, duration: Duration) {
-        let whole = duration.as_secs().saturating_mul(1_000_000);
-        self.pass(whole.saturating_add(u64::from(duration.subsec_micros())));
+        let entire = duration.as_secs().saturating_mul(1_000_000);
+        self.pass(entire.saturating_add(u64::from(duration.subsec_micros())));
     }
 }

@@ -36,7 +36,7 @@ enum End {
 
 /// A command that the controller is busy with.
 #[derive(Clone, Copy)]
-struct Job {
+struct BusyCommand {
     /// How many datagrams came since it was told.
     since: u32,
     /// How many datagrams find it busy yet.
@@ -64,7 +64,7 @@ pub(crate) struct Eeprom {
     /// Bits 13 and 14 of control and status.
     errors: u8,
     is_loaded_wrong: bool,
-    job: Option<Job>,
+    job: Option<BusyCommand>,
     programming: Option<Programming>,
     /// How many reads and writes were begun.
     commands: u32,
@@ -118,7 +118,7 @@ impl Eeprom {
         }
         match self.job {
             Some(
-                Job {
+                BusyCommand {
                     end: End::Write(write),
                     ..
                 },
@@ -159,7 +159,7 @@ impl Eeprom {
             self.job = None;
             self.finish(job.end, now);
         } else {
-            self.job = Some(Job {
+            self.job = Some(BusyCommand {
                 since: job.since.saturating_add(1),
                 left: job.left.saturating_sub(1),
                 ..job
@@ -284,7 +284,7 @@ impl Eeprom {
             (End::Write(self.word_named()), self.quirks.write_time)
         };
         let is_missed = self.is_missed();
-        self.job = Some(Job {
+        self.job = Some(BusyCommand {
             since: 0,
             left: self.quirks.delay,
             until: now.saturating_add(time),

@@ -103,7 +103,7 @@ impl PracticeLine {
     /// The place of the last slave that frames reach.
     fn reach(&self) -> u16 {
         match self.cable {
-            Some(cable) if self.frames > cable.frames => cable.behind,
+            Some(cable) if self.frames > cable.frames => cable.after,
             _ => u16::MAX,
         }
     }
@@ -122,7 +122,7 @@ impl PracticeLine {
         counter
     }
 
-    /// Whether the frame writes to control and status of a slave, or behind them, while that slave is busy.
+    /// Whether the frame writes to control and status of a slave, or after them, while that slave is busy.
     pub fn is_disturbed_by(&self, frame: &Frame) -> bool {
         for datagram in frame.datagrams() {
             if self.has_disturbed(datagram) {

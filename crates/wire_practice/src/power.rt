@@ -14,7 +14,7 @@ impl PowerLoss {
     pub(crate) fn is_due(self, counts: Counts) -> bool {
         match self {
             PowerLoss::Never => false,
-            PowerLoss::Behind(frames) => counts.frames > frames,
+            PowerLoss::After(frames) => counts.frames > frames,
             PowerLoss::InWord(word) => counts.words >= word,
         }
     }

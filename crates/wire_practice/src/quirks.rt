@@ -7,7 +7,7 @@ use site_shadow::Pattern;
 pub enum PowerLoss {
     Never,
     /// Behind so many frames.
-    Behind(u32),
+    After(u32),
     /// In the midst of the word with this number, counted from 1, as the slave begins to write them.
     InWord(u32),
 }
@@ -15,10 +15,10 @@ pub enum PowerLoss {
 /// What a slave does that the definition of a slave doesn't have. Times are in microseconds.
 #[derive(Clone, Copy)]
 pub struct Quirks {
-    /// How many words the chip has. Word addresses behind its end roll over, in reads and in writes. None: as many as the image, and a
-    /// command for a word behind them ends in error.
+    /// How many words the chip has. Word addresses after its end roll over, in reads and in writes. None: as many as the image, and a
+    /// command for a word after them ends in error.
     pub chip: Option<u32>,
-    /// For how many datagrams the controller is busy with a command. Words that were read are in its registers behind them.
+    /// For how many datagrams the controller is busy with a command. Words that were read are in its registers after them.
     pub delay: u32,
     /// How many of them don't show it as busy yet.
     pub shown_late: u32,
@@ -76,7 +76,7 @@ pub const NO_QUIRKS: Quirks = Quirks {
 #[derive(Clone, Copy)]
 pub struct Cable {
     /// The place in the line of the last slave that frames still reach.
-    pub behind: u16,
+    pub after: u16,
     /// How many frames pass before.
     pub frames: u32,
 }

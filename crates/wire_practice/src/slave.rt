@@ -187,7 +187,7 @@ impl PracticeSlave {
         }
     }
 
-    /// Whether the datagram writes to control and status or behind them, while the controller is busy.
+    /// Whether the datagram writes to control and status or after them, while the controller is busy.
     pub(crate) fn is_disturbed(&self, datagram: Datagram<'_>) -> bool {
         let station = (datagram.address % 65536) as u16;
         let end = (datagram.address / 65536) as usize + datagram.content.len();

@@ -22,8 +22,8 @@ pub enum Fate {
     Passes,
     /// It is lost before the slaves.
     LostBefore,
-    /// It is lost behind them.
-    LostBehind,
+    /// It is lost after them.
+    LostAfter,
     /// It comes back twice.
     Doubled,
     /// It goes through the slaves twice, and comes back twice.
@@ -121,7 +121,7 @@ impl<'c> PracticeWire<'c> {
 
     /// Plans a power cut of the slaves: this number of words are begun from now on, and it comes in the midst of the next one, which is left
     /// by the pattern.
-    pub fn cut_behind(&mut self, words: u32, left: Pattern) {
+    pub fn cut_after(&mut self, words: u32, left: Pattern) {
         let begun = self.line.begun().saturating_add(words);
         self.cut = Some(Cut { begun, left });
     }
@@ -131,7 +131,7 @@ impl<'c> PracticeWire<'c> {
         self.cut = None;
     }
 
-    /// How many frames were sent that write to control and status of a slave, or behind them, while it was busy. A frame that is sent
+    /// How many frames were sent that write to control and status of a slave, or after them, while it was busy. A frame that is sent
     /// again doesn't count: the slave may be busy with what it says.
     pub fn disturbing(&self) -> u32 {
         self.disturbing
@@ -201,7 +201,7 @@ impl<'c> PracticeWire<'c> {
             self.push(late);
         }
         match fate {
-            Fate::LostBefore | Fate::LostBehind => return,
+            Fate::LostBefore | Fate::LostAfter => return,
             Fate::Doubled | Fate::SentTwice => self.push(packet),
             Fate::Delayed => {
                 self.late = Some(packet);

@@ -4,7 +4,7 @@ use Rattle.std.proofs.Common.{get_or, String, Global, string_bytes, refl, sym, a
 use Rattle.std.specs.List.{AllZip}
 use Rattle.std.proofs.lemmas.List.{map_more, take_more}
 use Rattle.sii_words.proofs.Quantifiers.{zip_snoc}
-use Rattle.station_files.specs.FileNames.{IsLineApart, spelt}
+use Rattle.station_files.specs.FileNames.{IsLineSeparate, spelt}
 use Rattle.station_files.specs.Files.{Known, HasBytes, IsAbsent, ChangesAmong, ChangesOnly}
 use Rattle.station_files.specs.LineFiles.{DescribesLine, SpellsLine, SpellsWords, names_of}
 use Rattle.station_files.specs.Locations.{Leads}
@@ -26,8 +26,8 @@ not_absent held bytes is absent =
 pub kept_by_one : (old new : Known) (name : List ℕ) → IsAbsent old name → ChangesOnly old new name → KeepsAll old new
 kept_by_one old new name absent changes = λ other bytes is.
     let P : List ℕ → Type 0 = λ n. IsAbsent old n in
-    let apart : other ≢ name = λ same. not_absent (old other) bytes is (subst P (sym same) absent) in
-    changes other apart ∙ is
+    let separate : other ≢ name = λ same. not_absent (old other) bytes is (subst P (sym same) absent) in
+    changes other separate ∙ is
 
 -- a file that is there has the bytes that it may stay with
 pub held_there : (files : Known) (name bytes : List ℕ) → IfSome (files name) (λ held. IsSome held) → IsAbsent files name ⊎ HasBytes files name bytes → HasBytes files name bytes
@@ -78,15 +78,15 @@ describes old mid new name line (Some text) still planned text_written same =
     let P : Option (Option (List ℕ)) → Type 0 = λ found. IfSome found (λ held. held ≡ None) in
     of_held (λ bytes. DescribesLine bytes line) new name (string_bytes text) (text_written (subst P (sym still) planned.0)) planned.1
 
--- the files behind the images and the text
-pub backed_up : (leads : Leads) (old mid new : Known) (name : List ℕ) (line : LineFile) (text : Option (String Global)) (plant : List (List ℕ)) → IsLineApart leads line name → IsPlanned old name line text
+-- the files after the images and the text
+pub backed_up : (leads : Leads) (old mid new : Known) (name : List ℕ) (line : LineFile) (text : Option (String Global)) (plant : List (List ℕ)) → IsLineSeparate leads line name → IsPlanned old name line text
     → HasNoPast old (string_bytes line.journal) (map length plant) → ChangesAmong old mid (names_of line) → AllZip (SpellsWords mid) (names_of line) plant → ChangesOnly mid new name
     → IfSome text (λ text. IsAbsent mid name → HasBytes new name (string_bytes text)) → IfNone text (new ≡ mid) → IsBackedUp new name
-backed_up leads old mid new name line text plant apart planned past among written only text_written same =
+backed_up leads old mid new name line text plant separate planned past among written only text_written same =
     let images : List (String Global) = line.images.items in
     let journal : List ℕ = string_bytes line.journal in
-    let other = line_file_is_other leads line name apart in
-    let of_journal = journal_is_other leads line name apart in
+    let other = line_file_is_other leads line name separate in
+    let of_journal = journal_is_other leads line name separate in
     let P : Option (Option (List ℕ)) → Type 0 = λ found. IfSome found (λ held. held ≡ None) ⊎ IfSome found (λ held. IsSomeAnd held (λ bytes. IsWithoutPast bytes (map length plant))) in
     record {
       line = line;

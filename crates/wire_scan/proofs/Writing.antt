@@ -5,9 +5,9 @@ use Rattle.std.specs.Prelude.{⊤}
 use Rattle.std.specs.List.{AllByRecursion, AllZip}
 use Rattle.sii_words.specs.Words.{bytes_of}
 use Rattle.station_files.specs.Files.{Known, HasBytes, IsAbsent, ChangesOnly}
-use Rattle.station_files.specs.FileNames.{IsLineApart, spelt}
+use Rattle.station_files.specs.FileNames.{IsLineSeparate, spelt}
 use Rattle.station_files.specs.LineFiles.{SpellsWords}
-use Rattle.station_files.specs.Locations.{AreApart, Leads, StandApart}
+use Rattle.station_files.specs.Locations.{AreSeparate, Leads, StandSeparate}
 use Rattle.station_text.specs.declared.line_file.LineFile.{LineFile}
 use Rattle.wire_scan.specs.Backup.{AreDistinct, MayStay}
 
@@ -18,26 +18,26 @@ abbrev pub IsOther : List ℕ → List (String Global) → Type 0
 IsOther name images = AllByRecursion (λ (image : String Global). name ≢ string_bytes image) images
 
 -- a name stands apart from those of the images and of the line file
-apart_of : (leads : Leads) (one : List ℕ) (images : List (String Global)) (name : List ℕ) → AllByRecursion (StandApart leads one) (spelt images ++ name ∷ []) → IsOther one images × (one ≢ name)
-apart_of leads one [] name apart = (tt, apart.0.names)
-apart_of leads one (x ∷ xs) name apart = let rest = apart_of leads one xs name apart.1 in ((apart.0.names, rest.0), rest.1)
+separate_of : (leads : Leads) (one : List ℕ) (images : List (String Global)) (name : List ℕ) → AllByRecursion (StandSeparate leads one) (spelt images ++ name ∷ []) → IsOther one images × (one ≢ name)
+separate_of leads one [] name separate = (tt, separate.0.names)
+separate_of leads one (x ∷ xs) name separate = let rest = separate_of leads one xs name separate.1 in ((separate.0.names, rest.0), rest.1)
 
 -- the images stand apart from one another and from the line file
-images_apart : (leads : Leads) (images : List (String Global)) (name : List ℕ) → AreApart leads (length (spelt images)) (spelt images ++ name ∷ []) → AreDistinct images × IsOther name images
-images_apart leads [] name apart = (tt, tt)
-images_apart leads (x ∷ xs) name apart =
-    let one = apart_of leads (string_bytes x) xs name apart.0 in
-    let rest = images_apart leads xs name apart.1 in
+images_separate : (leads : Leads) (images : List (String Global)) (name : List ℕ) → AreSeparate leads (length (spelt images)) (spelt images ++ name ∷ []) → AreDistinct images × IsOther name images
+images_separate leads [] name separate = (tt, tt)
+images_separate leads (x ∷ xs) name separate =
+    let one = separate_of leads (string_bytes x) xs name separate.0 in
+    let rest = images_separate leads xs name separate.1 in
     ((one.0, rest.0), ((λ e. one.1 (sym e)), rest.1))
 
-pub distinct_images : (leads : Leads) (line : LineFile) (name : List ℕ) → IsLineApart leads line name → AreDistinct line.images.items
-distinct_images leads line name apart = (images_apart leads line.images.items name apart.1).0
+pub distinct_images : (leads : Leads) (line : LineFile) (name : List ℕ) → IsLineSeparate leads line name → AreDistinct line.images.items
+distinct_images leads line name separate = (images_separate leads line.images.items name separate.1).0
 
-pub line_file_is_other : (leads : Leads) (line : LineFile) (name : List ℕ) → IsLineApart leads line name → IsOther name line.images.items
-line_file_is_other leads line name apart = (images_apart leads line.images.items name apart.1).1
+pub line_file_is_other : (leads : Leads) (line : LineFile) (name : List ℕ) → IsLineSeparate leads line name → IsOther name line.images.items
+line_file_is_other leads line name separate = (images_separate leads line.images.items name separate.1).1
 
-pub journal_is_other : (leads : Leads) (line : LineFile) (name : List ℕ) → IsLineApart leads line name → IsOther (string_bytes line.journal) line.images.items × (string_bytes line.journal ≢ name)
-journal_is_other leads line name apart = apart_of leads (string_bytes line.journal) line.images.items name apart.0
+pub journal_is_other : (leads : Leads) (line : LineFile) (name : List ℕ) → IsLineSeparate leads line name → IsOther (string_bytes line.journal) line.images.items × (string_bytes line.journal ≢ name)
+journal_is_other leads line name separate = separate_of leads (string_bytes line.journal) line.images.items name separate.0
 
 -- such a name isn't among those of the images
 pub not_named : (images : List (String Global)) (name : List ℕ) → IsOther name images → ¬ Contains (spelt images) name
@@ -56,10 +56,10 @@ AreWritten files (x ∷ xs) (w ∷ ws) zero = MayStay files (string_bytes x) w �
 AreWritten files (x ∷ xs) (w ∷ ws) (suc i) = SpellsWords files (string_bytes x) w × AreWritten files xs ws i
 
 pub none_written : (files : Known) (images : List (String Global)) (plant : List (List ℕ)) → AllZip (MayStay files) (spelt images) plant → AreWritten files images plant 0
-none_written files [] [] judged = tt
-none_written files [] (w ∷ ws) judged = absurd judged
-none_written files (x ∷ xs) [] judged = absurd judged
-none_written files (x ∷ xs) (w ∷ ws) judged = (judged.0, none_written files xs ws judged.1)
+none_written files [] [] validated = tt
+none_written files [] (w ∷ ws) validated = absurd validated
+none_written files (x ∷ xs) [] validated = absurd validated
+none_written files (x ∷ xs) (w ∷ ws) validated = (validated.0, none_written files xs ws validated.1)
 
 pub all_written : (files : Known) (images : List (String Global)) (plant : List (List ℕ)) (i : ℕ) → i ≡ length images → AreWritten files images plant i → AllZip (SpellsWords files) (spelt images) plant
 all_written files [] [] i all written = tt
@@ -70,7 +70,7 @@ all_written files (x ∷ xs) (w ∷ ws) (suc i) all written = (written.0, all_wr
 
 -- what is known of a file stays where another one is written
 pub stays : (P : Option (Option (List ℕ)) → Type 0) (old new : Known) (name other : List ℕ) → ChangesOnly old new name → other ≢ name → P (old other) → P (new other)
-stays P old new name other changes apart holds = subst P (sym (changes other apart)) holds
+stays P old new name other changes separate holds = subst P (sym (changes other separate)) holds
 
 others_stay : (old new : Known) (images : List (String Global)) (plant : List (List ℕ)) (name : List ℕ) → ChangesOnly old new name → IsOther name images → AreWritten old images plant 0 → AreWritten new images plant 0
 others_stay old new [] [] name changes other written = tt
@@ -110,9 +110,9 @@ written_more old new (x ∷ xs) (w ∷ ws) zero image name bytes d inside named 
     (subst S named (subst T words (holds (subst R (sym words) (subst Q (sym named) written.0)))), others_stay old new xs ws name changes (subst P (sym named) distinct.0) written.1)
 written_more old new (x ∷ xs) (w ∷ ws) (suc i) image name bytes d inside named words distinct changes holds written =
     let within : i < length xs = omega (arith, inside) in
-    let apart : string_bytes x ≢ name = λ e. at_item (λ (y : String Global). string_bytes x ≢ string_bytes y) xs i image within distinct.0 (e ∙ named) in
+    let separate : string_bytes x ≢ name = λ e. at_item (λ (y : String Global). string_bytes x ≢ string_bytes y) xs i image within distinct.0 (e ∙ named) in
     let P : Option (Option (List ℕ)) → Type 0 = λ found. IfSome found (λ held. IsSomeAnd held (λ there. bytes_of w ≡ there)) in
-    (stays P old new name (string_bytes x) changes apart written.0, written_more old new xs ws i image name bytes d within named words distinct.1 changes holds written.1)
+    (stays P old new name (string_bytes x) changes separate written.0, written_more old new xs ws i image name bytes d within named words distinct.1 changes holds written.1)
 
 pub one_more_written : (old new : Known) (images : List (String Global)) (plant : List (List ℕ)) (i : ℕ) (image : String Global) (name bytes words : List ℕ) → i < length images → image ≡ get_or images i image → name ≡ string_bytes image
     → bytes ≡ bytes_of words → words ≡ get_or plant i words → AreDistinct images → ChangesOnly old new name → (IsAbsent old name ⊎ HasBytes old name bytes → HasBytes new name bytes)

@@ -2,7 +2,7 @@
 
 /// What a call on a line is to do that it doesn't do, or refuses, where nothing is said.
 #[derive(Clone, Copy)]
-pub struct Asked {
+pub struct ScanOptions {
     /// An image file decides on the size of its slave, even where the EEPROM is sure to be smaller.
     pub trusts_images: bool,
     /// Slaves in Safe-Operational and Operational are worked on, and EEPROMs that their PDI has.

@@ -2,13 +2,13 @@
 ghost use Rattle.std.specs.Prelude.{◌≡◌, ◌⊎◌, length, map, string_bytes, vec_len, IfErr, IfNone, IfSome, OnOk};
 ghost use Rattle.std.specs.List.{AllZip};
 ghost use Rattle.station_files.specs.Faults.{IsOfStream};
-ghost use Rattle.station_files.specs.FileNames.{IsLineApart, spelt};
+ghost use Rattle.station_files.specs.FileNames.{IsLineSeparate, spelt};
 ghost use Rattle.station_files.specs.Files.{ChangesAmong, ChangesOnly, HasBytes, IsAbsent};
 ghost use Rattle.station_files.specs.LineFiles.{SpellsWords, names_of};
 ghost use Rattle.wire_scan.specs.Backup.{AreDistinct, Backs, HasNoPast, IsBackedUp, IsPlanned, KeepsAll, MayStay};
 
-use crate::beginning::judge_files;
-use crate::measures::{judge_measures, print_measures};
+use crate::beginning::validate_files;
+use crate::measures::{print_measures, validate_measures};
 use crate::plan::{Plan, is_there, plan_backup};
 use sii_words::Words;
 use station_files::{Fault, Store};
@@ -20,7 +20,7 @@ use wire_faults::WireFault;
 use wire_frames::{NumberedWire, Wire};
 
 /// Brings up the line on this wire, and writes the words of each slave to its image file. The line file `name` says which that is. Where
-/// it isn't there it is written too, behind the image files, and then names `STEM-s0.bin`, `STEM-s1.bin` and so on, and `STEM-journal.bin`,
+/// it isn't there it is written too, after the image files, and then names `STEM-s0.bin`, `STEM-s1.bin` and so on, and `STEM-journal.bin`,
 /// where `STEM` is its name without `.toml`. An image file that is there with its slave's words counts as written. So a backup that failed, or
 /// was cut, can be repeated while the slaves keep their words. No word of a slave is written, and the EEPROMs are handed back. Prints a line
 /// for each slave whose word 0x3E tells another size than the one that it is backed up with.
@@ -31,7 +31,7 @@ use wire_frames::{NumberedWire, Wire};
 /// # Errors
 ///
 /// As for `bring_up`; for the first slave, `Line` where it can't be worked on, and `UnknownSize` where its size can't be told and isn't among
-/// the given ones; as for `load_line` and `keep_line_apart`; `OtherCount` where the line file names another number of slaves; `Exists` for the
+/// the given ones; as for `load_line` and `keep_line_separate`; `OtherCount` where the line file names another number of slaves; `Exists` for the
 /// first image file that is there with other words, and then for a journal that is there and is that of another number of slaves, or damaged,
 /// or has live batches. Nothing is written up to there. Then `File` or `Memory`, as the store answers.
 #[tactic(auto, using(crate::proofs::Kept::unchanged))]
@@ -60,7 +60,7 @@ fn measured_slaves<R: Clock + AllocGlobal, W: Wire, O: Write>(
 ) -> Result<Vec<Words>, WireFault> {
     let found = bring_up(rt.alloc(), wire, rt, sizes)?;
     hand_back(wire, &found.states());
-    judge_measures(&found, sizes)?;
+    validate_measures(&found, sizes)?;
     print_measures(&found, output)?;
     Ok(found.into_words(rt.alloc())?)
 }
@@ -79,7 +79,7 @@ fn save_backup<S: Store>(
         Ok(plan) => plan,
         Err(fault) => return Err(fault),
     };
-    match judge_files(alloc, &plan.line, slaves, store) {
+    match validate_files(alloc, &plan.line, slaves, store) {
         Ok(()) => {}
         Err(fault) => return Err(WireFault::Station(fault)),
     }
@@ -98,7 +98,7 @@ fn write_plan<S: Store>(
 ) -> Result<(), Fault>
     requires count { vec_len plan.now.line.images ≡ length slaves.now }
     requires planned { IsPlanned (S.files store.old) name.now plan.now.line plan.now.text }
-    requires apart { IsLineApart S.leads plan.now.line name.now }
+    requires separate { IsLineSeparate S.leads plan.now.line name.now }
     requires images { AllZip (MayStay (S.files store.old)) (names_of plan.now.line) slaves.now }
     requires journal { HasNoPast (S.files store.old) (string_bytes plan.now.line.journal) (map length slaves.now) }
     ensures kept { KeepsAll (S.files store.old) (S.files store.new) }

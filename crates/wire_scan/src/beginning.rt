@@ -19,7 +19,7 @@ use std::alloc::Global;
 ///
 /// `Exists` for the first file that is there and holds anything else; `NotAFile`; `TooLong` for the journal; `File` where the store fails;
 /// `Memory`.
-pub(crate) fn judge_files<S: Store>(
+pub(crate) fn validate_files<S: Store>(
     alloc: Global,
     line: &LineFile,
     slaves: &[Words],
@@ -30,37 +30,37 @@ pub(crate) fn judge_files<S: Store>(
     ensures journal { OnOk result (HasNoPast (S.files store.old) (string_bytes line.now.journal) (map length slaves.now)) }
     ensures same { S.files store.new ≡ S.files store.old }
 {
-    match judge_images(alloc, &line.images, slaves, store) {
-        Ok(()) => judge_journal_file(alloc, line.journal.as_str(), slaves, store),
+    match validate_images(alloc, &line.images, slaves, store) {
+        Ok(()) => validate_journal_file(alloc, line.journal.as_str(), slaves, store),
         Err(fault) => Err(fault),
     }
 }
 
 /// Looks whether each of these image files isn't there, or has the words of its slave.
-fn judge_images<S: Store>(
+fn validate_images<S: Store>(
     alloc: Global,
     names: &[String],
     slaves: &[Words],
     store: &mut S,
 ) -> Result<(), Fault>
     requires { length names.now ≡ length slaves.now }
-    ensures judged { OnOk result (AllZip (MayStay (S.files store.old)) (spelt names.now) slaves.now) }
+    ensures validated { OnOk result (AllZip (MayStay (S.files store.old)) (spelt names.now) slaves.now) }
     ensures same { S.files store.new ≡ S.files store.old }
 {
     for slave in 0..names.len() {
-        judge_image(alloc, names[slave].as_str(), &slaves[slave], store)?;
+        validate_image(alloc, names[slave].as_str(), &slaves[slave], store)?;
     }
     Ok(())
 }
 
 /// Looks whether this image file isn't there, or has these words.
-fn judge_image<S: Store>(
+fn validate_image<S: Store>(
     alloc: Global,
     name: &str,
     words: &Words,
     store: &mut S,
 ) -> Result<(), Fault>
-    ensures judged { OnOk result (MayStay (S.files store.old) name.now words.now) }
+    ensures validated { OnOk result (MayStay (S.files store.old) name.now words.now) }
     ensures same { S.files store.new ≡ S.files store.old }
 {
     if !is_there(name, store)? {
@@ -75,13 +75,13 @@ fn judge_image<S: Store>(
 }
 
 /// Looks whether the journal's file isn't there, or `require_empty` takes it.
-fn judge_journal_file<S: Store>(
+fn validate_journal_file<S: Store>(
     alloc: Global,
     name: &str,
     slaves: &[Words],
     store: &mut S,
 ) -> Result<(), Fault>
-    ensures judged { OnOk result (HasNoPast (S.files store.old) name.now (map length slaves.now)) }
+    ensures validated { OnOk result (HasNoPast (S.files store.old) name.now (map length slaves.now)) }
     ensures same { S.files store.new ≡ S.files store.old }
 {
     if !is_there(name, store)? {

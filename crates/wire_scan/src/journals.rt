@@ -1,6 +1,6 @@
 //! Judges the bytes of a journal's file.
 ghost use Rattle.std.specs.Prelude.{◌≡◌, length, map, IfOk, OnOk};
-ghost use Rattle.station_line.specs.Judging.{HasJournal};
+ghost use Rattle.station_line.specs.Validating.{HasJournal};
 ghost use Rattle.wire_scan.specs.Backup.{IsWithoutPast};
 
 use jrn_format::{JournalFault, scan};
@@ -14,14 +14,14 @@ use std::alloc::{AllocError, Global};
 /// # Errors
 ///
 /// `NotAJournal`, `BadVersion`, `WrongLine` or `BadJournal` where they aren't; `Memory`.
-pub(crate) fn judge_journal<S: Store>(
+pub(crate) fn validate_journal<S: Store>(
     alloc: Global,
     name: &str,
     journal: &[u8],
     slaves: &[Words],
     store: &mut S,
 ) -> Result<(), Fault>
-    ensures judged { OnOk result (HasJournal (map length slaves.now) journal.now) }
+    ensures validated { OnOk result (HasJournal (map length slaves.now) journal.now) }
     ensures same { S.files store.new ≡ S.files store.old }
 {
     let sizes = sizes_of(alloc, slaves)?;

@@ -13,7 +13,7 @@ use wire_words::{Extent, SizeFound};
 ///
 /// For the first slave: `Line` where it can't be worked on, and `UnknownSize` where its words are all alike, and its word 0x3E tells another
 /// size than the words that would be backed up.
-pub(crate) fn judge_measures(found: &FoundLine, sizes: &Sizes) -> Result<(), WireFault> {
+pub(crate) fn validate_measures(found: &FoundLine, sizes: &Sizes) -> Result<(), WireFault> {
     for (slave, each) in (0u16..).zip(&found.slaves) {
         if let Err(why) = each.words {
             return Err(WireFault::Line(LineFault::Slave { slave, why }));

@@ -1,10 +1,10 @@
 //! Keeps the files of a call apart: none may be lost where another one is written.
 ghost use Rattle.std.specs.Prelude.{◌≡◌, [], ◌∷◌, ◌++◌, length, None, OnOk};
 ghost use Rattle.station_files.specs.FileNames.{files_with, written_of};
-ghost use Rattle.station_files.specs.Locations.{AreApart};
+ghost use Rattle.station_files.specs.Locations.{AreSeparate};
 
 use crate::plan::{is_there, new_plan};
-use station_files::{Fault, FileNames, Store, keep_apart, load_line};
+use station_files::{Fault, FileNames, Store, keep_separate, load_line};
 use station_text::LineFile;
 use std::alloc::Global;
 
@@ -20,24 +20,24 @@ pub struct Named<'a> {
     pub script: &'a str,
 }
 
-/// Refuses a script that is a file of the line, as `keep_apart` does. Nothing is written.
+/// Refuses a script that is a file of the line, as `keep_separate` does. Nothing is written.
 ///
 /// # Errors
 ///
 /// `SameFile`; `File` where a name can't be followed; `Memory`.
-pub fn keep_script_apart<S: Store>(
+pub fn keep_script_separate<S: Store>(
     alloc: Global,
     line: &LineFile,
     named: Named<'_>,
     store: &mut S,
 ) -> Result<(), Fault>
-    ensures apart { OnOk result (AreApart S.leads (length (written_of None line.now))
+    ensures separate { OnOk result (AreSeparate S.leads (length (written_of None line.now))
         (files_with None line.now named.entry.line.now ++ named.entry.script.now ∷ [])) }
     ensures same { S.files store.new ≡ S.files store.old }
 {
     let files = FileNames::of_line(alloc, line, named.line, None)?;
     let all = files.with_script(alloc, named.script)?;
-    keep_apart(alloc, &all, store)
+    keep_separate(alloc, &all, store)
 }
 
 /// The names that a call on a line is given, where it is to be captured.
@@ -51,14 +51,14 @@ pub struct CaptureNames<'a> {
     pub script: Option<&'a str>,
 }
 
-/// Refuses a capture that is a file of the line or the script, as `keep_apart` does. Where the line file isn't there, its files are those that
+/// Refuses a capture that is a file of the line or the script, as `keep_separate` does. Where the line file isn't there, its files are those that
 /// a backup would write. Of a line file that describes no line nothing is said here. Nothing is written.
 ///
 /// # Errors
 ///
 /// `Exists` where the capture is one of these files; `SameFile` where two others are one; `File` where a name can't be followed or the line file
 /// can't be read; `Memory`.
-pub fn keep_capture_apart<S: Store>(
+pub fn keep_capture_separate<S: Store>(
     alloc: Global,
     names: CaptureNames<'_>,
     store: &mut S,
@@ -77,7 +77,7 @@ pub fn keep_capture_apart<S: Store>(
     };
     let files = FileNames::of_line(alloc, &line, names.line, Some(names.capture))?;
     match names.script {
-        Some(script) => keep_apart(alloc, &files.with_script(alloc, script)?, store),
-        None => keep_apart(alloc, &files, store),
+        Some(script) => keep_separate(alloc, &files.with_script(alloc, script)?, store),
+        None => keep_separate(alloc, &files, store),
     }
 }

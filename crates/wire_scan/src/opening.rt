@@ -1,20 +1,20 @@
 //! Finds a line on a wire and its journal in a file, and makes the site of both.
 ghost use Rattle.std.specs.Prelude.{◌≡◌, ◌≤◌, length, map, string_bytes, IfErr, IfOk, OnOk};
 ghost use Rattle.station_files.specs.Files.{ChangesOnly, HasBytes};
-ghost use Rattle.station_files.specs.FileNames.{IsLineApart};
+ghost use Rattle.station_files.specs.FileNames.{IsLineSeparate};
 ghost use Rattle.station_files.specs.LineFiles.{SpellsLine};
 ghost use Rattle.station_files.specs.Faults as station;
-ghost use Rattle.station_line.specs.Judging.{HasJournal};
+ghost use Rattle.station_line.specs.Validating.{HasJournal};
 ghost use Rattle.wire_scan.specs.Opening.{IsFound};
 
-use crate::asked::{Asked, Tells};
-use crate::journals::judge_journal;
-use crate::judging::{judge_slaves, judge_states};
+use crate::asked::{ScanOptions, Tells};
+use crate::journals::validate_journal;
 use crate::sizes::sizes_of_images;
+use crate::validating::{validate_slaves, validate_states};
 use sii_words::Words;
 use site_file::OpenFiles;
 use station_files::{
-    Entry, Fault, MOST_OF_JOURNAL, Place, Store, Wrong, keep_line_apart, load_line, read_file,
+    Entry, Fault, MOST_OF_JOURNAL, Place, Store, Wrong, keep_line_separate, load_line, read_file,
 };
 use station_text::LineFile;
 use std::alloc::Global;
@@ -25,7 +25,7 @@ use wire_frames::{NumberedWire, Wire};
 
 /// A line that was found on a wire, and its journal.
 #[derive(Drop)]
-pub struct Found<L> {
+pub struct FoundWire<L> {
     /// The line file.
     pub line: LineFile,
     /// The words of the slaves, in the order of the line.
@@ -46,29 +46,29 @@ pub struct Found<L> {
 /// # Errors
 ///
 /// As for `load_line`; `Busy` where another station has locked the journal, `File` where it is absent or the system can't lock it, `NotAFile`;
-/// as for `keep_line_apart`; as for `sizes_of_images`; unless slaves in any state are allowed or the wire is lent, as for `judge_states`, before an
-/// EEPROM is taken; as for `bring_up`; as for `judge_slaves`; as for `read_file` of the journal; `NotAJournal`, `BadVersion`, `WrongLine` or
+/// as for `keep_line_separate`; as for `sizes_of_images`; unless slaves in any state are allowed or the wire is lent, as for `validate_states`, before an
+/// EEPROM is taken; as for `bring_up`; as for `validate_slaves`; as for `read_file` of the journal; `NotAJournal`, `BadVersion`, `WrongLine` or
 /// `BadJournal` where it isn't a journal of these slaves. `Memory` may come at any point.
 pub fn find_line<R: Clock + AllocGlobal, W: Wire, S: Store>(
     rt: &R,
     wire: &mut NumberedWire<W>,
     name: &str,
-    asked: Asked,
+    asked: ScanOptions,
     store: &mut S,
-) -> Result<Found<S::Lock>, WireFault>
+) -> Result<FoundWire<S::Lock>, WireFault>
     ensures found { IfOk result (λ found. IsFound (S.files store.old) name.now found.line found.slaves.items found.journal.items) }
-    ensures judged { IfOk result (λ found. HasJournal (map length found.slaves.items) found.journal.items) }
-    ensures apart { IfOk result (λ found. IsLineApart S.leads found.line name.now) }
+    ensures validated { IfOk result (λ found. HasJournal (map length found.slaves.items) found.journal.items) }
+    ensures separate { IfOk result (λ found. IsLineSeparate S.leads found.line name.now) }
     ensures some { IfOk result (λ found. 1 ≤ length found.slaves.items) }
     ensures most { IfOk result (λ found. length found.slaves.items ≤ 64) }
     ensures same { S.files store.new ≡ S.files store.old }
 {
     let line = load_line(rt.alloc(), name, store)?;
     let lock = lock_journal(rt.alloc(), name, &line, store)?;
-    let found = bring_up_judged(rt, wire, &line, asked, store)?;
+    let found = bring_up_validated(rt, wire, &line, asked, store)?;
     let states = found.states();
     match read_found(rt.alloc(), &line, found, store) {
-        Ok((slaves, journal)) => Ok(Found {
+        Ok((slaves, journal)) => Ok(FoundWire {
             line,
             slaves,
             states,
@@ -84,11 +84,11 @@ pub fn find_line<R: Clock + AllocGlobal, W: Wire, S: Store>(
 }
 
 /// Brings up a line. Each slave has the size of its image file, where there is one.
-fn bring_up_judged<R: Clock + AllocGlobal, W: Wire, S: Store>(
+fn bring_up_validated<R: Clock + AllocGlobal, W: Wire, S: Store>(
     rt: &R,
     wire: &mut NumberedWire<W>,
     line: &LineFile,
-    asked: Asked,
+    asked: ScanOptions,
     store: &mut S,
 ) -> Result<FoundLine, WireFault>
     ensures some { IfOk result (λ found. 1 ≤ length found.slaves.items) }
@@ -99,7 +99,7 @@ fn bring_up_judged<R: Clock + AllocGlobal, W: Wire, S: Store>(
     // On a wire that is lent slaves may be in any state, and who has their EEPROMs is judged as they are opened.
     if !asked.is_forced && !wire.is_lent() {
         let seen = look_along(wire)?;
-        judge_states(&seen.states, usize::from(seen.slaves))?;
+        validate_states(&seen.states, usize::from(seen.slaves))?;
     }
     let found = bring_up(rt.alloc(), wire, rt, &sizes)?;
     Ok(found)
@@ -115,12 +115,12 @@ fn read_found<S: Store>(
     ensures count { IfOk result (λ read. length read.0.items ≡ length line.now.images.items) }
     ensures found { IfOk result (λ read. length read.0.items ≡ length found.slaves.items) }
     ensures journal { IfOk result (λ read. HasBytes (S.files store.old) (string_bytes line.now.journal) read.1.items) }
-    ensures judged { IfOk result (λ read. HasJournal (map length read.0.items) read.1.items) }
+    ensures validated { IfOk result (λ read. HasJournal (map length read.0.items) read.1.items) }
     ensures same { S.files store.new ≡ S.files store.old }
 {
-    let slaves = judge_slaves(alloc, found, line.images.len())?;
+    let slaves = validate_slaves(alloc, found, line.images.len())?;
     let journal = read_file(alloc, line.journal.as_str(), MOST_OF_JOURNAL, store)?;
-    judge_journal(alloc, line.journal.as_str(), &journal, &slaves, store)?;
+    validate_journal(alloc, line.journal.as_str(), &journal, &slaves, store)?;
     Ok((slaves, journal))
 }
 
@@ -131,7 +131,7 @@ fn lock_journal<S: Store>(
     line: &LineFile,
     store: &mut S,
 ) -> Result<S::Lock, Fault>
-    ensures apart { OnOk result (IsLineApart S.leads line.now name.now) }
+    ensures separate { OnOk result (IsLineSeparate S.leads line.now name.now) }
     ensures same { S.files store.new ≡ S.files store.old }
 {
     let journal = line.journal.as_str();
@@ -143,7 +143,7 @@ fn lock_journal<S: Store>(
         store.note(fault.code(), Place::File(journal), &Wrong::NotAFile);
         return Err(fault);
     };
-    match keep_line_apart(alloc, line, name, store) {
+    match keep_line_separate(alloc, line, name, store) {
         Ok(()) => Ok(lock),
         Err(fault) => {
             drop(lock);

@@ -1,10 +1,10 @@
 //! Which files a backup writes.
 ghost use Rattle.std.specs.Prelude.{◌≡◌, vec_len, IfOk, IfSome, IsSome, false, true};
-ghost use Rattle.station_files.specs.FileNames.{IsLineApart};
+ghost use Rattle.station_files.specs.FileNames.{IsLineSeparate};
 ghost use Rattle.station_files.specs.Files.{IsAbsent, Known};
 ghost use Rattle.wire_scan.specs.Backup.{IsPlanned};
 
-use station_files::{Entry, Fault, Store, keep_line_apart, load_line};
+use station_files::{Entry, Fault, Store, keep_line_separate, load_line};
 use station_text::{LineFile, read_line};
 use std::alloc::Global;
 use std::io;
@@ -23,7 +23,7 @@ pub(crate) struct Plan {
 ///
 /// # Errors
 ///
-/// As for `load_line`; `BadLine` where a line file can't spell names beside `name`; as for `keep_line_apart`; `OtherCount` where the line file
+/// As for `load_line`; `BadLine` where a line file can't spell names beside `name`; as for `keep_line_separate`; `OtherCount` where the line file
 /// names another number of slaves; `Memory`.
 pub(crate) fn plan_backup<S: Store>(
     alloc: Global,
@@ -32,12 +32,12 @@ pub(crate) fn plan_backup<S: Store>(
     store: &mut S,
 ) -> Result<Plan, WireFault>
     ensures planned { IfOk result (λ plan. IsPlanned (S.files store.old) name.now plan.line plan.text) }
-    ensures apart { IfOk result (λ plan. IsLineApart S.leads plan.line name.now) }
+    ensures separate { IfOk result (λ plan. IsLineSeparate S.leads plan.line name.now) }
     ensures count { IfOk result (λ plan. vec_len plan.line.images ≡ slaves) }
     ensures same { S.files store.new ≡ S.files store.old }
 {
     let plan = plan_line(alloc, name, slaves, store)?;
-    match keep_line_apart(alloc, &plan.line, name, store) {
+    match keep_line_separate(alloc, &plan.line, name, store) {
         Ok(()) if plan.line.images.len() == slaves => Ok(plan),
         Ok(()) => Err(WireFault::OtherCount { slaves }),
         Err(fault) => Err(WireFault::Station(fault)),

@@ -11,7 +11,7 @@ use wire_frames::{LineFault, NumberedWire, Wire};
 use wire_words::{Extent, SizeFound};
 
 /// Brings up the line on this wire, and prints one line for each slave: its position, the number of words of its EEPROM, its alias,
-/// whether its check byte is right, and its identity; or the fault for which it can't be worked on. Behind that stand its state, and what
+/// whether its check byte is right, and its identity; or the fault for which it can't be worked on. After that stand its state, and what
 /// was found of its EEPROM's size; or the same as a row of JSON. No file is read or written, and no word of a slave. The EEPROMs are handed back.
 ///
 /// # Errors

@@ -18,11 +18,11 @@ get-set (x ∷ xs) zero old new here = refl
 get-set (x ∷ xs) (suc at) old new here = get-set xs at old new here
 
 get-other : {X : Type 0} (xs : List X) (at other : ℕ) (new : X) → other ≢ at → slice_get (slice_set xs at new) other ≡ slice_get xs other
-get-other [] at other new apart = refl
-get-other (x ∷ xs) zero zero new apart = absurd (apart refl)
-get-other (x ∷ xs) zero (suc other) new apart = refl
-get-other (x ∷ xs) (suc at) zero new apart = refl
-get-other (x ∷ xs) (suc at) (suc other) new apart = get-other xs at other new (λ same. apart (ap suc same))
+get-other [] at other new separate = refl
+get-other (x ∷ xs) zero zero new separate = absurd (separate refl)
+get-other (x ∷ xs) zero (suc other) new separate = refl
+get-other (x ∷ xs) (suc at) zero new separate = refl
+get-other (x ∷ xs) (suc at) (suc other) new separate = get-other xs at other new (λ same. separate (ap suc same))
 
 -- an element of a list of which each one is so
 at-each : {X : Type 0} (P : X → Type 0) (xs : List X) (at : ℕ) (x : X) → All P xs → slice_get xs at ≡ Some x → P x
@@ -40,7 +40,7 @@ OthersMiss station lists at = (other : ℕ) (calls : List Exchanged) → other �
 
 still-miss : (station : ℕ) (lists : List (List Exchanged)) (at k : ℕ) (first : Exchanged) (rest : List Exchanged) → slice_get lists k ≡ Some (first ∷ rest)
     → OthersMiss station lists at → OthersMiss station (slice_set lists k rest) at
-still-miss station lists at k first rest here miss other calls apart there = by (eqb_tells other k)
+still-miss station lists at k first rest here miss other calls separate there = by (eqb_tells other k)
   where
     by : ((eqb other k ≡ true) × (other ≡ k)) ⊎ ((eqb other k ≡ false) × (other ≢ k)) → Misses station calls
     by (inl same) =
@@ -48,43 +48,43 @@ still-miss station lists at k first rest here miss other calls apart there = by 
         (let e : Some rest ≡ Some calls = sym (get-set lists k (first ∷ rest) rest here) ∙ ap (slice_get (slice_set lists k rest)) (sym same.1) ∙ there in cc) in
         subst (Misses station) is
         (All-tail (λ (call : Exchanged). station_of call.sent.address ≢ station) first rest
-        (miss other (first ∷ rest) apart (ap (slice_get lists) same.1 ∙ here)))
-    by (inr other_list) = miss other calls apart (sym (get-other lists k other rest other_list.1) ∙ there)
+        (miss other (first ∷ rest) separate (ap (slice_get lists) same.1 ∙ here)))
+    by (inr other_list) = miss other calls separate (sym (get-other lists k other rest other_list.1) ∙ there)
 
--- What follows of the first element, where it holds behind that.
+-- What follows of the first element, where it holds after that.
 step : (station : ℕ) (lists : List (List Exchanged)) (at k : ℕ) (first : Exchanged) (rest all own : List Exchanged) → slice_get lists at ≡ Some own
     → slice_get lists k ≡ Some (first ∷ rest) → OthersMiss station lists at → (later : SlaveHalf)
     → ((left : List Exchanged) → slice_get (slice_set lists k rest) at ≡ Some left → (mid : SlaveHalf) → mid.station ≡ station → Lives all mid later
     → Lives left mid later) → (real : SlaveHalf) → real.station ≡ station → Lives (first ∷ all) real later → Lives own real later
-step station lists at k first rest all own here there miss later behind_it real near lives = by (eqb_tells at k)
+step station lists at k first rest all own here there miss later after_it real near lives = by (eqb_tells at k)
   where
     its_own : at ≡ k → Lives (first ∷ all) real later → Lives (first ∷ rest) real later
-    its_own same (answers _ _ found _ mid _ to came answered behind) =
+    its_own same (answers _ _ found _ mid _ to came answered after) =
         answers first rest found real mid later to came answered
-        (behind_it rest (ap (slice_get (slice_set lists k rest)) same ∙ get-set lists k (first ∷ rest) rest there) mid
-        (lives_station (first ∷ []) real mid (answers first [] found real mid mid to came answered (ends mid)) ∙ near) behind)
-    its_own same (is_silent _ _ _ mid _ to none_came serves behind) =
+        (after_it rest (ap (slice_get (slice_set lists k rest)) same ∙ get-set lists k (first ∷ rest) rest there) mid
+        (lives_station (first ∷ []) real mid (answers first [] found real mid mid to came answered (ends mid)) ∙ near) after)
+    its_own same (is_silent _ _ _ mid _ to none_came serves after) =
         is_silent first rest real mid later to none_came serves
-        (behind_it rest (ap (slice_get (slice_set lists k rest)) same ∙ get-set lists k (first ∷ rest) rest there) mid
-        (lives_station (first ∷ []) real mid (is_silent first [] real mid mid to none_came serves (ends mid)) ∙ near) behind)
-    its_own same (of_another _ _ _ _ other behind) =
+        (after_it rest (ap (slice_get (slice_set lists k rest)) same ∙ get-set lists k (first ∷ rest) rest there) mid
+        (lives_station (first ∷ []) real mid (is_silent first [] real mid mid to none_came serves (ends mid)) ∙ near) after)
+    its_own same (of_another _ _ _ _ other after) =
         of_another first rest real later other
-        (behind_it rest (ap (slice_get (slice_set lists k rest)) same ∙ get-set lists k (first ∷ rest) rest there) real near behind)
+        (after_it rest (ap (slice_get (slice_set lists k rest)) same ∙ get-set lists k (first ∷ rest) rest there) real near after)
 
     misses : at ≢ k → station_of first.sent.address ≢ station
-    misses apart =
-        All-head (λ (call : Exchanged). station_of call.sent.address ≢ station) first rest (miss k (first ∷ rest) (λ same. apart (sym same)) there)
+    misses separate =
+        All-head (λ (call : Exchanged). station_of call.sent.address ≢ station) first rest (miss k (first ∷ rest) (λ same. separate (sym same)) there)
 
     another : at ≢ k → Lives (first ∷ all) real later → Lives own real later
-    another apart (answers _ _ found _ mid _ to came answered behind) = absurd (misses apart (to ∙ near))
-    another apart (is_silent _ _ _ mid _ to none_came serves behind) = absurd (misses apart (to ∙ near))
-    another apart (of_another _ _ _ _ other behind) = behind_it own (get-other lists k at rest apart ∙ here) real near behind
+    another separate (answers _ _ found _ mid _ to came answered after) = absurd (misses separate (to ∙ near))
+    another separate (is_silent _ _ _ mid _ to none_came serves after) = absurd (misses separate (to ∙ near))
+    another separate (of_another _ _ _ _ other after) = after_it own (get-other lists k at rest separate ∙ here) real near after
 
     by : ((eqb at k ≡ true) × (at ≡ k)) ⊎ ((eqb at k ≡ false) × (at ≢ k)) → Lives own real later
     by (inl same) =
         let is : first ∷ rest ≡ own = (let e : Some (first ∷ rest) ≡ Some own = sym there ∙ ap (slice_get lists) (sym same.1) ∙ here in cc) in
         subst (λ (l : List Exchanged). Lives l real later) is (its_own same.1 lives)
-    by (inr apart) = another apart.1 lives
+    by (inr separate) = another separate.1 lives
 
 -- A slave that has lived through all of it has lived through its own.
 pub own_part : (station : ℕ) (lists : List (List Exchanged)) (all : List Exchanged) → Interleaves lists all → (at : ℕ) (own : List Exchanged)
@@ -94,16 +94,16 @@ own_part station lists [] (done _ none) at own here miss real later near (ends _
     subst (λ (l : List Exchanged). Lives l real real) (sym (at-each (λ (l : List Exchanged). l ≡ []) lists at own none here)) (ends real)
 own_part station lists (first ∷ all) (next _ k _ rest _ there more) at own here miss real later near lives =
     step station lists at k first rest all own here there miss later
-    (λ left is mid at_mid behind.
-    own_part station (slice_set lists k rest) all more at left is (still-miss station lists at k first rest there miss) mid later at_mid behind) real near lives
+    (λ left is mid at_mid after.
+    own_part station (slice_set lists k rest) all more at left is (still-miss station lists at k first rest there miss) mid later at_mid after) real near lives
 
 -- what was sent in two parts
 pub lives_joined : (first second : List Exchanged) (real mid later : SlaveHalf) → Lives first real mid → Lives second mid later
     → Lives (first ++ second) real later
-lives_joined [] second real mid later (ends _) behind = behind
-lives_joined (call ∷ first) second real mid later (answers _ _ found _ one _ to came answered rest) behind =
-    answers call (first ++ second) found real one later to came answered (lives_joined first second one mid later rest behind)
-lives_joined (call ∷ first) second real mid later (is_silent _ _ _ one _ to none_came serves rest) behind =
-    is_silent call (first ++ second) real one later to none_came serves (lives_joined first second one mid later rest behind)
-lives_joined (call ∷ first) second real mid later (of_another _ _ _ _ other rest) behind =
-    of_another call (first ++ second) real later other (lives_joined first second real mid later rest behind)
+lives_joined [] second real mid later (ends _) after = after
+lives_joined (call ∷ first) second real mid later (answers _ _ found _ one _ to came answered rest) after =
+    answers call (first ++ second) found real one later to came answered (lives_joined first second one mid later rest after)
+lives_joined (call ∷ first) second real mid later (is_silent _ _ _ one _ to none_came serves rest) after =
+    is_silent call (first ++ second) real one later to none_came serves (lives_joined first second one mid later rest after)
+lives_joined (call ∷ first) second real mid later (of_another _ _ _ _ other rest) after =
+    of_another call (first ++ second) real later other (lives_joined first second real mid later rest after)

@@ -1,4 +1,4 @@
-mod BehindDesk
+mod AfterDesk
 mod Endings
 mod Interleaved
 mod Recovering

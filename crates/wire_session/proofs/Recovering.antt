@@ -7,7 +7,7 @@ use Rattle.station_alone.specs.Station.{Station}
 use Rattle.station_alone.specs.Recovery.{HasRecovered, BeginsRecovered}
 use Rattle.station_text.specs.declared.line_file.LineFile.{LineFile}
 use Rattle.station_files.specs.Files.{Known, HasBytes, ChangesAmong, ChangesOnly}
-use Rattle.station_files.specs.FileNames.{IsLineApart}
+use Rattle.station_files.specs.FileNames.{IsLineSeparate}
 use Rattle.station_files.specs.LineFiles.{SpellsLine, SpellsSlaves}
 use Rattle.station_files.proofs.Loaded.{of_held}
 use Rattle.station_files.specs.Locations.{Leads}
@@ -15,20 +15,20 @@ use Rattle.station_line.specs.Site.{IsSiteOf, files_of, switched_on, HoldsSite}
 use Rattle.wire_faults.specs.declared.faults.WireFault.{WireFault}
 use Rattle.wire_faults.specs.declared.faults.WireFault.TheVariants as wire
 use Rattle.station_line.specs.Init as bench
-use Rattle.station_line.specs.Judging.{HasJournal}
+use Rattle.station_line.specs.Validating.{HasJournal}
 use Rattle.station_line.specs.Init.{Formats}
 use Rattle.station_files.specs.declared.faults.Fault.TheVariants.{Exists}
-use Rattle.site_wire.specs.declared.device.WireTold.{WireTold}
+use Rattle.site_wire.specs.declared.device.WireLog.{WireLog}
 use Rattle.wire_scan.specs.Backup.{IsWithoutPast}
 use Rattle.wire_scan.specs.Opening.{IsFound}
-use Rattle.wire_session.specs.declared.told.Worked.{Worked}
+use Rattle.wire_session.specs.declared.logs.Worked.{Worked}
 use Rattle.wire_session.specs.Recovery.{BeginsJournal, IsBegun, RefusesInit, EndsRecovery, Recovers, SavesRecovered}
 use Rattle.wire_session.specs.Slaves.{SlavesHold}
 use Rattle.station_files.specs.declared.faults.Fault.{Fault}
 use Rattle.wire_session.specs.Reporting.{IsPrinted}
 use Rattle.script_session.specs.Saving.{MayFail}
 use Rattle.wire_session.specs.Ending.{LeavesImages}
-use Rattle.wire_session.proofs.Endings.{ends_behind_open, may_fail}
+use Rattle.wire_session.proofs.Endings.{ends_after_open, may_fail}
 
 -- ---- the line is recovered
 
@@ -50,14 +50,14 @@ ends_recovered Hold result old new line before s state is_recovered begins slave
 
 -- what is said of what was saved, once it is printed
 pub printed : (P : Type 0) (saved : Result (Unit {0}) Fault) (result : Result (Unit {0}) WireFault) → IsPrinted saved result → OnOk saved P → OnOk result P
-printed P (Ok done) (Ok told) is holds = holds
+printed P (Ok done) (Ok reported) is holds = holds
 printed P (Ok done) (Err fault) is holds = tt
 printed P (Err fault) result is holds = subst (λ (r : Result (Unit {0}) WireFault). OnOk r P) (sym is) tt
 
 pub printed_leaves : (saved : Result (Unit {0}) Fault) (result : Result (Unit {0}) WireFault) (old new : Known) (line : LineFile) → IsPrinted saved result
     → IfErr saved (MayFail old new) → LeavesImages result old new line
-printed_leaves (Ok done) (Ok told) old new line is may = tt
-printed_leaves (Ok done) (Err fault) old new line is may = λ apart. absurd (apart is)
+printed_leaves (Ok done) (Ok reported) old new line is may = tt
+printed_leaves (Ok done) (Err fault) old new line is may = λ separate. absurd (separate is)
 printed_leaves (Err fault) result old new line is may =
     subst (λ (r : Result (Unit {0}) WireFault). LeavesImages r old new line) (sym is) (may_fail (Unit {0}) fault old new line may)
 
@@ -68,7 +68,7 @@ pub recovers_opened : (Before After : Station → Type 0) (result : Result (Unit
     → ((s : Station) → HasRecovered s → Before s → After s) → EndsRecovery Before result mid new line site.seen
     → EndsRecovery After result old new line (switched_on plant bytes)
 recovers_opened Before After result old mid new line plant bytes site only made says ends =
-    ends_behind_open (λ done. SavesRecovered Before new line site.seen) (λ done. SavesRecovered After new line (switched_on plant bytes)) result old mid new line only
+    ends_after_open (λ done. SavesRecovered Before new line site.seen) (λ done. SavesRecovered After new line (switched_on plant bytes)) result old mid new line only
     (λ done saves. subst (λ (seen : Seen). SavesRecovered After new line seen) made.seen (record {
       s = saves.s;
       recovered = saves.recovered;
@@ -79,21 +79,21 @@ recovers_opened Before After result old mid new line plant bytes site only made 
 
 -- ---- the whole
 
-pub recovers : (worked : Worked (Unit {0}) WireTold) (leads : Leads) (old found new : Known) (name : List ℕ) (line : LineFile) (plant : List (List ℕ)) (bytes : List ℕ) → IsFound old name line plant bytes
-    → HasJournal (map length plant) bytes → IsLineApart leads line name → found ≡ old
-    → EndsRecovery (λ s. IsSomeAnd worked.told (SlavesHold plant s)) worked.ended found new line (switched_on plant bytes) → Recovers worked leads old new name
-recovers worked leads old found new name line plant bytes given judged apart same ends =
-    let P : Known → Type 0 = λ files. EndsRecovery (λ s. IsSomeAnd worked.told (SlavesHold plant s)) worked.ended files new line (switched_on plant bytes) in
-    inr (record { line = line; plant = plant; bytes = bytes; found = given; judged = judged; apart = apart; ends = subst P same ends })
+pub recovers : (worked : Worked (Unit {0}) WireLog) (leads : Leads) (old found new : Known) (name : List ℕ) (line : LineFile) (plant : List (List ℕ)) (bytes : List ℕ) → IsFound old name line plant bytes
+    → HasJournal (map length plant) bytes → IsLineSeparate leads line name → found ≡ old
+    → EndsRecovery (λ s. IsSomeAnd worked.reported (SlavesHold plant s)) worked.ended found new line (switched_on plant bytes) → Recovers worked leads old new name
+recovers worked leads old found new name line plant bytes given validated separate same ends =
+    let P : Known → Type 0 = λ files. EndsRecovery (λ s. IsSomeAnd worked.reported (SlavesHold plant s)) worked.ended files new line (switched_on plant bytes) in
+    inr (record { line = line; plant = plant; bytes = bytes; found = given; validated = validated; separate = separate; ends = subst P same ends })
 
 -- ---- init
 
 -- nothing was written before
-pub formats_behind : (result : Result (Unit {0}) WireFault) (old mid new : Known) (name : List ℕ) → mid ≡ old → OnOk result (Formats ⊤ mid new name) → OnOk result (Formats ⊤ old new name)
-formats_behind result old mid new name same formats = let P : Known → Type 0 = λ files. OnOk result (Formats ⊤ files new name) in subst P same formats
+pub formats_after : (result : Result (Unit {0}) WireFault) (old mid new : Known) (name : List ℕ) → mid ≡ old → OnOk result (Formats ⊤ mid new name) → OnOk result (Formats ⊤ old new name)
+formats_after result old mid new name same formats = let P : Known → Type 0 = λ files. OnOk result (Formats ⊤ files new name) in subst P same formats
 
-pub refuses_behind : (result : Result (Unit {0}) WireFault) (old mid new : Known) (leads : Leads) (name : List ℕ) → mid ≡ old → IfErr result (RefusesInit mid new leads name) → IfErr result (RefusesInit old new leads name)
-refuses_behind result old mid new leads name same refuses = let P : Known → Type 0 = λ files. IfErr result (RefusesInit files new leads name) in subst P same refuses
+pub refuses_after : (result : Result (Unit {0}) WireFault) (old mid new : Known) (leads : Leads) (name : List ℕ) → mid ≡ old → IfErr result (RefusesInit mid new leads name) → IfErr result (RefusesInit old new leads name)
+refuses_after result old mid new leads name same refuses = let P : Known → Type 0 = λ files. IfErr result (RefusesInit files new leads name) in subst P same refuses
 
 -- nothing was written
 pub refuses_early : (fault : WireFault) (old new : Known) (leads : Leads) (name : List ℕ) → new ≡ old → RefusesInit old new leads name fault

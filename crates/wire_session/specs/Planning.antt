@@ -7,7 +7,7 @@ use Rattle.station_files.specs.Files.{Known}
 use Rattle.station_files.specs.Locations.{Leads}
 use Rattle.station_files.specs.ScriptFiles.{SpellsCommands}
 use Rattle.station_files.specs.declared.faults.ExitStatus.{ExitStatus}
-use Rattle.station_line.specs.Judging.{IsRunApart}
+use Rattle.station_line.specs.Validating.{IsRunSeparate}
 use Rattle.station_line.specs.Site.{IsSiteOf}
 use Rattle.station_plan.specs.Plan.{PlansSite}
 use Rattle.wire_scan.specs.Opening.{IsFound}
@@ -26,5 +26,5 @@ pub record PlansOnWire (leads : Leads) (files : Known) (name script : List ℕ) 
   pub found : IsFound files name line plant bytes
   pub commands : List Command
   pub spelt : SpellsCommands files script commands
-  pub apart : IsRunApart leads line name script
+  pub separate : IsRunSeparate leads line name script
   pub plans : PlansFound plant bytes commands status

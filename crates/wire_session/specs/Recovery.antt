@@ -3,20 +3,20 @@ use Rattle.std.specs.Prelude.{◌≡◌, ◌⊎◌, ℕ, List, map, length, stri
 use Rattle.site_core.specs.State.{Seen}
 use Rattle.station_text.specs.declared.line_file.LineFile.{LineFile}
 use Rattle.station_files.specs.Files.{Known, Holds}
-use Rattle.station_files.specs.FileNames.{IsLineApart}
+use Rattle.station_files.specs.FileNames.{IsLineSeparate}
 use Rattle.station_files.specs.LineFiles.{SpellsLine, SpellsSlaves}
 use Rattle.station_files.specs.Locations.{Leads}
 use Rattle.station_alone.specs.Station.{Station}
 use Rattle.station_alone.specs.Recovery.{HasRecovered, BeginsRecovered}
 use Rattle.station_line.specs.Init as bench
-use Rattle.station_line.specs.Judging.{HasJournal}
+use Rattle.station_line.specs.Validating.{HasJournal}
 use Rattle.station_line.specs.Site.{switched_on, HoldsSite}
 use Rattle.wire_faults.specs.declared.faults.WireFault.{WireFault}
 use Rattle.wire_faults.specs.declared.faults.WireFault.TheVariants as wire
 use Rattle.wire_scan.specs.Backup.{IsWithoutPast}
 use Rattle.wire_scan.specs.Opening.{IsFound}
-use Rattle.site_wire.specs.declared.device.WireTold.{WireTold}
-use Rattle.wire_session.specs.declared.told.Worked.{Worked}
+use Rattle.site_wire.specs.declared.device.WireLog.{WireLog}
+use Rattle.wire_session.specs.declared.logs.Worked.{Worked}
 use Rattle.wire_session.specs.Ending.{Ends}
 use Rattle.wire_session.specs.Slaves.{SlavesHold}
 
@@ -34,18 +34,18 @@ EndsRecovery Hold result old new line before = Ends (λ done. SavesRecovered Hol
 
 -- The line was found, the journal is one of these slaves, its files stand apart, and the site of the words on the wire and the journal's bytes was
 -- recovered as far as the result says: the slaves too, by what is told of the devices.
-pub record RecoversFound (worked : Worked (Unit {0}) WireTold) (leads : Leads) (old new : Known) (name : List ℕ) : Type 0 where
+pub record RecoversFound (worked : Worked (Unit {0}) WireLog) (leads : Leads) (old new : Known) (name : List ℕ) : Type 0 where
   pub line : LineFile
   pub plant : List (List ℕ)
   pub bytes : List ℕ
   pub found : IsFound old name line plant bytes
-  pub judged : HasJournal (map length plant) bytes
-  pub apart : IsLineApart leads line name
-  pub ends : EndsRecovery (λ s. IsSomeAnd worked.told (SlavesHold plant s)) worked.ended old new line (switched_on plant bytes)
+  pub validated : HasJournal (map length plant) bytes
+  pub separate : IsLineSeparate leads line name
+  pub ends : EndsRecovery (λ s. IsSomeAnd worked.reported (SlavesHold plant s)) worked.ended old new line (switched_on plant bytes)
 
 -- what `recover` does: it stops before it writes and before the line has a device, as where the journal is refused; or it recovers the line
-abbrev pub Recovers : Worked (Unit {0}) WireTold → Leads → Known → Known → List ℕ → Type 0
-Recovers worked leads old new name = (IsErr worked.ended × (worked.told ≡ None) × (new ≡ old)) ⊎ RecoversFound worked leads old new name
+abbrev pub Recovers : Worked (Unit {0}) WireLog → Leads → Known → Known → List ℕ → Type 0
+Recovers worked leads old new name = (IsErr worked.ended × (worked.reported ≡ None) × (new ≡ old)) ⊎ RecoversFound worked leads old new name
 
 -- `init` is refused as by the station, or before: then nothing was written.
 abbrev pub RefusesInit : Known → Known → Leads → List ℕ → WireFault → Type 0

@@ -12,8 +12,8 @@ IsPrinted (Err fault) result = result ≡ Err (wire.Station fault)
 
 -- the work ended so; or it ended with a fault that is told as another one, and as one of a file or of memory if it is one
 abbrev pub IsExplained : {T : Type 0} → Result T WireFault → Result T WireFault → Type 0
-IsExplained ended result = (result ≡ ended) ⊎ IsErrAnd ended (λ fault. IsErrAnd result (λ told. IsOfStream fault → IsOfStream told))
+IsExplained ended result = (result ≡ ended) ⊎ IsErrAnd ended (λ fault. IsErrAnd result (λ reported. IsOfStream fault → IsOfStream reported))
 
--- the work ended so; or it ended without a fault, and a file, the output or memory failed behind it
+-- the work ended so; or it ended without a fault, and a file, the output or memory failed after it
 abbrev pub IsReported : {T : Type 0} → Result T WireFault → Result T WireFault → Type 0
 IsReported ended result = (result ≡ ended) ⊎ (IsOk ended × IsErrAnd result IsOfStream)

@@ -1,4 +1,4 @@
--- What real slaves hold behind a run or a recovery on a wire (ETG.1000.4, slave information interface).
+-- What real slaves hold after a run or a recovery on a wire (ETG.1000.4, slave information interface).
 use Rattle.std.specs.Prelude.{◌≡◌, ℕ, List, ◌∷◌, ◌++◌, map, Option, Some, IsSomeAnd, slice_get}
 use Rattle.esc_model.specs.SlaveHalf.{SlaveHalf, powered_up}
 use Rattle.esc_model.specs.Orders.{station}
@@ -10,79 +10,79 @@ use Rattle.site_shadow.specs.declared.lending.LinePart.TheVariants as part
 use Rattle.site_wire.specs.Likeness.{IsLike}
 use Rattle.site_wire.specs.Sent.{Exchanged, exchanges}
 use Rattle.site_wire.specs.RealSlaves.{Lives}
-use Rattle.site_wire.specs.declared.device.WireTold.{WireTold}
+use Rattle.site_wire.specs.declared.device.WireLog.{WireLog}
 use Rattle.book_model.specs.Book.{base_of}
 use Rattle.station_alone.specs.Station.{Station}
 use Rattle.station_alone.specs.Recovery.{HasRecovered}
 use Rattle.station_text.specs.declared.line_file.LineFile.{LineFile}
 use Rattle.station_files.specs.Files.{Known}
 use Rattle.station_line.specs.Site.{HoldsSite}
-use Rattle.script_session.specs.AtDesk.{IsServedTold}
-use Rattle.script_session.specs.Saving.{IsToldLine}
-use Rattle.script_session.specs.declared.told.DeskTold.{DeskTold}
-use Rattle.script_session.specs.declared.told.PartTold.{PartTold}
-use Rattle.wire_session.specs.declared.told.LineTold.{LineTold}
+use Rattle.script_session.specs.AtDesk.{IsServedReported}
+use Rattle.script_session.specs.Saving.{IsReportedLine}
+use Rattle.script_session.specs.declared.logs.DeskLog.{DeskLog}
+use Rattle.script_session.specs.declared.logs.PartLog.{PartLog}
+use Rattle.wire_session.specs.declared.logs.LineLog.{LineLog}
 use Rattle.wire_session.specs.Interleaving.{Interleaves}
 
 -- THE DEVICES
 
 -- This is told of devices of the slaves' parts, each of its own.
-abbrev pub AreOfSlaves : {T : Type 0} → (of : LinePart → T → Type 0) → List (PartTold T) → Type 0
-AreOfSlaves {T} of parts = (slave : ℕ) (told : PartTold T) → slice_get parts slave ≡ Some told → of (part.Slave slave) told.told
+abbrev pub AreOfSlaves : {T : Type 0} → (of : LinePart → T → Type 0) → List (PartLog T) → Type 0
+AreOfSlaves {T} of parts = (slave : ℕ) (reported : PartLog T) → slice_get parts slave ≡ Some reported → of (part.Slave slave) reported.reported
 
 -- The same of the disk's device too.
-pub record AreOfParts {T : Type 0} (of : LinePart → T → Type 0) (told : DeskTold T) : Type 0 where
-  pub disk : of part.Disk told.disk.told
-  pub slaves : AreOfSlaves of told.slaves.items
+pub record AreOfParts {T : Type 0} (of : LinePart → T → Type 0) (reported : DeskLog T) : Type 0 where
+  pub disk : of part.Disk reported.disk.reported
+  pub slaves : AreOfSlaves of reported.slaves.items
 
 -- The line of this station was served at a desk, and calls alone led on behind it; this is told of the devices of the station's site before the desk
 -- and of each part there, which ended soundly.
-pub record LedBehindDesk {D T : Type 0} (follows : D → Seen → Type 0) (well : D → Type 0) (tells : D → T → Type 0) (told : DeskTold T)
+pub record LedAfterDesk {D T : Type 0} (follows : D → Seen → Type 0) (well : D → Type 0) (tells : D → T → Type 0) (reported : DeskLog T)
     (opened : Station) (last : Seen) : Type 0 where
   pub left : SiteValue
-  pub served : IsServedTold follows well tells opened told left
-  pub behind : Follows left.seen last
+  pub served : IsServedReported follows well tells opened reported left
+  pub after : Follows left.seen last
 
 -- A station was opened on this site before that, by calls alone.
-pub record LedThroughout {D T : Type 0} (follows : D → Seen → Type 0) (well : D → Type 0) (tells : D → T → Type 0) (told : DeskTold T)
+pub record LedThroughout {D T : Type 0} (follows : D → Seen → Type 0) (well : D → Type 0) (tells : D → T → Type 0) (reported : DeskLog T)
     (site : SiteValue) (last : Seen) : Type 0 where
   pub opened : Station
   pub line : opened.line ≡ site.line
   pub opens : Follows site.seen opened.seen
-  pub behind : LedBehindDesk follows well tells told opened last
+  pub after : LedAfterDesk follows well tells reported opened last
 
--- Devices have followed this site, its parts at a desk, and the site behind it, and this is told of them.
-pub record EndsTold {D T : Type 0} (follows : D → Seen → Type 0) (well : D → Type 0) (tells : D → T → Type 0) (site : SiteValue)
-    (slaves : ℕ) (told : LineTold T) (last : Seen) : Type 0 where
-  pub leads : LedThroughout follows well tells told.desk site last
-  pub ends : IsToldLine follows well tells told.behind slaves last
+-- Devices have followed this site, its parts at a desk, and the site after it, and this is told of them.
+pub record EndsReported {D T : Type 0} (follows : D → Seen → Type 0) (well : D → Type 0) (tells : D → T → Type 0) (site : SiteValue)
+    (slaves : ℕ) (reported : LineLog T) (last : Seen) : Type 0 where
+  pub leads : LedThroughout follows well tells reported.desk site last
+  pub ends : IsReportedLine follows well tells reported.after slaves last
 
 -- the line of this station was served at a desk on the way
 pub record LedAtDesk {D T : Type 0} (follows : D → Seen → Type 0) (well : D → Type 0) (tells : D → T → Type 0) (slaves : ℕ)
-    (opened : Station) (told : LineTold T) (last : Seen) : Type 0 where
-  pub leads : LedBehindDesk follows well tells told.desk opened last
-  pub ends : IsToldLine follows well tells told.behind slaves last
+    (opened : Station) (reported : LineLog T) (last : Seen) : Type 0 where
+  pub leads : LedAfterDesk follows well tells reported.desk opened last
+  pub ends : IsReportedLine follows well tells reported.after slaves last
 
 -- THE SLAVES
 
 -- what the devices of the disk and of each slave have sent at a desk, in order
-abbrev pub sent_at_desk : DeskTold WireTold → List (List Exchanged)
-sent_at_desk told = map (λ (part : PartTold WireTold). exchanges part.told.sent) (told.disk ∷ told.slaves.items)
+abbrev pub sent_at_desk : DeskLog WireLog → List (List Exchanged)
+sent_at_desk reported = map (λ (part : PartLog WireLog). exchanges part.reported.sent) (reported.disk ∷ reported.slaves.items)
 
--- What was sent since the line was found: by its device as the journal was opened; then this at the desk; and behind it by the line's device again.
-abbrev pub all_sent : LineTold WireTold → (desk : List Exchanged) → List Exchanged
-all_sent told desk = exchanges told.desk.line.told.sent ++ desk ++ exchanges told.behind.sent
+-- What was sent since the line was found: by its device as the journal was opened; then this at the desk; and after it by the line's device again.
+abbrev pub all_sent : LineLog WireLog → (desk : List Exchanged) → List Exchanged
+all_sent reported desk = exchanges reported.desk.line.reported.sent ++ desk ++ exchanges reported.after.sent
 
 -- A real slave at this place that was as it was found, with these words, and that could have answered so to what was sent, holds its contents now; in
 -- whatever order the devices of a desk sent.
-abbrev pub SlaveHolds : (slave : ℕ) → (words : List ℕ) → List (List ℕ) → LineTold WireTold → Type 0
-SlaveHolds slave words contents told = (desk : List Exchanged) (real later : SlaveHalf) → Interleaves (sent_at_desk told.desk) desk
-    → IsLike (powered_up words (station slave)) real → Lives (all_sent told desk) real later → slice_get contents slave ≡ Some later.words
+abbrev pub SlaveHolds : (slave : ℕ) → (words : List ℕ) → List (List ℕ) → LineLog WireLog → Type 0
+SlaveHolds slave words contents reported = (desk : List Exchanged) (real later : SlaveHalf) → Interleaves (sent_at_desk reported.desk) desk
+    → IsLike (powered_up words (station slave)) real → Lives (all_sent reported desk) real later → slice_get contents slave ≡ Some later.words
 
 -- By what was told of the devices, each slave that was found with these words holds the contents of this station.
-abbrev pub SlavesHold : List (List ℕ) → Station → LineTold WireTold → Type 0
-SlavesHold plant s told = (slave : ℕ) (words : List ℕ) → slice_get plant slave ≡ Some words → SlaveHolds slave words (base_of s.book) told
+abbrev pub SlavesHold : List (List ℕ) → Station → LineLog WireLog → Type 0
+SlavesHold plant s reported = (slave : ℕ) (words : List ℕ) → slice_get plant slave ≡ Some words → SlaveHolds slave words (base_of s.book) reported
 
 -- The files hold the state of a line that was recovered, and by what was told each slave that was found with these words holds its contents.
-abbrev pub SlavesAreSaved : List (List ℕ) → Known → LineFile → Option (LineTold WireTold) → Type 0
-SlavesAreSaved plant files line told = (s : Station) × HasRecovered s × HoldsSite files line s.seen.state × IsSomeAnd told (SlavesHold plant s)
+abbrev pub SlavesAreSaved : List (List ℕ) → Known → LineFile → Option (LineLog WireLog) → Type 0
+SlavesAreSaved plant files line reported = (s : Station) × HasRecovered s × HoldsSite files line s.seen.state × IsSomeAnd reported (SlavesHold plant s)

@@ -11,7 +11,7 @@ use std::rt::Clock;
 use wire_bringup::{bring_up, hand_back};
 use wire_faults::WireFault;
 use wire_frames::{NumberedWire, Wire};
-use wire_scan::{Asked, judge_slaves, require_empty, sizes_of_images};
+use wire_scan::{ScanOptions, require_empty, sizes_of_images, validate_slaves};
 
 /// Makes an empty journal for the line on this wire, whose line file is `name`, and prints the size of its area. The line file has to name
 /// as many image files as the line has slaves, and these have to be there, as a backup leaves them; they keep their words. The journal's file
@@ -19,21 +19,21 @@ use wire_scan::{Asked, judge_slaves, require_empty, sizes_of_images};
 ///
 /// # Errors
 ///
-/// As for `load_line` and `sizes_of_images`; as for `bring_up` and `judge_slaves`. Nothing is written up to there.
+/// As for `load_line` and `sizes_of_images`; as for `bring_up` and `validate_slaves`. Nothing is written up to there.
 /// Then as for `station_line::init_line`.
-#[tactic(auto, using(crate::proofs::Recovering::formats_behind, crate::proofs::Recovering::refuses_behind, crate::proofs::Recovering::refuses_early))]
+#[tactic(auto, using(crate::proofs::Recovering::formats_after, crate::proofs::Recovering::refuses_after, crate::proofs::Recovering::refuses_early))]
 pub fn init_on_wire<R: Clock + AllocGlobal, W: Wire, S: Store, O: Write>(
     rt: &R,
     wire: &mut NumberedWire<W>,
     name: &str,
-    asked: Asked,
+    asked: ScanOptions,
     store: &mut S,
     output: &mut O,
 ) -> Result<(), WireFault>
     ensures formatted { OnOk result (Formats ⊤ (S.files store.old) (S.files store.new) name.now) }
     ensures refused { IfErr result (RefusesInit (S.files store.old) (S.files store.new) S.leads name.now) }
 {
-    match judge_line(rt, wire, name, asked, store) {
+    match validate_line(rt, wire, name, asked, store) {
         Ok(()) => format_line(rt.alloc(), name, store, output),
         Err(fault) => Err(fault),
     }
@@ -58,13 +58,13 @@ pub fn begin_journal<S: Store, O: Write>(
 {
     match init_line(alloc, name, store, output) {
         Ok(()) => Ok(()),
-        Err(Fault::Exists) => judge_begun(alloc, name, store),
+        Err(Fault::Exists) => validate_begun(alloc, name, store),
         Err(fault) => Err(WireFault::Station(fault)),
     }
 }
 
 /// Looks whether the journal that is there is an empty one of the line whose line file is `name`.
-fn judge_begun<S: Store>(alloc: Global, name: &str, store: &mut S) -> Result<(), WireFault>
+fn validate_begun<S: Store>(alloc: Global, name: &str, store: &mut S) -> Result<(), WireFault>
     ensures begun { OnOk result (IsBegun (S.files store.old) name.now) }
     ensures same { S.files store.new ≡ S.files store.old }
 {
@@ -76,11 +76,11 @@ fn judge_begun<S: Store>(alloc: Global, name: &str, store: &mut S) -> Result<(),
 }
 
 /// Looks whether the line on this wire has as many slaves as the line file names. No file changes.
-fn judge_line<R: Clock + AllocGlobal, W: Wire, S: Store>(
+fn validate_line<R: Clock + AllocGlobal, W: Wire, S: Store>(
     rt: &R,
     wire: &mut NumberedWire<W>,
     name: &str,
-    asked: Asked,
+    asked: ScanOptions,
     store: &mut S,
 ) -> Result<(), WireFault>
     ensures { S.files store.new ≡ S.files store.old }
@@ -89,7 +89,7 @@ fn judge_line<R: Clock + AllocGlobal, W: Wire, S: Store>(
     let sizes = sizes_of_images(rt.alloc(), &line.images, asked.trusts_images, store)?;
     let found = bring_up(rt.alloc(), wire, rt, &sizes)?;
     hand_back(wire, &found.states());
-    let _slaves = judge_slaves(rt.alloc(), found, line.images.len())?;
+    let _slaves = validate_slaves(rt.alloc(), found, line.images.len())?;
     Ok(())
 }
 

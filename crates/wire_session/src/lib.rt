@@ -3,16 +3,16 @@
 
 mod as_found;
 mod init;
+mod logs;
 mod planning;
 mod recovery;
 mod redoing;
 mod reporting;
 mod running;
 mod threads;
-mod told;
 
 pub use init::{begin_journal, init_on_wire};
 pub use planning::plan_on_wire;
 pub use recovery::recover_line;
+pub use reported::{LineLog, Worked};
 pub use running::{RunOrder, run_script};
-pub use told::{LineTold, Worked};

@@ -2,7 +2,7 @@
 ghost use Rattle.std.specs.Prelude.{◌≡◌, ◌≤◌, length, IfOk};
 ghost use Rattle.wire_session.specs.Planning.{PlansFound, PlansOnWire};
 
-use crate::running::{Given, RunOrder, find_all};
+use crate::running::{RunInputs, RunOrder, find_all};
 use sii_edit::Command;
 use sii_words::Words;
 use site_mem::FaultPlan;
@@ -16,7 +16,7 @@ use std::rt::Clock;
 use wire_bringup::hand_back;
 use wire_faults::WireFault;
 use wire_frames::{NumberedWire, Wire};
-use wire_scan::Found;
+use wire_scan::FoundWire;
 
 /// Prints what `run_script` would do with this order on the line on this wire: the line is found as for a run, the commands are served on a
 /// copy of it in memory, and the answers, the words that change and the rest are printed as `station_plan::plan_line` does. No word of a
@@ -38,7 +38,7 @@ pub fn plan_on_wire<R: Clock + AllocGlobal, W: Wire, S: Store, O: Write>(
 {
     match find_all(rt, wire, order, store) {
         Ok(given) => {
-            let Given { found, commands } = given;
+            let RunInputs { found, commands } = given;
             hand_back(wire, &found.states);
             plan_found(rt.alloc(), found, commands, form, output)
         }
@@ -49,7 +49,7 @@ pub fn plan_on_wire<R: Clock + AllocGlobal, W: Wire, S: Store, O: Write>(
 /// Plans a run of the commands on a copy in memory of the line that was found.
 fn plan_found<L: Drop, O: Write>(
     alloc: Global,
-    found: Found<L>,
+    found: FoundWire<L>,
     commands: Vec<Command>,
     form: Form,
     output: &mut O,
@@ -58,7 +58,7 @@ fn plan_found<L: Drop, O: Write>(
     requires most { length found.slaves.items ≤ 64 }
     ensures { IfOk result (PlansFound found.slaves.items found.journal.items commands.items) }
 {
-    let Found {
+    let FoundWire {
         line: _,
         slaves,
         states: _,

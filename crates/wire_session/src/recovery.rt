@@ -5,20 +5,20 @@ ghost use Rattle.station_files.specs.Files.{ChangesAmong};
 ghost use Rattle.station_line.specs.Site.{files_of, switched_on, HoldsSite};
 ghost use Rattle.wire_session.specs.Ending.{LeavesImages};
 ghost use Rattle.wire_session.specs.Recovery.{EndsRecovery, Recovers};
-ghost use Rattle.script_session.specs.Saving.{IsToldLine};
-ghost use Rattle.wire_session.specs.Slaves.{AreOfParts, EndsTold, SlavesHold};
+ghost use Rattle.script_session.specs.Saving.{IsReportedLine};
+ghost use Rattle.wire_session.specs.Slaves.{AreOfParts, EndsReported, SlavesHold};
 ghost use Rattle.wire_session.specs.Reporting.{IsPrinted};
 
 use crate::as_found::AsFound;
+use crate::logs::{LineLog, Worked};
 use crate::redoing::{ByThreads, recover_by_threads};
 use crate::reporting::{report_end, tell_why};
-use crate::told::{LineTold, Worked};
 use line_changes::Before;
-use script_session::save_told;
+use script_session::save_reported;
 use sii_words::Plant;
 use site_file::FileDevice;
 use site_shadow::{Lends, ShadowSite};
-use site_wire::{LiveLine, LockedLine, TellsPart, WireDevice, WireTold};
+use site_wire::{LiveLine, LockedLine, TellsPart, WireDevice, WireLog};
 use station_alone::Recovered;
 use station_files::{Fault, Store};
 use station_line::{site_of, write_recovered};
@@ -31,7 +31,7 @@ use std::thread::Threads;
 use wire_bringup::hand_back;
 use wire_faults::WireFault;
 use wire_frames::{NumberedWire, Wire};
-use wire_scan::{Asked, Found, find_line, open_journal};
+use wire_scan::{FoundWire, ScanOptions, find_line, open_journal};
 
 /// Recovers the line on this wire, whose line file is `name`, with its journal: what is live in the journal is done, and the slaves then
 /// hold the contents after a prefix of the commands accepted before, with every acknowledged one in it. Threads do it, one for each slave,
@@ -53,14 +53,14 @@ pub fn recover_line<
     rt: &R,
     wire: NumberedWire<W>,
     name: &str,
-    asked: Asked,
+    asked: ScanOptions,
     store: &mut S,
     output: &mut O,
-) -> Worked<(), WireTold>
+) -> Worked<(), WireLog>
     ensures { Recovers result S.leads (S.files store.old) (S.files store.new) name.now }
 {
     let mut wire = wire;
-    let asked = Asked {
+    let asked = ScanOptions {
         is_forced: true,
         ..asked
     };
@@ -81,18 +81,18 @@ fn recover_found<
     O: Write,
 >(
     rt: &R,
-    found: Found<S::Lock>,
+    found: FoundWire<S::Lock>,
     wire: NumberedWire<W>,
     store: &mut S,
     output: &mut O,
-) -> Worked<(), WireTold>
+) -> Worked<(), WireLog>
     requires some { 1 ≤ length found.slaves.items }
     requires most { length found.slaves.items ≤ 64 }
     requires count { length found.slaves.items ≡ length found.line.images.items }
-    ensures { EndsRecovery (λ s. IsSomeAnd result.told (SlavesHold found.slaves.items s)) result.ended
+    ensures { EndsRecovery (λ s. IsSomeAnd result.reported (SlavesHold found.slaves.items s)) result.ended
         (S.files store.old) (S.files store.new) found.line (switched_on found.slaves.items found.journal.items) }
 {
-    let Found {
+    let FoundWire {
         line,
         slaves,
         states,
@@ -106,7 +106,7 @@ fn recover_found<
         slaves: &slaves,
         journal,
     };
-    let Worked { ended, told } = recover_opened(rt, as_found, &locked, store, output);
+    let Worked { ended, reported } = recover_opened(rt, as_found, &locked, store, output);
     let explained = tell_why(rt, &locked, ended);
     let mut wire = locked.into_line().into_wire();
     hand_back(&mut wire, &states);
@@ -115,7 +115,7 @@ fn recover_found<
     let before = Before { line, words };
     Worked {
         ended: report_end(rt.alloc(), tells, &before, explained, store, output),
-        told,
+        reported,
     }
 }
 
@@ -131,11 +131,11 @@ fn recover_opened<
     locked: &LockedLine<W>,
     store: &mut S,
     output: &mut O,
-) -> Worked<(), WireTold>
+) -> Worked<(), WireLog>
     requires some { 1 ≤ length found.slaves.now }
     requires most { length found.slaves.now ≤ 64 }
     requires count { length found.slaves.now ≡ length found.line.now.images.items }
-    ensures { EndsRecovery (λ s. IsSomeAnd result.told (SlavesHold found.entry.slaves.now s)) result.ended
+    ensures { EndsRecovery (λ s. IsSomeAnd result.reported (SlavesHold found.entry.slaves.now s)) result.ended
         (S.files store.old) (S.files store.new) found.entry.line.now (switched_on found.entry.slaves.now found.entry.journal.items) }
 {
     let AsFound {
@@ -165,12 +165,12 @@ fn recover_site<R: Wait + Threads + AllocGlobal + Sync, D: TellsPart + Send, S: 
     site: ShadowSite<D>,
     store: &mut S,
     output: &mut O,
-) -> Worked<(), D::Told>
+) -> Worked<(), D::Logged>
     requires disk { IsTrue site.line.has_disk }
     requires owned { OwnsAll site.line }
-    ensures own { IfSome result.told (λ told. AreOfParts D.is_of told.desk) }
+    ensures own { IfSome result.reported (λ reported. AreOfParts D.is_of reported.desk) }
     ensures recovers { EndsRecovery
-        (λ s. IsSomeAnd result.told (λ told. EndsTold D.follows D.well D.tells site (length line.now.images.items) told s.seen))
+        (λ s. IsSomeAnd result.reported (λ reported. EndsReported D.follows D.well D.tells site (length line.now.images.items) reported s.seen))
         result.ended (S.files store.old) (S.files store.new) line.now site.seen }
 {
     match recover_by_threads(rt, site, line.images.len()) {
@@ -178,14 +178,14 @@ fn recover_site<R: Wait + Threads + AllocGlobal + Sync, D: TellsPart + Send, S: 
             let ByThreads {
                 alone,
                 recovered,
-                told: desk,
+                reported: desk,
             } = redone;
             let (core, left) = alone.into_parts();
             drop(core);
-            let (ended, behind) = save_recovered(rt.alloc(), line, left, recovered, store, output);
+            let (ended, after) = save_recovered(rt.alloc(), line, left, recovered, store, output);
             Worked {
                 ended,
-                told: Some(LineTold { desk, behind }),
+                reported: Some(LineLog { desk, after }),
             }
         }
         Err(fault) => Worked::of_fault(fault),
@@ -200,16 +200,16 @@ fn save_recovered<D: Lends, S: Store, O: Write>(
     recovered: Recovered,
     store: &mut S,
     output: &mut O,
-) -> (Result<(), WireFault>, D::Told)
+) -> (Result<(), WireFault>, D::Logged)
     requires disk { IsTrue site.line.has_disk }
     requires slaves { length site.line.sizes ≡ length line.now.images.items }
     ensures saved { OnOk result.0 (HoldsSite (S.files store.new) line.now site.seen.state) }
     ensures others { ChangesAmong (S.files store.old) (S.files store.new) (files_of line.now) }
     ensures failed { LeavesImages result.0 (S.files store.old) (S.files store.new) line.now }
-    ensures told { OnOk result.0 (IsToldLine D.follows D.well D.tells result.1 (length line.now.images.items) site.seen) }
+    ensures reported { OnOk result.0 (IsReportedLine D.follows D.well D.tells result.1 (length line.now.images.items) site.seen) }
 {
-    let (saved, told) = save_told(alloc, line, site, store);
-    (print_saved(saved, recovered, output), told)
+    let (saved, reported) = save_reported(alloc, line, site, store);
+    (print_saved(saved, recovered, output), reported)
 }
 
 /// Prints what was recovered, if that was saved.

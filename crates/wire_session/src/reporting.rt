@@ -69,9 +69,9 @@ pub(crate) fn tell_handed<T: Copy, O: Write>(
     if !tells.events {
         return ended;
     }
-    let told = print_handed(&handed, output);
+    let reported = print_handed(&handed, output);
     match ended {
-        Ok(value) => match told {
+        Ok(value) => match reported {
             Ok(()) => Ok(value),
             Err(fault) => Err(WireFault::Station(fault)),
         },

@@ -2,26 +2,26 @@
 ghost use Rattle.std.specs.Prelude.{◌≡◌, ◌≤◌, ◌∷◌, ◌++◌, [], length, map, None, IfOk, IfSome, IsSomeAnd, IsTrue, OnOk};
 ghost use Rattle.esc_rom.specs.Owned.{OwnsAll};
 ghost use Rattle.station_files.specs.FileNames.{files_with, written_of};
-ghost use Rattle.station_files.specs.Locations.{AreApart};
+ghost use Rattle.station_files.specs.Locations.{AreSeparate};
 ghost use Rattle.station_files.specs.ScriptFiles.{SpellsCommands};
-ghost use Rattle.station_line.specs.Judging.{HasJournal, IsRunApart};
+ghost use Rattle.station_line.specs.Validating.{HasJournal, IsRunSeparate};
 ghost use Rattle.station_line.specs.Opened.{is_old};
 ghost use Rattle.wire_scan.specs.Opening.{IsFound};
 ghost use Rattle.wire_session.specs.Ending.{Ends};
 ghost use Rattle.wire_session.specs.Running.{EndsFound, RunsScript, SavesSite};
-ghost use Rattle.wire_session.specs.Slaves.{AreOfParts, EndsTold};
+ghost use Rattle.wire_session.specs.Slaves.{AreOfParts, EndsReported};
 
 use crate::as_found::AsFound;
+use crate::logs::Worked;
 use crate::reporting::{report_end, tell_handed, tell_why};
 use crate::threads::run_threads;
-use crate::told::Worked;
 use line_changes::Before;
 use script_session::Work;
 use sii_edit::Command;
 use sii_words::Plant;
 use site_file::FileDevice;
 use site_shadow::ShadowSite;
-use site_wire::{LiveLine, LockedLine, TellsPart, WireDevice, WireTold};
+use site_wire::{LiveLine, LockedLine, TellsPart, WireDevice, WireLog};
 use station_files::{ExitStatus, Fault, Store, load_script};
 use station_line::{is_old, of_open, open_station, site_of};
 use station_text::LineFile;
@@ -33,7 +33,9 @@ use std::thread::Threads;
 use wire_bringup::hand_back;
 use wire_faults::WireFault;
 use wire_frames::{NumberedWire, Wire};
-use wire_scan::{Asked, Found, Named, find_line, judge_commands, keep_script_apart, open_journal};
+use wire_scan::{
+    FoundWire, Named, ScanOptions, find_line, keep_script_separate, open_journal, validate_commands,
+};
 
 /// What a run is given, or the plan of one.
 #[derive(Clone, Copy)]
@@ -41,13 +43,13 @@ pub struct RunOrder<'a> {
     /// The names of the line file and of the script.
     pub named: Named<'a>,
     /// What is asked for that isn't done where nothing is said.
-    pub asked: Asked,
+    pub asked: ScanOptions,
 }
 
 /// What was found for a run: the line, and the commands of the script.
 #[derive(Drop)]
-pub(crate) struct Given<L> {
-    pub(crate) found: Found<L>,
+pub(crate) struct RunInputs<L> {
+    pub(crate) found: FoundWire<L>,
     pub(crate) commands: Vec<Command>,
 }
 
@@ -66,7 +68,7 @@ struct Start<S> {
 ///
 /// # Errors
 ///
-/// As for `load_script`; then as for `find_line` and `keep_script_apart`; then, unless that is allowed, as for `judge_commands`. Nothing
+/// As for `load_script`; then as for `find_line` and `keep_script_separate`; then, unless that is allowed, as for `validate_commands`. Nothing
 /// is written up to there. Then as for `open_journal`, `open_station` and `serve_task`, or why the line on the wire has stopped. No image
 /// file is written up to there, and a recovery completes what was begun. Then `File` or `Memory`, as the store answers.
 pub fn run_script<
@@ -80,13 +82,13 @@ pub fn run_script<
     order: RunOrder<'_>,
     store: &mut S,
     output: &mut O,
-) -> Worked<ExitStatus, WireTold>
+) -> Worked<ExitStatus, WireLog>
     ensures { RunsScript result S.leads (S.files store.old) (S.files store.new) order.entry.named.line.now order.entry.named.script.now }
 {
     let mut wire = wire;
     match find_all(rt, &mut wire, order, store) {
         Ok(given) => {
-            let Given { found, commands } = given;
+            let RunInputs { found, commands } = given;
             run_found(rt, found, commands, wire, store, output)
         }
         Err(fault) => {
@@ -102,22 +104,22 @@ pub(crate) fn find_all<R: Clock + AllocGlobal, W: Wire, S: Store>(
     wire: &mut NumberedWire<W>,
     order: RunOrder<'_>,
     store: &mut S,
-) -> Result<Given<S::Lock>, WireFault>
+) -> Result<RunInputs<S::Lock>, WireFault>
     ensures found { IfOk result (λ given.
         IsFound (S.files store.old) order.entry.named.line.now given.found.line given.found.slaves.items given.found.journal.items) }
-    ensures judged { IfOk result (λ given. HasJournal (map length given.found.slaves.items) given.found.journal.items) }
+    ensures validated { IfOk result (λ given. HasJournal (map length given.found.slaves.items) given.found.journal.items) }
     ensures some { IfOk result (λ given. 1 ≤ length given.found.slaves.items) }
     ensures most { IfOk result (λ given. length given.found.slaves.items ≤ 64) }
     ensures spelt { IfOk result (λ given. SpellsCommands (S.files store.old) order.entry.named.script.now given.commands.items) }
-    ensures apart { IfOk result (λ given.
-        IsRunApart S.leads given.found.line order.entry.named.line.now order.entry.named.script.now) }
+    ensures separate { IfOk result (λ given.
+        IsRunSeparate S.leads given.found.line order.entry.named.line.now order.entry.named.script.now) }
     ensures same { S.files store.new ≡ S.files store.old }
 {
     let RunOrder { named, asked } = order;
     let commands = load_script(rt.alloc(), named.script, store)?;
     match find_line(rt, wire, named.line, asked, store) {
-        Ok(found) => match judge_script(rt.alloc(), named, &found, &commands, asked, store) {
-            Ok(()) => Ok(Given { found, commands }),
+        Ok(found) => match validate_script(rt.alloc(), named, &found, &commands, asked, store) {
+            Ok(()) => Ok(RunInputs { found, commands }),
             Err(fault) => {
                 hand_back(wire, &found.states);
                 drop(found);
@@ -133,25 +135,25 @@ pub(crate) fn find_all<R: Clock + AllocGlobal, W: Wire, S: Store>(
 }
 
 /// Looks whether the script stands apart from the files of the line, and whether its commands may be run on the slaves.
-fn judge_script<S: Store>(
+fn validate_script<S: Store>(
     alloc: Global,
     named: Named<'_>,
-    found: &Found<S::Lock>,
+    found: &FoundWire<S::Lock>,
     commands: &[Command],
-    asked: Asked,
+    asked: ScanOptions,
     store: &mut S,
 ) -> Result<(), WireFault>
     requires some { 1 ≤ length found.now.slaves.items }
     requires most { length found.now.slaves.items ≤ 64 }
-    ensures apart { OnOk result (AreApart S.leads (length (written_of None found.now.line))
+    ensures separate { OnOk result (AreSeparate S.leads (length (written_of None found.now.line))
         (files_with None found.now.line named.entry.line.now ++ named.entry.script.now ∷ [])) }
     ensures same { S.files store.new ≡ S.files store.old }
 {
-    keep_script_apart(alloc, &found.line, named, store)?;
+    keep_script_separate(alloc, &found.line, named, store)?;
     if asked.resizes {
         return Ok(());
     }
-    judge_commands(alloc, &found.slaves, commands)
+    validate_commands(alloc, &found.slaves, commands)
 }
 
 /// Runs the commands on a line that was found, hands the EEPROMs back, and prints what has changed if that is asked for.
@@ -162,18 +164,18 @@ fn run_found<
     O: Write,
 >(
     rt: &R,
-    found: Found<S::Lock>,
+    found: FoundWire<S::Lock>,
     commands: Vec<Command>,
     wire: NumberedWire<W>,
     store: &mut S,
     output: &mut O,
-) -> Worked<ExitStatus, WireTold>
+) -> Worked<ExitStatus, WireLog>
     requires some { 1 ≤ length found.slaves.items }
     requires most { length found.slaves.items ≤ 64 }
     requires count { length found.slaves.items ≡ length found.line.images.items }
     ensures { EndsFound result (S.files store.old) (S.files store.new) found.line found.slaves.items found.journal.items commands.items }
 {
-    let Found {
+    let FoundWire {
         line,
         slaves,
         states,
@@ -193,18 +195,18 @@ fn run_found<
     };
     let Worked {
         ended,
-        told: of_devices,
+        reported: of_devices,
     } = run_opened(rt, as_found, &locked, work, store, output);
     let explained = tell_why(rt, &locked, ended);
     let mut wire = locked.into_line().into_wire();
     hand_back(&mut wire, &states);
-    let told = tell_handed(tells, wire.handed(), explained, output);
+    let reported = tell_handed(tells, wire.handed(), explained, output);
     drop(wire);
     let words = Plant::of(slaves);
     let before = Before { line, words };
     Worked {
-        ended: report_end(rt.alloc(), tells, &before, told, store, output),
-        told: of_devices,
+        ended: report_end(rt.alloc(), tells, &before, reported, store, output),
+        reported: of_devices,
     }
 }
 
@@ -221,7 +223,7 @@ fn run_opened<
     work: Work,
     store: &mut S,
     output: &mut O,
-) -> Worked<ExitStatus, WireTold>
+) -> Worked<ExitStatus, WireLog>
     requires some { 1 ≤ length found.slaves.now }
     requires most { length found.slaves.now ≤ 64 }
     requires count { length found.slaves.now ≡ length found.line.now.images.items }
@@ -260,13 +262,13 @@ fn run_site<R: Wait + Threads + AllocGlobal + Sync, D: TellsPart + Send, S: Stor
     work: Work,
     store: &mut S,
     output: &mut O,
-) -> Worked<ExitStatus, D::Told>
+) -> Worked<ExitStatus, D::Logged>
     requires disk { IsTrue start.site.line.has_disk }
     requires owned { OwnsAll start.site.line }
     requires old { start.was_old ≡ is_old start.site.seen.state.disk.bytes }
-    ensures own { IfSome result.told (λ told. AreOfParts D.is_of told.desk) }
-    ensures ends { Ends (SavesSite (λ last. IsSomeAnd result.told (λ told.
-        EndsTold D.follows D.well D.tells start.site (length line.now.images.items) told last)) (S.files store.new) line.now
+    ensures own { IfSome result.reported (λ reported. AreOfParts D.is_of reported.desk) }
+    ensures ends { Ends (SavesSite (λ last. IsSomeAnd result.reported (λ reported.
+        EndsReported D.follows D.well D.tells start.site (length line.now.images.items) reported last)) (S.files store.new) line.now
         start.site work.commands.items) result.ended (S.files store.old) (S.files store.new) line.now }
 {
     let Start { site, was_old } = start;

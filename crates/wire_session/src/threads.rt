@@ -1,13 +1,13 @@
 //! Serves the commands of a run by threads, and saves what the slaves hold.
 ghost use Rattle.std.specs.Prelude.{◌≡◌, [], length, IfSome, IsSomeAnd, IsTrue, Ok, OnOk};
 ghost use Rattle.script_session.specs.Parts.{IsLineOf};
-ghost use Rattle.script_session.specs.Behind.{LedOn, SavesFollowed};
+ghost use Rattle.script_session.specs.After.{LedOn, SavesFollowed};
 ghost use Rattle.script_session.specs.Saving.{SavesLeft};
 ghost use Rattle.wire_session.specs.Ending.{Ends};
 ghost use Rattle.wire_session.specs.Running.{SavesDesk};
 ghost use Rattle.wire_session.specs.Slaves.{AreOfParts, LedAtDesk};
 
-use crate::told::{LineTold, Worked, are_of_parts};
+use crate::logs::{LineLog, Worked, are_of_parts};
 use script_session::{DeskLeft, Ending, Left, Task, Work, end_line, serve_task};
 use site_shadow::{Lends, ShadowSite};
 use site_wire::TellsPart;
@@ -34,25 +34,25 @@ pub(crate) fn run_threads<
     work: Work,
     store: &mut S,
     output: &mut O,
-) -> Worked<ExitStatus, D::Told>
+) -> Worked<ExitStatus, D::Logged>
     requires none { alone.book.accepted ≡ [] }
-    ensures own { IfSome result.told (λ told. AreOfParts D.is_of told.desk) }
-    ensures ends { Ends (SavesDesk (λ last. IsSomeAnd result.told (λ told.
-        LedAtDesk D.follows D.well D.tells (length line.now.images.items) alone told last)) (S.files store.new) line.now alone work.commands.items)
+    ensures own { IfSome result.reported (λ reported. AreOfParts D.is_of reported.desk) }
+    ensures ends { Ends (SavesDesk (λ last. IsSomeAnd result.reported (λ reported.
+        LedAtDesk D.follows D.well D.tells (length line.now.images.items) alone reported last)) (S.files store.new) line.now alone work.commands.items)
         result.ended (S.files store.old) (S.files store.new) line.now }
 {
     // No process data go over a wire: no slave is in a state in which it takes them (ETG.1000.6).
     let task = Task { work, turns: false };
     match serve_task(rt, rt.alloc(), alone, line.images.len(), task, output) {
         Ok(left) => {
-            if !are_of_parts::<D>(&left.told) {
+            if !are_of_parts::<D>(&left.reported) {
                 drop(left);
                 return Worked::of_fault(Fault::Unserved);
             }
-            let (ended, told) = end_threads(rt.alloc(), line, left, store, output);
+            let (ended, reported) = end_threads(rt.alloc(), line, left, store, output);
             Worked {
                 ended,
-                told: Some(told),
+                reported: Some(reported),
             }
         }
         Err(why) => Worked::of_fault(why.fault),
@@ -64,18 +64,18 @@ pub(crate) fn run_threads<
 fn end_threads<D: Lends, S: Store, O: Write>(
     alloc: Global,
     line: &LineFile,
-    left: Left<ShadowSite<D>, D::Told>,
+    left: Left<ShadowSite<D>, D::Logged>,
     store: &mut S,
     output: &mut O,
-) -> (Result<ExitStatus, WireFault>, LineTold<D::Told>)
+) -> (Result<ExitStatus, WireFault>, LineLog<D::Logged>)
     requires line { IsLineOf (length line.now.images.items) left.site.line }
-    requires told { OnOk left.ending.told (left.ending.closed ≡ Ok tt) }
+    requires reported { OnOk left.ending.reported (left.ending.closed ≡ Ok tt) }
     ensures ends { Ends (λ status. SavesLeft (S.files store.new) line.now left status)
         result.0 (S.files store.old) (S.files store.new) line.now }
     ensures sound { OnOk result.0 (left.sound ≡ Ok tt) }
-    ensures desk { result.1.desk ≡ left.told }
+    ensures desk { result.1.desk ≡ left.reported }
     ensures followed { OnOk result.0 (IsTrue left.ending.is_driven
-        → SavesFollowed (LedOn D.follows D.well D.tells result.1.behind (length line.now.images.items) left.site.seen)
+        → SavesFollowed (LedOn D.follows D.well D.tells result.1.after (length line.now.images.items) left.site.seen)
         (S.files store.new) line.now) }
 {
     let Left {
@@ -83,51 +83,51 @@ fn end_threads<D: Lends, S: Store, O: Write>(
         unserved,
         ending,
         sound,
-        told: desk,
+        reported: desk,
     } = left;
     let Ending {
         is_driven,
         status,
         closed: _,
-        told,
+        reported,
     } = ending;
-    match both_of(told, sound) {
+    match both_of(reported, sound) {
         Ok(()) => {
             let left = DeskLeft {
                 site,
                 is_driven,
                 commands: unserved,
             };
-            let behind = end_line(alloc, line, left, store, output);
-            let told = LineTold {
+            let after = end_line(alloc, line, left, store, output);
+            let reported = LineLog {
                 desk,
-                behind: behind.told,
+                after: after.reported,
             };
-            match behind.ended {
-                Ok(given) => (Ok(worse(status, given)), told),
-                Err(fault) => (Err(WireFault::Station(fault)), told),
+            match after.ended {
+                Ok(given) => (Ok(worse(status, given)), reported),
+                Err(fault) => (Err(WireFault::Station(fault)), reported),
             }
         }
         Err(fault) => {
             drop(unserved);
-            let behind = told_of(site);
-            (Err(WireFault::Station(fault)), LineTold { desk, behind })
+            let after = reported_of(site);
+            (Err(WireFault::Station(fault)), LineLog { desk, after })
         }
     }
 }
 
 /// What is told of the device of a line that isn't worked on any more.
-fn told_of<D: Lends>(site: ShadowSite<D>) -> D::Told {
+fn reported_of<D: Lends>(site: ShadowSite<D>) -> D::Logged {
     let (parts, mut device) = site.into_parts();
     drop(parts);
     device.tell()
 }
 
 /// The fault that is told of the desk, or else that of the ends of its parts.
-fn both_of(told: Result<(), Fault>, sound: Result<(), Fault>) -> Result<(), Fault>
-    ensures { OnOk result ((told ≡ Ok tt) × (sound ≡ Ok tt)) }
+fn both_of(reported: Result<(), Fault>, sound: Result<(), Fault>) -> Result<(), Fault>
+    ensures { OnOk result ((reported ≡ Ok tt) × (sound ≡ Ok tt)) }
 {
-    match told {
+    match reported {
         Ok(()) => sound,
         Err(fault) => Err(fault),
     }

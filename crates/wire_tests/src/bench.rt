@@ -1,6 +1,6 @@
 //! Lines on a wire in memory, and what is done with them.
 ghost use Rattle.std.specs.Prelude.{IfSome};
-ghost use Rattle.site_shadow.specs.Parts.{AreWhole};
+ghost use Rattle.site_shadow.specs.Parts.{AreComplete};
 
 use ecat_frame::{Command, Frame, fp};
 use esc_model::{RomHalf, station_address};
@@ -139,7 +139,7 @@ pub(crate) struct Work {
     pub is_kept: bool,
     /// Words 4, 5 and 6 of slave 0.
     pub words: Option<[u16; 3]>,
-    /// How many frames were sent before the act, and behind it.
+    /// How many frames were sent before the act, and after it.
     pub from: u64,
     pub to: u64,
 }
@@ -150,8 +150,8 @@ pub(crate) struct Run<'a> {
     pub slaves: &'a [Slave],
     pub trouble: Trouble,
     pub act: Act<'static>,
-    /// What goes wrong as the EEPROMs are handed back behind the first act, if they are.
-    pub behind: Option<Trouble>,
+    /// What goes wrong as the EEPROMs are handed back after the first act, if they are.
+    pub after: Option<Trouble>,
     pub then: Act<'static>,
 }
 
@@ -167,7 +167,7 @@ pub(crate) struct Ran {
 /// What a frame may meet that loses no word.
 pub(crate) const FATES: &[Fate] = &[
     Fate::LostBefore,
-    Fate::LostBehind,
+    Fate::LostAfter,
     Fate::Doubled,
     Fate::SentTwice,
     Fate::Delayed,
@@ -231,7 +231,7 @@ pub(crate) fn plan(wire: &mut TestWire<'_>, trouble: &Trouble) {
     let under = wire.wire();
     under.plan(trouble.mishap);
     match trouble.cut {
-        Some((words, left)) => under.cut_behind(words, left),
+        Some((words, left)) => under.cut_after(words, left),
         None => under.keep_power(),
     }
 }
@@ -265,12 +265,12 @@ pub(crate) fn brought_up<W: Wire>(
     bench: &Bench,
     wire: &mut NumberedWire<W>,
 ) -> Option<(Parts, [SlaveState; 64])>
-    ensures { IfSome result (λ found. AreWhole found.0) }
+    ensures { IfSome result (λ found. AreComplete found.0) }
 {
     let line = bring_up(alloc, wire, &bench.clock, &Sizes::unknown()).ok()?;
     let states = line.states();
     let parts = parts_of(alloc, line.into_words(alloc).ok()?)?;
-    if !parts.is_whole() {
+    if !parts.is_complete() {
         return None;
     }
     Some((parts, states))
@@ -354,7 +354,7 @@ pub(crate) fn work_on<W: Wire>(
     parts: Parts,
     act: &Act<'_>,
 ) -> (NumberedWire<W>, Outcome)
-    requires { AreWhole parts }
+    requires { AreComplete parts }
 {
     let files = OpenFiles {
         journal: NoFile,
@@ -373,7 +373,7 @@ pub(crate) fn work_on<W: Wire>(
     (device.into_wire(), outcome)
 }
 
-/// Whether so many words are in the chip of slave 0, and those behind the next one are as they were.
+/// Whether so many words are in the chip of slave 0, and those after the next one are as they were.
 pub(crate) fn has_so_many(line: &PracticeLine, count: usize) -> bool {
     match line.words(0) {
         Some([_, _, _, _, a, b, c, ..]) => {
@@ -426,8 +426,8 @@ pub(crate) fn came_of(alloc: Global, run: &Run) -> Option<Ran> {
     let bench = Bench::new();
     let wire = wire_of(alloc, &bench, run.slaves, None)?;
     let (mut wire, first) = work_with(alloc, &bench, wire, &run.trouble, &run.act)?;
-    if let Some(behind) = run.behind {
-        plan(&mut wire, &behind);
+    if let Some(after) = run.after {
+        plan(&mut wire, &after);
         hand_back(&mut wire, &first.states);
     }
     let handed = wire.handed();

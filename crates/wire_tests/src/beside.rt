@@ -1,5 +1,5 @@
 //! A station beside a master that lends its wire, with all that a master may do with messages, and slaves as a master leaves them.
-ghost use Rattle.site_shadow.specs.Parts.{AreWhole};
+ghost use Rattle.site_shadow.specs.Parts.{AreComplete};
 
 use crate::bench::{BLANK, Bench, Slave, WRITE_NEW, brought_up, has_so_many, line_of, work_on};
 use crate::bringing_up::{Finding, Findings, finds};
@@ -8,7 +8,7 @@ use site_shadow::Parts;
 use site_wire::StopReason;
 use std::alloc::Global;
 use wire_bringup::{Sizes, SlaveState, hand_back};
-use wire_frames::{Cause, FRAME_BYTES, LineFault, NumberedWire, Room};
+use wire_frames::{FRAME_BYTES, LineFault, NumberedWire, Room, SlaveTrouble};
 use wire_practice::{NO_QUIRKS, Quirks};
 
 // A slave with the station address that a master has given it, whose words take three milliseconds to write.
@@ -93,7 +93,7 @@ const CASES: &[(Habits, Option<usize>)] = &[
         },
         Some(3),
     ),
-    // They wait for a hundred turns, before the wire or behind it.
+    // They wait for a hundred turns, before the wire or after it.
     (
         Habits {
             waits: TIME_OUT - 1,
@@ -250,7 +250,7 @@ fn handed_back<'f>(
     wire: NumberedWire<Master<'f>>,
     found: (Parts, [SlaveState; 64]),
 ) -> (NumberedWire<Master<'f>>, Written)
-    requires { AreWhole found.0 }
+    requires { AreComplete found.0 }
 {
     let (parts, states) = found;
     let (mut wire, outcome) = work_on(alloc, bench, wire, parts, &WRITE_NEW);
@@ -328,7 +328,7 @@ fn is_completed(alloc: Global, ends: u32) -> bool {
     }
 }
 
-// It ends behind each of the last hundred messages, among which are all that write words, and behind each thirteenth before.
+// It ends after each of the last hundred messages, among which are all that write words, and after each thirteenth before.
 #[test]
 fn a_master_ends_in_the_midst(rt: HostRuntime) {
     let messages = match came_of(rt.alloc(), PROMPT) {
@@ -401,7 +401,7 @@ fn slaves_are_found_as_a_master_left_them(rt: HostRuntime) {
     }
 }
 
-const BUSY: Finding = Finding::Dead(Cause::StuckBusy);
+const BUSY: Finding = Finding::Dead(SlaveTrouble::StuckBusy);
 
 // After how many microseconds this is found beside a master.
 fn time_of(alloc: Global, slaves: &[Slave], findings: &Findings) -> Option<u64> {

@@ -3,7 +3,7 @@
 use crate::bench::{Bench, Slave, Trouble, plan, wire_of};
 use std::alloc::Global;
 use wire_bringup::{FoundLine, FoundSlave, Sizes, bring_up};
-use wire_frames::{Cause, LineFault, NumberedWire, SlaveFault, Wire};
+use wire_frames::{LineFault, NumberedWire, SlaveFault, SlaveTrouble, Wire};
 use wire_practice::{Cable, Mishap};
 use wire_words::{Extent, SizeFound};
 
@@ -23,7 +23,7 @@ pub(crate) enum Finding {
     /// Its words are read: their numbers.
     Read,
     /// It can't be worked on.
-    Dead(Cause),
+    Dead(SlaveTrouble),
     /// So many words are worked on, so many are there by word 0x3E, the extent, and whether the chip is larger.
     Size(u16, u32, Extent, bool),
     /// It is refused, since it has fewer words than were given: those, and how many it has.

@@ -137,7 +137,7 @@ const CASES: &[(Fate, &[Noted])] = &[
         &[(OUT, COUNT), (OUT, COUNT), (BACK, COUNTED), (OUT, LEAVE)],
     ),
     (
-        Fate::LostBehind,
+        Fate::LostAfter,
         &[(OUT, COUNT), (OUT, COUNT), (BACK, COUNTED), (OUT, LEAVE)],
     ),
     (

@@ -193,12 +193,12 @@ const CASES: &[Case] = &[
 
 // Whether so many words are written, and this becomes of the access. None: the line isn't brought up, or memory was refused.
 fn is_handed_so(alloc: Global, case: &Case) -> Option<bool> {
-    let (slaves, trouble, count, behind, handed) = *case;
+    let (slaves, trouble, count, after, handed) = *case;
     let run = Run {
         slaves,
         trouble,
         act: WRITE_NEW,
-        behind: Some(behind),
+        after: Some(after),
         then: Act::Nothing,
     };
     let came = came_of(alloc, &run)?;

@@ -55,19 +55,19 @@ type Case = (
     [u16; 3],
 );
 
-// Frame 0 asks to write the word, and those behind it poll, until the slave is idle; then the word is read back.
+// Frame 0 asks to write the word, and those after it poll, until the slave is idle; then the word is read back.
 const CASES: &[Case] = &[
     (WRITE, 3, 0, 0, Fate::Passes, GOES_ON, NEW),
     (Act::Read, 3, 0, 0, Fate::Passes, GOES_ON, OLD),
     (Act::Look, 3, 0, 0, Fate::Passes, GOES_ON, OLD),
     (WRITE, 3, 0, 2, Fate::LostBefore, GOES_ON, NEW),
     (WRITE, 3, 0, 3, Fate::LostBefore, SILENT, OLD),
-    (WRITE, 3, 0, 2, Fate::LostBehind, GOES_ON, NEW),
-    (WRITE, 3, 0, 3, Fate::LostBehind, SILENT, NEW),
-    (WRITE, 3, 1, 2, Fate::LostBehind, GOES_ON, NEW),
+    (WRITE, 3, 0, 2, Fate::LostAfter, GOES_ON, NEW),
+    (WRITE, 3, 0, 3, Fate::LostAfter, SILENT, NEW),
+    (WRITE, 3, 1, 2, Fate::LostAfter, GOES_ON, NEW),
     (WRITE, 3, 1, 3, Fate::LostBefore, SILENT, NEW),
     // The slave was at rest before it was seen busy, and is told again.
-    (WRITE, 1, 0, 1, Fate::LostBehind, GOES_ON, NEW),
+    (WRITE, 1, 0, 1, Fate::LostAfter, GOES_ON, NEW),
     (WRITE, 3, 0, 9, Fate::Doubled, GOES_ON, NEW),
     (WRITE, 3, 0, 9, Fate::SentTwice, GOES_ON, NEW),
     (WRITE, 3, 0, 1, Fate::Delayed, GOES_ON, NEW),
@@ -137,7 +137,7 @@ fn ends_so(
         slaves: &[Slave { quirks, ..BLANK }],
         trouble,
         act,
-        behind: None,
+        after: None,
         then: Act::Nothing,
     };
     match came_of(alloc, &run) {

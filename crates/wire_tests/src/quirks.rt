@@ -186,7 +186,7 @@ fn is_written_so(alloc: Global, case: &Case) -> bool {
         slaves: &[first, second],
         trouble: NO_TROUBLE,
         act: WRITE_NEW,
-        behind: Some(NO_TROUBLE),
+        after: Some(NO_TROUBLE),
         then: Act::Nothing,
     };
     match came_of(alloc, &run) {
@@ -215,7 +215,7 @@ fn written_with(alloc: Global, quirks: Quirks, trouble: Trouble) -> Option<Work>
         slaves: &[Slave { quirks, ..BLANK }],
         trouble,
         act: WRITE_NEW,
-        behind: None,
+        after: None,
         then: WRITE_NEW,
     };
     match came_of(alloc, &run) {
@@ -246,14 +246,14 @@ fn cuts_in_each_word_are_recovered_from(rt: HostRuntime) {
     }
 }
 
-// Whether a power loss of a slave behind any frame of a run is recovered from. The word in flight is left as 0xdead.
+// Whether a power loss of a slave after any frame of a run is recovered from. The word in flight is left as 0xdead.
 fn is_always_recovered(alloc: Global, quirks: Quirks) -> bool {
     let Some(work) = written_with(alloc, quirks, NO_TROUBLE) else {
         return false;
     };
     for frame in work.from..work.to {
         let cut = Quirks {
-            loss: PowerLoss::Behind(u32::try_from(frame).unwrap_or(u32::MAX)),
+            loss: PowerLoss::After(u32::try_from(frame).unwrap_or(u32::MAX)),
             left: Pattern::Fill(0xdead),
             ..quirks
         };
@@ -283,7 +283,7 @@ const LOST: &[Quirks] = &[
 ];
 
 #[test]
-fn losses_behind_each_frame_are_recovered_from(rt: HostRuntime) {
+fn losses_after_each_frame_are_recovered_from(rt: HostRuntime) {
     for quirks in LOST {
         assert!(rt; is_always_recovered(rt.alloc(), *quirks));
     }

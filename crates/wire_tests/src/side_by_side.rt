@@ -4,7 +4,7 @@ use crate::bench::{BLANK, Content, FATES, Slave, WELL};
 use crate::bringing_up::{Finding, Findings, Line, course_of};
 use std::alloc::Global;
 use wire_bringup::Sizes;
-use wire_frames::{Cause, LineFault};
+use wire_frames::{LineFault, SlaveTrouble};
 use wire_practice::{Cable, Fate, Mishap, NO_QUIRKS, PowerLoss, Quirks};
 use wire_words::Extent;
 
@@ -75,7 +75,7 @@ const NEVER_ACKNOWLEDGES: Slave = Slave {
 // Behind frame 60, while its words are read.
 const LOSES_POWER: Slave = Slave {
     quirks: Quirks {
-        loss: PowerLoss::Behind(60),
+        loss: PowerLoss::After(60),
         ..REPEATS
     },
     ..PLAIN
@@ -113,7 +113,7 @@ const KEEPS_ADDRESS: Slave = Slave {
 
 const EMULATED_LOSES_POWER: Slave = Slave {
     quirks: Quirks {
-        loss: PowerLoss::Behind(60),
+        loss: PowerLoss::After(60),
         ..NO_QUIRKS
     },
     ..PLAIN
@@ -142,15 +142,15 @@ const MIXED: &[Slave] = &[PLAIN, WIDE, PLAIN];
 
 const READ: Finding = Finding::Read;
 
-const RESTARTED: Finding = Finding::Dead(Cause::Restarted);
+const RESTARTED: Finding = Finding::Dead(SlaveTrouble::Restarted);
 
-const UNPLUGGED: Finding = Finding::Dead(Cause::CableOrPower);
+const UNPLUGGED: Finding = Finding::Dead(SlaveTrouble::CableOrPower);
 
-const MUTE: Finding = Finding::Dead(Cause::NoAcknowledge);
+const MUTE: Finding = Finding::Dead(SlaveTrouble::NoAcknowledge);
 
-const STUCK: Finding = Finding::Dead(Cause::StuckBusy);
+const STUCK: Finding = Finding::Dead(SlaveTrouble::StuckBusy);
 
-const SHARED: Finding = Finding::Dead(Cause::Shared);
+const SHARED: Finding = Finding::Dead(SlaveTrouble::Shared);
 
 pub(crate) const ALL_READ: &[Finding] = &[READ, READ, READ];
 
@@ -163,14 +163,14 @@ const DELAYS: Slave = Slave {
     ..BLANK
 };
 
-// The cable behind the first slave or behind the second one is pulled, while words are read.
-const PULLED_BEHIND_FIRST: Cable = Cable {
-    behind: 0,
+// The cable after the first slave or after the second one is pulled, while words are read.
+const PULLED_AFTER_FIRST: Cable = Cable {
+    after: 0,
     frames: 60,
 };
 
 const PULLED: Cable = Cable {
-    behind: 1,
+    after: 1,
     frames: 60,
 };
 
@@ -184,7 +184,7 @@ const FIRST_LOST: Mishap = Mishap {
 const TENTH_LOST: Mishap = Mishap {
     passing: 9,
     failing: 3,
-    fate: Fate::LostBehind,
+    fate: Fate::LostAfter,
 };
 
 const UNCOUNTED: Mishap = Mishap {
@@ -205,7 +205,7 @@ pub(crate) const BEFORE: u32 = 2 + 3 + 2 * 3 + 2 * 3 + 2;
 
 // The first of these frames has three commands of ten bytes, at bytes 2, 24 and 46, and the number at 68. The second one has three polls, which have
 // ten bytes too. Of a datagram, byte 0 is the command, 2 and 3 are the station address, 4 and 5 the register, 6 the length, 10 and further the
-// content, and the working counter is behind that. Of a poll control and status stand at 10, and the data at 16.
+// content, and the working counter is after that. Of a poll control and status stand at 10, and the data at 16.
 const TURNED: &[(&[Slave], u32, usize, u8)] = &[
     // Command, address, register, length, content and counter of the second command; the frame's number.
     (PLAINS, 0, 24, 1),
@@ -226,7 +226,7 @@ const TURNED: &[(&[Slave], u32, usize, u8)] = &[
     (PLAINS, 1, 26, 1),
     (PLAINS, 1, 66, 3),
     // The second slave's reads load eight bytes, which the first poll shows, so the third frame has a command, a fetch at byte 24, and a command at
-    // byte 44: bit 6 of the second poll; length and counter of the fetch; command and counter of what is behind it.
+    // byte 44: bit 6 of the second poll; length and counter of the fetch; command and counter of what is after it.
     (MIXED, 1, 34, 0x40),
     (MIXED, 2, 30, 1),
     (MIXED, 2, 42, 1),
@@ -373,7 +373,7 @@ const CASES: &[Case] = &[
     ),
     (
         &[EMULATED, EMULATED],
-        Some(PULLED_BEHIND_FIRST),
+        Some(PULLED_AFTER_FIRST),
         WELL,
         Ok(&[READ, UNPLUGGED]),
         None,

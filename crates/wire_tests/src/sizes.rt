@@ -7,7 +7,7 @@ use wire_bringup::Sizes;
 use wire_practice::{NO_QUIRKS, Quirks};
 use wire_words::Extent;
 
-// The words of the image, and of the chip, whose addresses roll over; None: the slave emulates its EEPROM, and a word behind its image
+// The words of the image, and of the chip, whose addresses roll over; None: the slave emulates its EEPROM, and a word after its image
 // can't be read.
 type Chip = (usize, Option<u32>, Content);
 

@@ -10,12 +10,12 @@ use wire_bringup::Sizes;
 use wire_frames::{NumberedWire, Wire};
 use wire_practice::{Fate, Mishap, PracticeWire};
 
-// The station address of slave 0, and the first register of an EEPROM and the one behind the last.
+// The station address of slave 0, and the first register of an EEPROM and the one after the last.
 const FIRST: u32 = 0x1001;
 
 const EEPROM: u32 = 0x0500;
 
-const BEHIND: u32 = 0x0510;
+const AFTER: u32 = 0x0510;
 
 // A wire that counts the datagrams for the EEPROM of each slave.
 #[derive(Drop)]
@@ -28,7 +28,7 @@ impl<W> CountedWire<W> {
     fn note(&mut self, datagram: Datagram<'_>) {
         let register = datagram.address / 65536;
         let slave = (datagram.address % 65536).wrapping_sub(FIRST);
-        if (EEPROM..BEHIND).contains(&register) {
+        if (EEPROM..AFTER).contains(&register) {
             if let Some(count) = self.asked.get_mut(slave as usize) {
                 *count = count.saturating_add(1);
             }

@@ -14,7 +14,7 @@ read_command word held = to_le_bytes w16 0x0100 ++ to_le_bytes w32 word ++ held 
 abbrev pub AreOther : (held : ℕ) → List ℕ → Type 0
 AreOther held bytes = All (λ byte. byte ≢ held) bytes
 
--- The slave showed that a read command loads eight bytes: bit 6 of control and status (0x0502), perhaps with registers behind it.
+-- The slave showed that a read command loads eight bytes: bit 6 of control and status (0x0502), perhaps with registers after it.
 pub record ShowsEight (Gives : List ℕ → Type 0) (from : ℕ) : Type 0 where
   pub status : ℕ
   pub rest : List ℕ
@@ -41,8 +41,8 @@ pub record ReadCame (Gives : List ℕ → Type 0) (from word : ℕ) (bytes : Lis
 pub record PairCame (Gives : List ℕ → Type 0) (from word : ℕ) (pair : List ℕ) : Type 0 where
   pub start : ℕ
   pub before : List ℕ
-  pub behind : List ℕ
-  pub came : ReadCame Gives from start (before ++ pair ++ behind)
+  pub after : List ℕ
+  pub came : ReadCame Gives from start (before ++ pair ++ after)
   pub place : 2 * start + length before ≡ 2 * word
   pub four : length pair ≡ 4
 

@@ -14,7 +14,7 @@ const PAIRS: usize = 2080;
 
 /// A word of the slave with this station address, and the next one.
 #[derive(Clone, Copy)]
-pub struct Kept {
+pub struct Retained {
     pub station: u16,
     pub word: u16,
     pub pair: [u8; 4],
@@ -23,7 +23,7 @@ pub struct Kept {
 /// What was read of the slaves of a line: by slave, each pair of words has its place.
 #[derive(Drop)]
 pub struct Ahead {
-    pairs: Vec<Option<Kept>>,
+    pairs: Vec<Option<Retained>>,
 }
 
 /// Where a word of a slave has its place.
@@ -35,7 +35,7 @@ fn place_of(slave: u16, word: u16) -> usize {
 pub fn nothing_ahead<W: Wire>(
     alloc: Global,
     slaves: u16,
-) -> Result<Ahead, AllocFailed<Option<Kept>>>
+) -> Result<Ahead, AllocFailed<Option<Retained>>>
     ensures { IfOk result (AllKept W.gives) }
 {
     let mut pairs = Vec::new(alloc);
@@ -46,7 +46,7 @@ pub fn nothing_ahead<W: Wire>(
 }
 
 /// Keeps two words of a slave.
-pub(crate) fn keep<W: Wire>(ahead: &mut Ahead, slave: u16, kept: Kept)
+pub(crate) fn keep<W: Wire>(ahead: &mut Ahead, slave: u16, kept: Retained)
     requires came { PairCame W.gives kept.station kept.word kept.pair }
     requires kept { AllKept W.gives ahead.old }
     ensures { AllKept W.gives ahead.new }
@@ -64,14 +64,14 @@ pub(crate) fn keep_read<W: Wire>(ahead: &mut Ahead, slave: u16, station: u16, wo
     ensures { AllKept W.gives ahead.new }
 {
     let Read { pair, next } = read;
-    let first = Kept {
+    let first = Retained {
         station,
         word,
         pair,
     };
     keep::<W>(ahead, slave, first);
     if let (Some(pair), Some(word)) = (next, word.checked_add(2)) {
-        let others = Kept {
+        let others = Retained {
             station,
             word,
             pair,

@@ -4,7 +4,7 @@ ghost use Rattle.std.specs.List.{All};
 ghost use Rattle.wire_frames.specs.Came.{CameOver};
 ghost use Rattle.wire_frames.specs.Room.{Fits};
 ghost use Rattle.wire_frames.specs.Sending.{OnlyEeprom};
-ghost use Rattle.wire_words.specs.Reading.{NothingTold, IsUnderWay, AllKept};
+ghost use Rattle.wire_words.specs.Reading.{NothingReported, IsUnderWay, AllKept};
 
 use crate::ahead::{Ahead, keep_read};
 use crate::reader::{Reader, step};
@@ -26,7 +26,7 @@ struct Question {
     next: u16,
 }
 
-/// The frame of what they ask, as far as it has room, of the slaves from this one on, as if slave 0 came behind the last one.
+/// The frame of what they ask, as far as it has room, of the slaves from this one on, as if slave 0 came after the last one.
 fn asked_by(readers: &Readers, first: u16, room: Room) -> Question
     ensures only { OnlyEeprom result.frame }
     ensures fits { Fits room result.frame }
@@ -63,9 +63,9 @@ fn take_answers<W: Wire>(
     ahead: &mut Ahead,
 ) -> bool
     requires came { CameOver W.gives returned.now }
-    requires told { All (IsUnderWay W.gives) readers.old }
+    requires reported { All (IsUnderWay W.gives) readers.old }
     requires kept { AllKept W.gives ahead.old }
-    ensures told { All (IsUnderWay W.gives) readers.new }
+    ensures reported { All (IsUnderWay W.gives) readers.new }
     ensures kept { AllKept W.gives ahead.new }
 {
     let mut is_further = false;
@@ -88,9 +88,9 @@ fn take_answer<W: Wire>(
     ahead: &mut Ahead,
 ) -> Reader
     requires came { CameOver W.gives returned.now }
-    requires told { IsUnderWay W.gives reader }
+    requires reported { IsUnderWay W.gives reader }
     requires kept { AllKept W.gives ahead.old }
-    ensures told { IsUnderWay W.gives result }
+    ensures reported { IsUnderWay W.gives result }
     ensures kept { AllKept W.gives ahead.new }
 {
     let Some(place) = answer else {
@@ -111,7 +111,7 @@ pub fn read_in_step<W: Wire, C: Clock>(
     mut readers: Readers,
     ahead: &mut Ahead,
 ) -> Result<Readers, LineFault>
-    requires told { All NothingTold readers }
+    requires reported { All NothingReported readers }
     requires kept { AllKept W.gives ahead.old }
     ensures same { wire.new.stations ≡ wire.old.stations }
     ensures kept { AllKept W.gives ahead.new }

@@ -8,9 +8,9 @@ mod reading;
 mod sizing;
 mod telling;
 
-pub use ahead::{Ahead, Kept, nothing_ahead, words_at};
+pub use ahead::{Ahead, Retained, nothing_ahead, words_at};
 pub use in_step::{Readers, read_in_step};
 pub use reader::Reader;
 pub use reading::Read;
-pub use sizing::{Extent, Measured, SizeFound, judge_size, measure};
+pub use sizing::{Extent, Measured, SizeFound, measure, validate_size};
 pub use telling::{Hitch, put, tell};

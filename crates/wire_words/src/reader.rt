@@ -2,15 +2,15 @@
 ghost use Rattle.std.specs.Prelude.{◌≡◌, ◌⊎◌, true, false, length, IfSome, None};
 ghost use Rattle.ecat_frame.specs.Command.{code_of};
 ghost use Rattle.ecat_frame.specs.declared.command.Command.TheVariants.{Fprd, Fpwr};
-ghost use Rattle.wire_frames.specs.Came.{CameOver, Told};
+ghost use Rattle.wire_frames.specs.Came.{CameOver, Reported};
 ghost use Rattle.wire_frames.specs.Room.{AddsOne};
 ghost use Rattle.wire_frames.specs.Sending.{InEeprom, OnlyEeprom};
 ghost use Rattle.wire_words.specs.Words.{AreOther, WordsRead};
-ghost use Rattle.wire_words.specs.Reading.{has_told, most_asked, GoesOn, StaysAt, IsUnderWay};
+ghost use Rattle.wire_words.specs.Reading.{has_reported, most_asked, GoesOn, StaysAt, IsUnderWay};
 ghost use Rattle.wire_words.specs.declared.reader.Phase.TheVariants as phase;
 
 use crate::reading::{EMPTY, Read, ReadSize, are_other, data_fetched, data_polled, read_content};
-use crate::sizing::{block_behind, words_ahead};
+use crate::sizing::{block_after, words_ahead};
 use crate::telling::Hitch;
 use ecat_frame::{Command, Datagram, Frame, fp};
 use rom_steps::{CONTENT, CONTROL};
@@ -45,7 +45,7 @@ pub(crate) enum Phase {
     Ends,
 }
 
-/// One that reads words of a slave, two or four at a time. Of what it can't read in a few tries, and of all behind that, nothing is read.
+/// One that reads words of a slave, two or four at a time. Of what it can't read in a few tries, and of all after that, nothing is read.
 #[derive(Clone, Copy)]
 pub struct Reader {
     /// The slave's station address.
@@ -54,7 +54,7 @@ pub struct Reader {
     pub(crate) word: u16,
     /// How many words the slave has, if that is given.
     given: Option<u16>,
-    /// It reads each word before this one, and behind it the blocks at which chips may begin to repeat.
+    /// It reads each word before this one, and after it the blocks at which chips may begin to repeat.
     all_before: u16,
     /// It reads no word from this one on.
     end: u16,
@@ -98,7 +98,7 @@ fn last_of(command: Command, register: u16, reply: &Reply) -> Last {
 impl Reader {
     /// One that asks for nothing.
     pub fn ended() -> Reader
-        ensures { has_told result.phase ≡ false }
+        ensures { has_reported result.phase ≡ false }
     {
         Reader {
             station: 0,
@@ -119,9 +119,9 @@ impl Reader {
     }
 
     /// One that waits until the slave with this station address is idle, clears its errors, and reads as many words as are given, or as its words
-    /// 0x3E and 0x3F say that there are, 64 to 4,096; and behind those the blocks up to word 4,159 at which chips may begin to repeat.
+    /// 0x3E and 0x3F say that there are, 64 to 4,096; and after those the blocks up to word 4,159 at which chips may begin to repeat.
     pub fn of_slave(station: u16, given: Option<u16>) -> Reader
-        ensures { has_told result.phase ≡ false }
+        ensures { has_reported result.phase ≡ false }
     {
         Reader {
             station,
@@ -136,7 +136,7 @@ impl Reader {
 
     /// One that reads the words from this one on of the slave with this station address, in so many tries.
     pub(crate) fn of_words(station: u16, word: u16, tries: u32) -> Reader
-        ensures told { has_told result.phase ≡ false }
+        ensures reported { has_reported result.phase ≡ false }
         ensures station { result.station ≡ station }
         ensures word { result.word ≡ word }
     {
@@ -178,7 +178,7 @@ impl Reader {
         }
     }
 
-    /// Puts its datagram behind those of a frame, if there is room for it.
+    /// Puts its datagram after those of a frame, if there is room for it.
     pub(crate) fn ask(self, frame: &mut Frame)
         requires { OnlyEeprom frame.old }
         ensures only { OnlyEeprom frame.new }
@@ -230,8 +230,8 @@ impl Reader {
     }
 
     /// It goes on behind the words that it has read, if it reads any there. Word 0x3E is among the first 64.
-    fn behind(self, read: Read) -> Reader
-        ensures { has_told result.phase ≡ false }
+    fn after(self, read: Read) -> Reader
+        ensures { has_reported result.phase ≡ false }
     {
         let words = if read.next.is_some() { 4 } else { 2 };
         let next = self.word.saturating_add(words);
@@ -248,12 +248,12 @@ impl Reader {
 
     /// It goes on from this word, or from the next block that it reads, if it reads any.
     fn from_word(self, next: u16) -> Reader
-        ensures { has_told result.phase ≡ false }
+        ensures { has_reported result.phase ≡ false }
     {
         let word = if next < self.all_before || next % 64 != 0 {
             next
         } else {
-            block_behind(next)
+            block_after(next)
         };
         if word >= self.end {
             return self.to(Phase::Ends);
@@ -268,7 +268,7 @@ impl Reader {
 
     /// Something went amiss: it waits until the slave is idle, clears its errors, and goes on from there.
     fn stumbled(self, stumble: Last) -> Reader
-        ensures told { has_told result.phase ≡ false }
+        ensures reported { has_reported result.phase ≡ false }
         ensures stays { StaysAt self result }
     {
         let stumbled = Reader {
@@ -285,7 +285,7 @@ impl Reader {
 
     /// The slave's errors are clear: it tries these words again, or ends.
     fn cleared(self) -> Reader
-        ensures told { has_told result.phase ≡ false }
+        ensures reported { has_reported result.phase ≡ false }
         ensures stays { StaysAt self result }
     {
         if self.stumbles >= self.tries {
@@ -353,7 +353,7 @@ impl Reader {
     }
 }
 
-/// Puts a datagram for registers of the EEPROM of the slave with this station address behind those of a frame, if there is room for it.
+/// Puts a datagram for registers of the EEPROM of the slave with this station address after those of a frame, if there is room for it.
 fn put_in(frame: &mut Frame, command: Command, station: u16, register: u16, content: &[u8])
     requires command { (command ≡ Fprd) ⊎ (command ≡ Fpwr) }
     requires eeprom { InEeprom register (length content.now) }
@@ -378,7 +378,7 @@ fn answer_to<W: Wire>(
 ) -> Reply
     requires came { CameOver W.gives returned.now }
     requires command { (command ≡ Fprd) ⊎ (command ≡ Fpwr) }
-    ensures { Told W.gives reader.station (code_of command) register content.now result }
+    ensures { Reported W.gives reader.station (code_of command) register content.now result }
 {
     let address = fp(reader.station, register);
     let asked = Datagram {
@@ -391,10 +391,10 @@ fn answer_to<W: Wire>(
     reply_at(asked, address, returned, place)
 }
 
-/// The reader behind the answer to its command to read.
-fn behind_command<W: Wire>(reader: Reader, returned: &Frame, place: usize) -> Reader
+/// The reader after the answer to its command to read.
+fn after_command<W: Wire>(reader: Reader, returned: &Frame, place: usize) -> Reader
     requires { CameOver W.gives returned.now }
-    ensures told { IsUnderWay W.gives result }
+    ensures reported { IsUnderWay W.gives result }
     ensures stays { StaysAt reader result }
 {
     let command = read_content(reader.word, reader.held);
@@ -406,10 +406,10 @@ fn behind_command<W: Wire>(reader: Reader, returned: &Frame, place: usize) -> Re
     }
 }
 
-/// The reader behind the answer to the clearing of errors.
-fn behind_clearing<W: Wire>(reader: Reader, returned: &Frame, place: usize) -> Reader
+/// The reader after the answer to the clearing of errors.
+fn after_clearing<W: Wire>(reader: Reader, returned: &Frame, place: usize) -> Reader
     requires { CameOver W.gives returned.now }
-    ensures told { has_told result.phase ≡ false }
+    ensures reported { has_reported result.phase ≡ false }
     ensures stays { StaysAt reader result }
 {
     let cleared = answer_to::<W>(reader, Command::Fpwr, CONTROL, &[0, 0], returned, place);
@@ -430,13 +430,13 @@ pub(crate) struct Stepped {
 
 /// The reader with these words, once they are loaded.
 fn with_words(reader: Reader, read: Read, last: Last) -> Stepped
-    ensures told { has_told result.reader.phase ≡ true → GoesOn 0 reader result.reader }
+    ensures reported { has_reported result.reader.phase ≡ true → GoesOn 0 reader result.reader }
     ensures stays { result.read ≡ None → StaysAt reader result.reader }
     ensures read { IfSome result.read (λ words. (words ≡ read) × AreOther reader.held read.pair) }
 {
     if are_other(read.pair, reader.held) {
         Stepped {
-            reader: reader.behind(read),
+            reader: reader.after(read),
             read: Some(read),
         }
     } else {
@@ -447,11 +447,11 @@ fn with_words(reader: Reader, read: Read, last: Last) -> Stepped
     }
 }
 
-/// The reader behind the answer to a poll with so many bytes of the data register.
-fn behind_poll<W: Wire>(reader: Reader, size: ReadSize, returned: &Frame, place: usize) -> Stepped
+/// The reader after the answer to a poll with so many bytes of the data register.
+fn after_poll<W: Wire>(reader: Reader, size: ReadSize, returned: &Frame, place: usize) -> Stepped
     requires came { CameOver W.gives returned.now }
-    requires told { IsUnderWay W.gives reader }
-    ensures told { IsUnderWay W.gives result.reader }
+    requires reported { IsUnderWay W.gives reader }
+    ensures reported { IsUnderWay W.gives result.reader }
     ensures stays { result.read ≡ None → StaysAt reader result.reader }
     ensures read { IfSome result.read (WordsRead W.gives reader.station reader.word) }
 {
@@ -478,12 +478,12 @@ fn behind_poll<W: Wire>(reader: Reader, size: ReadSize, returned: &Frame, place:
     with_words(next, Read::of_bytes(data_polled(&shown), size), poll)
 }
 
-/// The reader behind the fetch of so many bytes of what it read.
-fn behind_fetch<W: Wire>(reader: Reader, size: ReadSize, returned: &Frame, place: usize) -> Stepped
+/// The reader after the fetch of so many bytes of what it read.
+fn after_fetch<W: Wire>(reader: Reader, size: ReadSize, returned: &Frame, place: usize) -> Stepped
     requires came { CameOver W.gives returned.now }
     requires fetches { reader.phase ≡ phase.Fetches size }
-    requires told { IsUnderWay W.gives reader }
-    ensures told { IsUnderWay W.gives result.reader }
+    requires reported { IsUnderWay W.gives reader }
+    ensures reported { IsUnderWay W.gives result.reader }
     ensures stays { result.read ≡ None → StaysAt reader result.reader }
     ensures read { IfSome result.read (WordsRead W.gives reader.station reader.word) }
 {
@@ -499,20 +499,20 @@ fn behind_fetch<W: Wire>(reader: Reader, size: ReadSize, returned: &Frame, place
     with_words(reader, Read::of_bytes(data_fetched(&fetched), size), fetch)
 }
 
-/// The reader behind the answer at this place of a frame that came back.
+/// The reader after the answer at this place of a frame that came back.
 pub(crate) fn step<W: Wire>(reader: Reader, returned: &Frame, place: usize) -> Stepped
     requires came { CameOver W.gives returned.now }
-    requires told { IsUnderWay W.gives reader }
-    ensures told { IsUnderWay W.gives result.reader }
+    requires reported { IsUnderWay W.gives reader }
+    ensures reported { IsUnderWay W.gives result.reader }
     ensures stays { result.read ≡ None → StaysAt reader result.reader }
     ensures read { IfSome result.read (WordsRead W.gives reader.station reader.word) }
 {
     let next = match reader.phase {
-        Phase::Fetches(size) => return behind_fetch::<W>(reader, size, returned, place),
-        Phase::Tells => behind_command::<W>(reader, returned, place),
-        Phase::Polls(size) => return behind_poll::<W>(reader, size, returned, place),
-        Phase::Settles => return behind_poll::<W>(reader, ReadSize::Four, returned, place),
-        Phase::Clears => behind_clearing::<W>(reader, returned, place),
+        Phase::Fetches(size) => return after_fetch::<W>(reader, size, returned, place),
+        Phase::Tells => after_command::<W>(reader, returned, place),
+        Phase::Polls(size) => return after_poll::<W>(reader, size, returned, place),
+        Phase::Settles => return after_poll::<W>(reader, ReadSize::Four, returned, place),
+        Phase::Clears => after_clearing::<W>(reader, returned, place),
         Phase::Ends => reader,
     };
     Stepped {

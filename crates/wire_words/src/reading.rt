@@ -52,7 +52,7 @@ impl ReadSize {
     }
 }
 
-/// The words of a read: the one at which it begins and the next one, and the two behind them, where eight bytes are fetched.
+/// The words of a read: the one at which it begins and the next one, and the two after them, where eight bytes are fetched.
 #[derive(Clone, Copy)]
 pub struct Read {
     pub pair: [u8; 4],

@@ -258,7 +258,7 @@ fn find_extent<W: Wire, C: Clock>(
     find_repeat(wire, clock, slave, along.unlike, plain, ahead)
 }
 
-/// Finds from where on the words of a chip repeat, behind the last start whose block is another. At the size `plain`, if there is one, its
+/// Finds from where on the words of a chip repeat, after the last start whose block is another. At the size `plain`, if there is one, its
 /// first block alone tells.
 fn find_repeat<W: Wire, C: Clock>(
     wire: &mut NumberedWire<W>,
@@ -301,7 +301,7 @@ pub(crate) fn words_ahead(pair: [u8; 4], given: Option<u16>) -> u16 {
 }
 
 /// The first place from this word on at which a chip may begin to repeat, and `u16::MAX` where there is none.
-pub(crate) fn block_behind(word: u16) -> u16 {
+pub(crate) fn block_after(word: u16) -> u16 {
     for start in &STARTS {
         if *start >= word {
             return *start;
@@ -331,7 +331,7 @@ pub fn measure<W: Wire, C: Clock>(
 /// # Errors
 ///
 /// `Smaller` where the chip is sure to be smaller than the given size, unless that is trusted.
-pub fn judge_size(
+pub fn validate_size(
     measured: Measured,
     given: Option<u16>,
     is_trusted: bool,

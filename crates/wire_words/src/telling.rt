@@ -4,7 +4,7 @@ ghost use Rattle.ecat_frame.specs.Command.{code_of};
 ghost use Rattle.ecat_frame.specs.Frame.{sent};
 ghost use Rattle.ecat_frame.specs.declared.command.Command.TheVariants.{Fprd, Fpwr};
 ghost use Rattle.esc_model.specs.Orders.{address_of};
-ghost use Rattle.wire_frames.specs.Came.{Unheard, Told, Answered};
+ghost use Rattle.wire_frames.specs.Came.{Unheard, Reported, Answered};
 ghost use Rattle.wire_frames.specs.Sending.{InEeprom};
 ghost use Rattle.wire_words.specs.declared.telling.Hitch.TheVariants as hitch;
 
@@ -63,7 +63,7 @@ pub fn tell<W: Wire>(
     requires eeprom { InEeprom register (length content.now) }
     ensures lent { wire.new.is_lent ≡ wire.old.is_lent }
     ensures same { wire.new.stations ≡ wire.old.stations }
-    ensures told { IfOk result (Told W.gives (slice_index wire.old.stations.by_slave slave) (code_of command) register content.now) }
+    ensures reported { IfOk result (Reported W.gives (slice_index wire.old.stations.by_slave slave) (code_of command) register content.now) }
     ensures unheard { IfOk result (Unheard W.gives wire.old.stations.by_slave (sent command 0 (address_of slave register) content.now)) }
 {
     let address = fp(station_address(slave), register);

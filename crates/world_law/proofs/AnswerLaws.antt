@@ -34,7 +34,7 @@ module _ (book : Book) (command : Command) where
   room-answers new false true takes is l f = answered (sized book (Ok new)) (Err refusals.Full) (rw (l, f) refl) (takes, ap is_ok is)
   room-answers new false false takes is l f = answered (sized book (Ok new)) (Ok (length book.accepted)) (rw (l, f) refl) (takes, ap is_ok is, refl)
 
-  sized-answers : (judged : Result (List (List ℕ)) Refusal) → Takes book → outcome (contents_of book) command ≡ judged → AnswersAs book command (sized book judged)
+  sized-answers : (validated : Result (List (List ℕ)) Refusal) → Takes book → outcome (contents_of book) command ≡ validated → AnswersAs book command (sized book validated)
   sized-answers (Ok new) takes is = room-answers new (is_too_large book (runs_between (contents_of book) new)) (is_full book (runs_between (contents_of book) new)) takes is refl refl
   sized-answers (Err refusal) takes is = (takes, is)
 

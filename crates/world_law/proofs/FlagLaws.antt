@@ -8,7 +8,7 @@ use Rattle.jrn_format.specs.declared.journal.Form.TheVariants.{Two}
 use Rattle.book_model.specs.declared.next.RomNext.{RomNext}
 use Rattle.book_model.specs.declared.next.RomOutcome.{RomOutcome}
 use Rattle.book_model.specs.declared.next.RomOutcome.TheVariants.{Issued, Settled, Stopped}
-use Rattle.book_model.specs.Book.{Book, Doing, Resting, Payload, PayloadSync, OpenGate, OpenSync, CloseGate, CloseSync, FarGate, Mark, MarkSync, Version, VersionSync, Errand, Free, Issuing, Unsettled, Settling, is_closed, is_version_2, slave_at}
+use Rattle.book_model.specs.Book.{Book, Doing, Resting, Payload, PayloadSync, OpenGate, OpenSync, CloseGate, CloseSync, FarGate, Mark, MarkSync, Version, VersionSync, Operation, NoOperation, Issuing, Unsettled, Settling, is_closed, is_version_2, slave_at}
 use Rattle.book_model.specs.Open.{migrate}
 use Rattle.book_model.specs.DiskSteps.{went_on, disk_next, disk_done}
 use Rattle.book_model.specs.RomSteps.{is_last, with_again, rom_next, rom_done}
@@ -36,10 +36,10 @@ flags-disk_next book = disk-flags book (by-out book book.is_handed_out refl)
 slave-flags : (book : Book) (i : ℕ) → Asks book i → SameFlags book (rom_next book i).1
 slave-flags book i (nothing answer none is) = subst (λ (a : RomNext × Book). SameFlags book a.1) (sym is) (same-flags book)
 slave-flags book i (issue w others todo is) = subst (λ (a : RomNext × Book). SameFlags book a.1) (sym is) (record { closed = refl; form = refl })
-slave-flags book i (settle word value taken errand is) = subst (λ (a : RomNext × Book). SameFlags book a.1) (sym is) (record { closed = refl; form = refl })
+slave-flags book i (settle word value taken operation is) = subst (λ (a : RomNext × Book). SameFlags book a.1) (sym is) (record { closed = refl; form = refl })
 
 pub flags-rom_next : (book : Book) (i : ℕ) → i < length book.slaves → SameFlags book (rom_next book i).1
-flags-rom_next book i within = slave-flags book i (asks book i (grind (arith, nat_tests)) (slave_at book i).errand refl)
+flags-rom_next book i within = slave-flags book i (asks book i (grind (arith, nat_tests)) (slave_at book i).operation refl)
 
 migrate-flags : (book : Book) (refused : Bool) → (is_closed book || is_version_2 book.form) ≡ refused → SameFlags book (migrate book).1
 migrate-flags book true is = rw is (same-flags book)
@@ -59,8 +59,8 @@ again-flags : (book : Book) (i word : ℕ) (last : Bool) → is_last (cell_of (s
 again-flags book i word true is = rw is (record { closed = inl refl; form = refl })
 again-flags book i word false is = rw is (record { closed = inr refl; form = refl })
 
-back-flags : (book : Book) (i : ℕ) (errand : Errand) (outcome : RomOutcome) → (slave_at book i).errand ≡ errand → BackFlags book (rom_done book i outcome)
-back-flags book i Free outcome is = rw is (record { closed = inr refl; form = refl })
+back-flags : (book : Book) (i : ℕ) (operation : Operation) (outcome : RomOutcome) → (slave_at book i).operation ≡ operation → BackFlags book (rom_done book i outcome)
+back-flags book i NoOperation outcome is = rw is (record { closed = inr refl; form = refl })
 back-flags book i (Unsettled word value taken) outcome is = rw is (record { closed = inr refl; form = refl })
 back-flags book i (Issuing word value) (Issued how) is = rw is (record { closed = inr refl; form = refl })
 back-flags book i (Issuing word value) (Settled how) is = rw is (record { closed = inr refl; form = refl })
@@ -74,7 +74,7 @@ back-flags book i (Settling word value taken) (Settled Dead) is = rw is (record 
 back-flags book i (Settling word value taken) Stopped is = rw is (record { closed = inl refl; form = refl })
 
 pub flags-rom_done : (book : Book) (i : ℕ) (outcome : RomOutcome) → BackFlags book (rom_done book i outcome)
-flags-rom_done book i outcome = back-flags book i (slave_at book i).errand outcome refl
+flags-rom_done book i outcome = back-flags book i (slave_at book i).operation outcome refl
 
 -- ---- what comes back of the disk
 

@@ -17,7 +17,7 @@ pub run-stays : (world : World) (session : Session) (steps : List Step) → Stan
     → StaysKept world session steps
 run-stays world session [] stands fits runs small = stands-is_kept world session stands
 run-stays world session (step ∷ steps) stands fits runs small =
-    let goes = step-goes session step.event world step.world step.told stands fits small.0 runs.0 in
+    let goes = step-goes session step.event world step.world step.reported stands fits small.0 runs.0 in
     (stands-is_kept world session stands, (goes.session, goes.follows, run-stays step.world goes.session steps goes.stands goes.fits runs.1 small.1))
 
 -- ---- where it starts
@@ -26,9 +26,9 @@ run-stays world session (step ∷ steps) stands fits runs small =
 image-read : (disk : Disk) (image : List ℕ) → opening.IsAllSynced disk → StopImage disk image → image ≡ disk.bytes
 image-read disk image all stop =
     let none : (at : ℕ) → IsSynced disk at = λ at. subst (λ (ranges : List Range). AllByRecursion (IsOutside at) ranges) (sym all.all) tt in
-    let whole = all.whole in
+    let entire = all.entire in
     let no_shorter = stop.no_shorter in
-    StopImage-synced disk image (record { bytes = λ at outside. stop.bytes at (none at); no_shorter = omega (arith, no_shorter, whole) })
+    StopImage-synced disk image (record { bytes = λ at outside. stop.bytes at (none at); no_shorter = omega (arith, no_shorter, entire) })
 
 start-stands : (world : World) (session : Session) → Starts world session.machine → Stands world session
 start-stands world session starts = stands-down starts.down only starts.took

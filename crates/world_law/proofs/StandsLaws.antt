@@ -27,7 +27,7 @@ use Rattle.book_model.specs.Opening.{words_in}
 use Rattle.book_model.proofs.LineLaws.{holds-all, up-kept}
 use Rattle.book_model.specs.Worn.{named_for, Worn}
 use Rattle.book_model.proofs.WornBooks.{worn-few}
-use Rattle.world_law.specs.World.{World, Told}
+use Rattle.world_law.specs.World.{World, Reported}
 use Rattle.world_law.specs.Happenings.{CanOpen, Opens}
 use Rattle.world_law.specs.Law.{Session, IsRecovered, HoldsBase, KeptFor, IsKept}
 
@@ -65,10 +65,10 @@ leaves-read state = record { disk = StopImage-same state.disk; words = as-read s
 pub kept-read : (world : World) (session : Session) → Stands world session → Kept world.state.disk.bytes (words_in world.state.halves) session.machine
 kept-read world session stands = stands-kept world session stands (pair_read world.state) (leaves-read world.state)
 
-stands-opens : (world : World) (session : Session) → Stands world session → CanOpen world.book → AllByRecursion IsIdle world.state.halves → (told : Told) × (later : World) × Opens world told later
+stands-opens : (world : World) (session : Session) → Stands world session → CanOpen world.book → AllByRecursion IsIdle world.state.halves → (reported : Reported) × (later : World) × Opens world reported later
 stands-opens world session stands can idle =
     let kept = kept-read world session stands in
-    (_, _, record { can = can; journal = kept.journal; found = record { is_journal = kept.live; synced = record { all = refl; whole = omega arith }; idle = idle }; says = refl; is = refl })
+    (_, _, record { can = can; journal = kept.journal; found = record { is_journal = kept.live; synced = record { all = refl; entire = omega arith }; idle = idle }; says = refl; is = refl })
 
 -- ---- a recovery is complete
 

@@ -43,9 +43,9 @@ use Rattle.book_model.proofs.DiskEndLaws.{up-ends}
 use Rattle.book_model.proofs.GoesLaws.{up-rests}
 use Rattle.book_model.proofs.SlaveEventLaws.{up-asks, up-back}
 use Rattle.book_model.proofs.OpeningLaws.{up-opens}
-use Rattle.world_law.specs.World.{World, Event, Submit, Plan, Migrate, Finish, DiskBegin, DiskDone, RomIssue, RomDone, RomResolve, Stop, Open, Told, Nothing, Acknowledged, Planned, Closed, Migrated, Opened}
-use Rattle.world_law.specs.Happenings.{submitted, told_of, fault_told, DiskReturns, SlaveBegins, SlaveReturns, HappensUp, with_synced, Opens, Happens, Steps}
-use Rattle.world_law.specs.Law.{Session, contents_now, Judges, IsRefused, with_machine, Follows, KeptFor, EventFits, MachineFits}
+use Rattle.world_law.specs.World.{World, Event, Submit, Plan, Migrate, Finish, DiskBegin, DiskDone, RomIssue, RomDone, RomResolve, Stop, Open, Reported, Nothing, Acknowledged, Planned, Closed, Migrated, Opened}
+use Rattle.world_law.specs.Happenings.{submitted, reported_of, fault_reported, DiskReturns, SlaveBegins, SlaveReturns, HappensUp, with_synced, Opens, Happens, Steps}
+use Rattle.world_law.specs.Law.{Session, contents_now, Validates, IsRefused, with_machine, Follows, KeptFor, EventFits, MachineFits}
 use Rattle.book_model.specs.Worn.{Worn}
 use Rattle.book_model.proofs.WornBooks.{worn-fault, worn-opened, worn-command, worn-migrate, worn-disk_next, worn-disk_done, worn-rom_next, worn-rom_done}
 use Rattle.world_law.proofs.FlagLaws.{SameFlags, BackFlags, DoneFlags, flags-disk_next, flags-disk_done, flags-migrate, flags-rom_next, flags-rom_done}
@@ -54,15 +54,15 @@ use Rattle.world_law.proofs.FitLaws.{fits-accepts, fits-reopened, contents-fit}
 use Rattle.world_law.proofs.StandsLaws.{IsOf, Stands, stands-up, stands-down, stands-kept, stands-long, kept-read, applied-few}
 
 -- the session that follows, and the invariant then
-pub record Goes (s : Session) (told : Told) (later : World) : Type 0 where
+pub record Goes (s : Session) (reported : Reported) (later : World) : Type 0 where
   pub session : Session
-  pub follows : Follows s told session
+  pub follows : Follows s reported session
   pub stands : Stands later session
   pub fits : MachineFits session.machine
 
 -- what is told, and the world then
-goes-as : (s : Session) (told said : Told) (later done : World) → told ≡ said → later ≡ done → Goes s said done → Goes s told later
-goes-as s told said later done t l goes = subst (λ (w : World). Goes s told w) (sym l) (subst (λ (a : Told). Goes s a done) (sym t) goes)
+goes-as : (s : Session) (reported said : Reported) (later done : World) → reported ≡ said → later ≡ done → Goes s said done → Goes s reported later
+goes-as s reported said later done t l goes = subst (λ (w : World). Goes s reported w) (sym l) (subst (λ (a : Reported). Goes s a done) (sym t) goes)
 
 goes-same : (s : Session) (world : World) → Stands world s → MachineFits s.machine → Goes s Nothing world
 goes-same s world stands fits = record { session = s; follows = refl; stands = stands; fits = fits }
@@ -93,25 +93,25 @@ module _ (frame : JournalFrame) (book : Book) (state : State) (took : List Bool)
   same-contents : contents_of book ≡ contents_now s
   same-contents = ap (λ (p : List (List ℕ)). contents p book.accepted) (sym up.of.base) ∙ ap (contents (machines.base_of s.machine)) (sym up.of.accepted)
 
-  judges : Takes book → Judges s
-  judges takes = record { is_open = of.closed ∙ takes.is_open; is_new = of.form ∙ takes.is_new }
+  validates : Takes book → Validates s
+  validates takes = record { is_open = of.closed ∙ takes.is_open; is_new = of.form ∙ takes.is_new }
 
-  judged-ok : (command : Command) → IsOk (outcome (contents_of book) command) → IsOk (outcome (contents_now s) command)
-  judged-ok command ok = subst (λ (p : List (List ℕ)). IsOk (outcome p command)) same-contents ok
+  validated-ok : (command : Command) → IsOk (outcome (contents_of book) command) → IsOk (outcome (contents_now s) command)
+  validated-ok command ok = subst (λ (p : List (List ℕ)). IsOk (outcome p command)) same-contents ok
 
   refused : (command : Command) (refusal : SubmitRefusal) → AnswersAs book command (Err refusal) → IsRefused s command refusal
   refused command refusals.Closed a = of.closed ∙ a
   refused command refusals.OldJournal a = (of.closed ∙ a.0, of.form ∙ a.1)
-  refused command (refusals.Command refusal) a = (judges a.0, subst (λ (p : List (List ℕ)). outcome p command ≡ Err refusal) same-contents a.1)
-  refused command refusals.TooLarge a = (judges a.0, judged-ok command a.1)
-  refused command refusals.Full a = (judges a.0, judged-ok command a.1)
+  refused command (refusals.Command refusal) a = (validates a.0, subst (λ (p : List (List ℕ)). outcome p command ≡ Err refusal) same-contents a.1)
+  refused command refusals.TooLarge a = (validates a.0, validated-ok command a.1)
+  refused command refusals.Full a = (validates a.0, validated-ok command a.1)
 
   goes-submit : (command : Command) (result : Result ℕ SubmitRefusal) → submit book command ≡ result → AnswersAs book command result → CommandFits command
       → Goes s (submitted book command result).1 (now (submitted book command result).0 state took)
   goes-submit command (Err refusal) is a small = record { session = s; follows = (refused command refusal a, refl); stands = stands-up book frame refl up of; fits = fits }
   goes-submit command (Ok number) is a small = record {
     session = with_machine s (accepts s.machine command);
-    follows = (judges a.0, judged-ok command a.1, a.2 ∙ sym (ap length up.of.accepted), refl);
+    follows = (validates a.0, validated-ok command a.1, a.2 ∙ sym (ap length up.of.accepted), refl);
     stands = stands-up (with_command book command) frame refl (up-submits frame book state took s.machine command number up is (contents-fit book s.machine command up.of fits small)) (record { closed = of.closed; form = of.form; worn = worn-command book command up.fits.durable_few of.worn });
     fits = fits-accepts s.machine command fits small;
   }
@@ -166,19 +166,19 @@ module _ (frame : JournalFrame) (book : Book) (state : State) (took : List Bool)
           fits = fits;
         }
 
-    by-form : (was is : Bool) → is_version_2 book.form ≡ was → is_version_2 later.form ≡ is → Goes s (told_of book later) (now later after took)
-    by-form true true was is = subst (λ (t : Told). Goes s t (now later after took)) (rw (is, was) refl) (acknowledges (is ∙ sym was))
-    by-form false false was is = subst (λ (t : Told). Goes s t (now later after took)) (rw is refl) (acknowledges (is ∙ sym was))
+    by-form : (was is : Bool) → is_version_2 book.form ≡ was → is_version_2 later.form ≡ is → Goes s (reported_of book later) (now later after took)
+    by-form true true was is = subst (λ (t : Reported). Goes s t (now later after took)) (rw (is, was) refl) (acknowledges (is ∙ sym was))
+    by-form false false was is = subst (λ (t : Reported). Goes s t (now later after took)) (rw is refl) (acknowledges (is ∙ sym was))
     by-form true false was is = absurd (elim flags.form [
       | inl same ↦ let e : true ≡ false = sym was ∙ ap is_version_2 (sym same) ∙ is in cc
       | inr two ↦ let e : true ≡ false = ap is_version_2 (sym two.0) ∙ is in cc
     ])
-    by-form false true was is = subst (λ (t : Told). Goes s t (now later after took)) (rw (is, was) refl) (migrates (elim flags.form [
+    by-form false true was is = subst (λ (t : Reported). Goes s t (now later after took)) (rw (is, was) refl) (migrates (elim flags.form [
       | inl same ↦ let e : true ≡ false = sym is ∙ ap is_version_2 same ∙ was in absurd cc
       | inr two ↦ two.1
     ]) is)
 
-  goes-done : book.is_handed_out ≡ true → Goes s (told_of book (disk_done book (Ok tt))) (now (disk_done book (Ok tt)) (record state { disk = ended_on (in_progress book) state.disk }) took)
+  goes-done : book.is_handed_out ≡ true → Goes s (reported_of book (disk_done book (Ok tt))) (now (disk_done book (Ok tt)) (record state { disk = ended_on (in_progress book) state.disk }) took)
   goes-done out =
       let later = disk_done book (Ok tt) in
       by-form later (record state { disk = ended_on (in_progress book) state.disk }) (up-ends frame book state took s.machine up out) (flags-disk_done book out) (rw out (durable-rises (rested book) book.doing)) (worn-disk_done frame book state took s.machine (Ok tt) up of.worn)
@@ -195,62 +195,62 @@ module _ (frame : JournalFrame) (book : Book) (state : State) (took : List Bool)
       subst (λ (b : Book). Goes s Closed (now b (record state { disk = disk }) took)) (sym is)
       (closes _ _ _ (up-fails frame book state took s.machine disk faults.Stopped up out fails) (or-second book.is_finished true refl) refl (worn-fault (rested book) faults.Stopped of.worn))
 
-  goes-back : book.is_handed_out ≡ true → (result : Result (Unit {0}) DeviceFault) (told : Told) (later : World) → DiskReturns result book (now book state took) told later → Goes s told later
-  goes-back out (Ok done) told later back = goes-as s told _ later _ back.0 back.1 (goes-done out)
-  goes-back out (Err fault) told later back = goes-as s told _ later _ back.3 back.4 (failed out fault back.0 back.1 back.2)
+  goes-back : book.is_handed_out ≡ true → (result : Result (Unit {0}) DeviceFault) (reported : Reported) (later : World) → DiskReturns result book (now book state took) reported later → Goes s reported later
+  goes-back out (Ok done) reported later back = goes-as s reported _ later _ back.0 back.1 (goes-done out)
+  goes-back out (Err fault) reported later back = goes-as s reported _ later _ back.3 back.4 (failed out fault back.0 back.1 back.2)
 
   -- ---- its slaves
 
   within : (i : ℕ) (half : SlaveHalf) → slice_get state.halves i ≡ Some half → i < length book.slaves
   within i half here = let lt = slice_get_within state.halves i half here in omega (arith, lt, up.slaves.count)
 
-  goes-issue : (i : ℕ) (told : Told) (later : World) → told ≡ Nothing → SlaveBegins i book (now book state took) later → Goes s told later
-  goes-issue i told later none b =
+  goes-issue : (i : ℕ) (reported : Reported) (later : World) → reported ≡ Nothing → SlaveBegins i book (now book state took) later → Goes s reported later
+  goes-issue i reported later none b =
       let there = within i b.half b.here in
-      goes-as s told Nothing later _ none b.is (stays _ _ _ (up-asks frame book state took s.machine i b.half b.after b.taken up there b.here b.may) (flags-rom_next book i there) (worn-rom_next frame book state took s.machine i up there of.worn))
+      goes-as s reported Nothing later _ none b.is (stays _ _ _ (up-asks frame book state took s.machine i b.half b.after b.taken up there b.here b.may) (flags-rom_next book i there) (worn-rom_next frame book state took s.machine i up there of.worn))
 
-  returned : (later : Book) (after : State) (taken : List Bool) (fault : Bool) → is_some later.fault ≡ fault → Up frame later after taken s.machine → BackFlags book later → Worn later → Goes s (fault_told later) (now later after taken)
+  returned : (later : Book) (after : State) (taken : List Bool) (fault : Bool) → is_some later.fault ≡ fault → Up frame later after taken s.machine → BackFlags book later → Worn later → Goes s (fault_reported later) (now later after taken)
   returned later after taken true is up flags worn =
-      subst (λ (t : Told). Goes s t (now later after taken)) (rw is refl) (closes later after taken up (or-second later.is_finished (is_some later.fault) is) flags.form worn)
+      subst (λ (t : Reported). Goes s t (now later after taken)) (rw is refl) (closes later after taken up (or-second later.is_finished (is_some later.fault) is) flags.form worn)
   returned later after taken false is up flags worn =
       let same : is_closed later ≡ is_closed book = elim flags.closed [
         | inl fault ↦ let e : true ≡ false = sym fault ∙ is in absurd cc
         | inr same ↦ same
       ] in
-      subst (λ (t : Told). Goes s t (now later after taken)) (rw is refl) (stays later after taken up (record { closed = same; form = flags.form }) worn)
+      subst (λ (t : Reported). Goes s t (now later after taken)) (rw is refl) (stays later after taken up (record { closed = same; form = flags.form }) worn)
 
-  goes-outcome : (i : ℕ) (outcome : RomOutcome) (told : Told) (later : World) → told ≡ fault_told (rom_done book i outcome) → SlaveReturns i outcome book (now book state took) later → Goes s told later
-  goes-outcome i outcome told later said b =
-      goes-as s told _ later _ said b.is
+  goes-outcome : (i : ℕ) (outcome : RomOutcome) (reported : Reported) (later : World) → reported ≡ fault_reported (rom_done book i outcome) → SlaveReturns i outcome book (now book state took) later → Goes s reported later
+  goes-outcome i outcome reported later said b =
+      goes-as s reported _ later _ said b.is
       (returned (rom_done book i outcome) (with_half state i b.after) took (is_some (rom_done book i outcome).fault) refl (up-back frame book state took s.machine i b.half b.after up (within i b.half b.here) b.here outcome b.may)
       (flags-rom_done book i outcome) (worn-rom_done frame book state took s.machine i up (within i b.half b.here) of.worn outcome))
 
-  goes-up : (event : Event) (told : Told) (later : World) → EventFits event → HappensUp event book (now book state took) told later → Goes s told later
-  goes-up (Submit command) told later small h = goes-as s told _ later _ h.0 h.1 (goes-submit command (submit book command) refl (submit-answers book command) small)
-  goes-up Plan told later small h = goes-as s told _ later _ h.0 h.1 goes-plan
-  goes-up Migrate told later small h = goes-as s told _ later _ h.0 h.1 (stays (migrate book).1 state took (up-migrates frame book state took s.machine up) (flags-migrate book) (worn-migrate book of.worn))
-  goes-up Finish told later small h = goes-as s told _ later _ h.0 h.1 (closes (finish book) state took (up-finished frame book state took s.machine up) refl refl of.worn)
-  goes-up DiskBegin told later small h = goes-as s told _ later _ h.0 h.1 (stays _ _ _ (up-begins frame book state took s.machine up) (flags-disk_next book) (worn-disk_next book of.worn))
-  goes-up (DiskDone result) told later small h = goes-back h.0 result told later h.1
-  goes-up (RomIssue slave) told later small h = goes-issue slave told later h.0 h.1
-  goes-up (RomDone slave outcome) told later small h = goes-outcome slave outcome told later h.0 h.1
-  goes-up (RomResolve slave) told later small h = absurd h
-  goes-up Stop told later small h = absurd h
-  goes-up Open told later small h = absurd h
+  goes-up : (event : Event) (reported : Reported) (later : World) → EventFits event → HappensUp event book (now book state took) reported later → Goes s reported later
+  goes-up (Submit command) reported later small h = goes-as s reported _ later _ h.0 h.1 (goes-submit command (submit book command) refl (submit-answers book command) small)
+  goes-up Plan reported later small h = goes-as s reported _ later _ h.0 h.1 goes-plan
+  goes-up Migrate reported later small h = goes-as s reported _ later _ h.0 h.1 (stays (migrate book).1 state took (up-migrates frame book state took s.machine up) (flags-migrate book) (worn-migrate book of.worn))
+  goes-up Finish reported later small h = goes-as s reported _ later _ h.0 h.1 (closes (finish book) state took (up-finished frame book state took s.machine up) refl refl of.worn)
+  goes-up DiskBegin reported later small h = goes-as s reported _ later _ h.0 h.1 (stays _ _ _ (up-begins frame book state took s.machine up) (flags-disk_next book) (worn-disk_next book of.worn))
+  goes-up (DiskDone result) reported later small h = goes-back h.0 result reported later h.1
+  goes-up (RomIssue slave) reported later small h = goes-issue slave reported later h.0 h.1
+  goes-up (RomDone slave outcome) reported later small h = goes-outcome slave outcome reported later h.0 h.1
+  goes-up (RomResolve slave) reported later small h = absurd h
+  goes-up Stop reported later small h = absurd h
+  goes-up Open reported later small h = absurd h
 
 -- ---- whatever the station does
 
 up-down : (book : Book) (world : World) → world.book ≡ Some book → world.book ≡ None → ⊥
 up-down book world is none = let both : Some book ≡ None = sym is ∙ none in absurd cc
 
-goes-called : (s : Session) (event : Event) (world later : World) (told : Told) (book : Book) → Stands world s → MachineFits s.machine → EventFits event → world.book ≡ Some book → HappensUp event book world told later → Goes s told later
-goes-called s event world later told book (stands-down none kept long) fits small is h = absurd (up-down book world is none)
-goes-called s event world later told book (stands-up other frame there up of) fits small is h =
+goes-called : (s : Session) (event : Event) (world later : World) (reported : Reported) (book : Book) → Stands world s → MachineFits s.machine → EventFits event → world.book ≡ Some book → HappensUp event book world reported later → Goes s reported later
+goes-called s event world later reported book (stands-down none kept long) fits small is h = absurd (up-down book world is none)
+goes-called s event world later reported book (stands-up other frame there up of) fits small is h =
     let both : Some other ≡ Some book = sym there ∙ is in
     let same : other ≡ book = cc in
-    let whole : world ≡ record { book = Some book; state = world.state; took = world.took } = ap (λ (b : Option Book). record world { book = b }) is in
-    goes-up frame book world.state world.took s (subst (λ (b : Book). Up frame b world.state world.took s.machine) same up) (subst (IsOf s) same of) fits event told later small
-    (subst (λ (w : World). HappensUp event book w told later) whole h)
+    let entire : world ≡ record { book = Some book; state = world.state; took = world.took } = ap (λ (b : Option Book). record world { book = b }) is in
+    goes-up frame book world.state world.took s (subst (λ (b : Book). Up frame b world.state world.took s.machine) same up) (subst (IsOf s) same of) fits event reported later small
+    (subst (λ (w : World). HappensUp event book w reported later) entire h)
 
 goes-stop : (s : Session) (world : World) (state : State) → Stands world s → MachineFits s.machine → Stopped world.state state → Goes s Nothing (record { book = None; state = state; took = world.took })
 goes-stop s world state stands fits stopped =
@@ -271,32 +271,32 @@ goes-rest s world slave state (stands-down none kept long) fits g =
     (stands-down none (subst (LeavesOnly (KeptFor s.machine)) (sym g.new_is) less)
     (long ∙ sym (ap (λ (a : State). length a.halves) g.new_is ∙ length-set world.state.halves slave g.later))) fits
 
-goes-open : (s : Session) (world later : World) (told : Told) → Stands world s → MachineFits s.machine → Opens world told later → Goes s told later
-goes-open s world later told stands fits o =
+goes-open : (s : Session) (world later : World) (reported : Reported) → Stands world s → MachineFits s.machine → Opens world reported later → Goes s reported later
+goes-open s world later reported stands fits o =
     let state = with_synced world.state in
     let opened = book_on state o.journal in
     let u = up-opens o.journal state world.took s.machine o.found (stands-long world s stands) (kept-read world s stands) in
     let m = s.machine in
-    goes-as s told (Opened (is_version_2 o.journal.form)) later (record { book = Some opened; state = state; took = world.took }) o.says o.is (record {
+    goes-as s reported (Opened (is_version_2 o.journal.form)) later (record { book = Some opened; state = state; took = world.took }) o.says o.is (record {
       session = record { machine = reopened m u.k; is_closed = false; is_version_2 = is_version_2 o.journal.form };
       follows = (u.k, u.may_keep, refl);
       stands = stands-up opened u.frame refl u.up (record { closed = refl; form = refl; worn = worn-opened (words_in state.halves) (capacity_in state.disk.bytes) o.journal });
       fits = fits-reopened m u.k fits;
     })
 
-goes : (s : Session) (event : Event) (world later : World) (told : Told) → Stands world s → MachineFits s.machine → EventFits event → Happens event world told later → Goes s told later
-goes s Stop world later told stands fits small h = goes-as s told _ later _ h.0 h.2 (goes-stop s world later.state stands fits h.1)
-goes s (RomResolve slave) world later told stands fits small h = goes-as s told _ later _ h.0 h.2 (goes-rest s world slave later.state stands fits h.1)
-goes s Open world later told stands fits small h = goes-open s world later told stands fits h
-goes s (Submit command) world later told stands fits small h = goes-called s (Submit command) world later told h.0 stands fits small h.1 h.2
-goes s Plan world later told stands fits small h = goes-called s Plan world later told h.0 stands fits small h.1 h.2
-goes s Migrate world later told stands fits small h = goes-called s Migrate world later told h.0 stands fits small h.1 h.2
-goes s Finish world later told stands fits small h = goes-called s Finish world later told h.0 stands fits small h.1 h.2
-goes s DiskBegin world later told stands fits small h = goes-called s DiskBegin world later told h.0 stands fits small h.1 h.2
-goes s (DiskDone result) world later told stands fits small h = goes-called s (DiskDone result) world later told h.0 stands fits small h.1 h.2
-goes s (RomIssue slave) world later told stands fits small h = goes-called s (RomIssue slave) world later told h.0 stands fits small h.1 h.2
-goes s (RomDone slave outcome) world later told stands fits small h = goes-called s (RomDone slave outcome) world later told h.0 stands fits small h.1 h.2
+goes : (s : Session) (event : Event) (world later : World) (reported : Reported) → Stands world s → MachineFits s.machine → EventFits event → Happens event world reported later → Goes s reported later
+goes s Stop world later reported stands fits small h = goes-as s reported _ later _ h.0 h.2 (goes-stop s world later.state stands fits h.1)
+goes s (RomResolve slave) world later reported stands fits small h = goes-as s reported _ later _ h.0 h.2 (goes-rest s world slave later.state stands fits h.1)
+goes s Open world later reported stands fits small h = goes-open s world later reported stands fits h
+goes s (Submit command) world later reported stands fits small h = goes-called s (Submit command) world later reported h.0 stands fits small h.1 h.2
+goes s Plan world later reported stands fits small h = goes-called s Plan world later reported h.0 stands fits small h.1 h.2
+goes s Migrate world later reported stands fits small h = goes-called s Migrate world later reported h.0 stands fits small h.1 h.2
+goes s Finish world later reported stands fits small h = goes-called s Finish world later reported h.0 stands fits small h.1 h.2
+goes s DiskBegin world later reported stands fits small h = goes-called s DiskBegin world later reported h.0 stands fits small h.1 h.2
+goes s (DiskDone result) world later reported stands fits small h = goes-called s (DiskDone result) world later reported h.0 stands fits small h.1 h.2
+goes s (RomIssue slave) world later reported stands fits small h = goes-called s (RomIssue slave) world later reported h.0 stands fits small h.1 h.2
+goes s (RomDone slave outcome) world later reported stands fits small h = goes-called s (RomDone slave outcome) world later reported h.0 stands fits small h.1 h.2
 
-pub step-goes : (s : Session) (event : Event) (world later : World) (told : Told) → Stands world s → MachineFits s.machine → EventFits event → Steps event world told later → Goes s told later
-step-goes s event world later told stands fits small (inl happens) = goes s event world later told stands fits small happens
-step-goes s event world later told stands fits small (inr none) = goes-as s told Nothing later world none.0 none.1 (goes-same s world stands fits)
+pub step-goes : (s : Session) (event : Event) (world later : World) (reported : Reported) → Stands world s → MachineFits s.machine → EventFits event → Steps event world reported later → Goes s reported later
+step-goes s event world later reported stands fits small (inl happens) = goes s event world later reported stands fits small happens
+step-goes s event world later reported stands fits small (inr none) = goes-as s reported Nothing later world none.0 none.1 (goes-same s world stands fits)

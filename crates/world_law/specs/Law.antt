@@ -22,7 +22,7 @@ use Rattle.book_model.specs.Kept.{Kept}
 use Rattle.book_model.specs.Keeping.{IsOfBook}
 use Rattle.book_model.specs.Opening.{words_in, IsAllSynced}
 use Rattle.book_model.specs.Worn.{named_for}
-use Rattle.world_law.specs.World.{World, Event, Submit, Told, Nothing, Accepted, Refused, Acknowledged, Planned, Closed, Migrated, Opened, Step}
+use Rattle.world_law.specs.World.{World, Event, Submit, Reported, Nothing, Accepted, Refused, Acknowledged, Planned, Closed, Migrated, Opened, Step}
 use Rattle.world_law.specs.Happenings.{Steps, CanOpen, Opens}
 
 -- ---- a session
@@ -42,7 +42,7 @@ abbrev pub image_after : Session → ℕ → Option ProcessImageParts
 image_after session count = process_image (contents_after (base_of session.machine) session.machine.accepted count)
 
 -- The session is open and its journal is of version 2, so that a command is judged by the contents.
-pub record Judges (session : Session) : Type 0 where
+pub record Validates (session : Session) : Type 0 where
   pub is_open : session.is_closed ≡ false
   pub is_new : session.is_version_2 ≡ true
 
@@ -50,9 +50,9 @@ pub record Judges (session : Session) : Type 0 where
 abbrev pub IsRefused : Session → Command → SubmitRefusal → Type 0
 IsRefused session command refusals.Closed = session.is_closed ≡ true
 IsRefused session command refusals.OldJournal = (session.is_closed ≡ false) × (session.is_version_2 ≡ false)
-IsRefused session command (refusals.Command refusal) = Judges session × (outcome (contents_now session) command ≡ Err refusal)
-IsRefused session command refusals.TooLarge = Judges session × IsOk (outcome (contents_now session) command)
-IsRefused session command refusals.Full = Judges session × IsOk (outcome (contents_now session) command)
+IsRefused session command (refusals.Command refusal) = Validates session × (outcome (contents_now session) command ≡ Err refusal)
+IsRefused session command refusals.TooLarge = Validates session × IsOk (outcome (contents_now session) command)
+IsRefused session command refusals.Full = Validates session × IsOk (outcome (contents_now session) command)
 
 -- The session with another machine.
 abbrev pub with_machine : Session → Machine → Session
@@ -61,10 +61,10 @@ with_machine session machine = record session { machine = machine }
 -- The session after callers are told something. An accepted command gets the next number, and a refusal changes nothing. The number
 -- of acknowledged commands never falls. A plan is the process image after a prefix of the commands. A new session begins with a prefix of the
 -- last session's commands, with every acknowledged one in it.
-abbrev pub Follows : Session → Told → Session → Type 0
+abbrev pub Follows : Session → Reported → Session → Type 0
 Follows session Nothing later = later ≡ session
 Follows session (Accepted command number) later =
-    Judges session × IsOk (outcome (contents_now session) command) × (number ≡ length session.machine.accepted)
+    Validates session × IsOk (outcome (contents_now session) command) × (number ≡ length session.machine.accepted)
     × (later ≡ with_machine session (accepts session.machine command))
 Follows session (Refused command refusal) later = IsRefused session command refusal × (later ≡ session)
 Follows session (Acknowledged count) later =
@@ -102,7 +102,7 @@ pub record IsKept (world : World) (machine : Machine) : Type 0 where
   -- if a recovery is complete, the slaves hold the contents that the session began with
   pub recovered : (book : Book) → IsRecovered world book → HoldsBase world book machine
   -- if the station is down, or closed by a fault with nothing handed out, and no slave is busy, it can be opened
-  pub opens : CanOpen world.book → AllByRecursion IsIdle world.state.halves → (told : Told) × (later : World) × Opens world told later
+  pub opens : CanOpen world.book → AllByRecursion IsIdle world.state.halves → (reported : Reported) × (later : World) × Opens world reported later
   -- while the station is up, the machine is that of its book: same contents to begin with, same accepted commands, and the durable ones
   -- acknowledged
   pub known : (book : Book) → world.book ≡ Some book → IsOfBook book machine
@@ -116,13 +116,13 @@ pub record IsKept (world : World) (machine : Machine) : Type 0 where
 -- These steps happen one after another.
 abbrev pub Runs : World → List Step → Type 0
 Runs world [] = Unit {0}
-Runs world (step ∷ steps) = Steps step.event world step.told step.world × Runs step.world steps
+Runs world (step ∷ steps) = Steps step.event world step.reported step.world × Runs step.world steps
 
 -- The law of a run: the session follows what callers are told, and IsKept holds at each moment.
 abbrev pub StaysKept : World → Session → List Step → Type 0
 StaysKept world session [] = IsKept world session.machine
 StaysKept world session (step ∷ steps) =
-    IsKept world session.machine × ((later : Session) × Follows session step.told later × StaysKept step.world later steps)
+    IsKept world session.machine × ((later : Session) × Follows session step.reported later × StaysKept step.world later steps)
 
 -- ---- the premises
 

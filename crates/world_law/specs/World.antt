@@ -35,24 +35,24 @@ pub data Event : Type 0 where
   Open : Event
 
 -- What callers are told.
-pub data Told : Type 0 where
-  Nothing : Told
+pub data Reported : Type 0 where
+  Nothing : Reported
   -- a command is accepted with this number, or refused
-  Accepted : Command → (number : ℕ) → Told
-  Refused : Command → SubmitRefusal → Told
+  Accepted : Command → (number : ℕ) → Reported
+  Refused : Command → SubmitRefusal → Reported
   -- this number of commands is acknowledged
-  Acknowledged : (count : ℕ) → Told
+  Acknowledged : (count : ℕ) → Reported
   -- the plan: a number of commands, and the process image of the contents after them, if they have one
-  Planned : (count : ℕ) → Option ProcessImageParts → Told
+  Planned : (count : ℕ) → Option ProcessImageParts → Reported
   -- a finish or a fault has closed the station
-  Closed : Told
+  Closed : Reported
   -- the journal is of version 2 now
-  Migrated : Told
+  Migrated : Reported
   -- a session has begun, on a journal of version 2 or on an old one
-  Opened : (is_version_2 : Bool) → Told
+  Opened : (is_version_2 : Bool) → Reported
 
 -- One step of a run: the event, what callers are told, and the world after it.
 pub record Step : Type 0 where
   pub event : Event
-  pub told : Told
+  pub reported : Reported
   pub world : World

@@ -18,8 +18,8 @@ use Rattle.book_model.specs.Open.{migrate, finish}
 use Rattle.book_model.specs.Reading.{applied, planned}
 use Rattle.book_model.specs.DiskSteps.{action_of, disk_next, disk_done}
 use Rattle.world_law.specs.World as law
-use Rattle.world_law.specs.World.{World, Told}
-use Rattle.world_law.specs.Happenings.{with_book, with_disk, submitted, told_of}
+use Rattle.world_law.specs.World.{World, Reported}
+use Rattle.world_law.specs.Happenings.{with_book, with_disk, submitted, reported_of}
 use Rattle.site_journal.proofs.DiskLaws.{not-both}
 use Rattle.world_run.specs.declared.leaving.LeftByte.{LeftByte}
 use Rattle.world_run.specs.declared.happenings.Event.{Event}
@@ -102,19 +102,19 @@ pub ends-action : (world : World) (book later : Book) (action : DiskNext) (disk 
 ends-action world book later action disk up out goes is =
     let o = is-out book book.is_handed_out action refl out in
     let e : disk ≡ ended_on (in_progress book) world.state.disk = is ∙ ap (λ (a : Option DiskNext). ended_on a world.state.disk) (sym o.1) in
-    happens (told_of book (disk_done book (Ok tt))) (book, up, (o.0, (refl, ap (λ (b : Book). with_disk world b disk) goes ∙ ap (with_disk world (disk_done book (Ok tt))) e))) tt
+    happens (reported_of book (disk_done book (Ok tt))) (book, up, (o.0, (refl, ap (λ (b : Book). with_disk world b disk) goes ∙ ap (with_disk world (disk_done book (Ok tt))) e))) tt
 
 pub some-one : (a b : Book) (x : Option Book) → x ≡ Some a → x ≡ Some b → a ≡ b
 some-one a b x is there = let both : Some a ≡ Some b = sym is ∙ there in cc
 
 pub nothing-ends : (world : World) (book : Book) → world.book ≡ Some book → book.is_handed_out ≡ false → Happened (events.DiskDone ends.Done) world world
-nothing-ends world book up out = cannot (λ told later h. not-both h.0.is_handed_out h.2.0 (ap (λ (b : Book). b.is_handed_out) (some-one h.0 book world.book h.1 up) ∙ out)) refl
+nothing-ends world book up out = cannot (λ reported later h. not-both h.0.is_handed_out h.2.0 (ap (λ (b : Book). b.is_handed_out) (some-one h.0 book world.book h.1 up) ∙ out)) refl
 
 pub nothing-fails : (world : World) (book : Book) (fault : DeviceFault) (bytes : Vec LeftByte) → world.book ≡ Some book → book.is_handed_out ≡ false → Happened (events.DiskDone (ends.Failed fault bytes)) world world
-nothing-fails world book fault bytes up out = cannot (λ told later h. not-both h.0.is_handed_out h.2.0 (ap (λ (b : Book). b.is_handed_out) (some-one h.0 book world.book h.1 up) ∙ out)) refl
+nothing-fails world book fault bytes up out = cannot (λ reported later h. not-both h.0.is_handed_out h.2.0 (ap (λ (b : Book). b.is_handed_out) (some-one h.0 book world.book h.1 up) ∙ out)) refl
 
 pub never-lost : (world : World) (bytes : Vec LeftByte) → Happened (events.DiskDone (ends.Failed device.Lost bytes)) world world
-never-lost world bytes = cannot (λ told later h. h.2.1.1 refl) refl
+never-lost world bytes = cannot (λ reported later h. h.2.1.1 refl) refl
 
 -- a disk of which no byte changed
 held-none : (choice : List LeftByte) (old new : Disk) → HoldsLeft [] choice old.bytes new.bytes → new ≡ record old { bytes = new.bytes } → new ≡ old

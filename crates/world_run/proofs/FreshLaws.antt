@@ -42,16 +42,16 @@ fresh-starts halves took contents slaves capacity disk is count few capacity_is 
     let bytes = header_bytes 2 slaves capacity ++ replicate capacity 0 in
     let made : State = record { disk = synced_of bytes; halves = halves } in
     let ready = subst (λ (n : ℕ). IsFormatted n bytes) count (formatted slaves capacity few capacity_is) in
-    let whole = formatted-starts made took ready (record { all = refl; whole = omega arith }) idle long (subst PlantFits (sym words) fits) in
+    let entire = formatted-starts made took ready (record { all = refl; entire = omega arith }) idle long (subst PlantFits (sym words) fits) in
     subst (λ (c : List (List ℕ)). Starts (record { book = None; state = record { disk = disk; halves = halves }; took = took }) (blank c)) words
-    (subst (λ (d : Disk). Starts (record { book = None; state = record { disk = d; halves = halves }; took = took }) (blank (words_in halves))) (sym is) whole)
+    (subst (λ (d : Disk). Starts (record { book = None; state = record { disk = d; halves = halves }; took = took }) (blank (words_in halves))) (sym is) entire)
 
 -- a disk of bytes with a journal that is kept, all of them synced
 pub kept-starts : (world : World) (bytes : List ℕ) (machine : Machine) → world.book ≡ None → world.state.disk ≡ synced_of bytes → AllByRecursion IsIdle world.state.halves
     → length world.took ≡ length world.state.halves → Kept bytes (words_in world.state.halves) machine → MachineFits machine → Starts world machine
 kept-starts world bytes machine down is idle long kept fits = record {
   down = down;
-  synced = subst IsAllSynced (sym is) (record { all = refl; whole = omega arith });
+  synced = subst IsAllSynced (sym is) (record { all = refl; entire = omega arith });
   idle = idle;
   kept = subst (λ (d : Disk). Kept d.bytes (words_in world.state.halves) machine) (sym is) kept;
   took = long;

@@ -23,27 +23,27 @@ opens world journal station disk can idle is_journal goes is =
     happens (law.Opened (is_version_2 journal.form)) (record {
       can = can;
       journal = journal;
-      found = record { is_journal = is_journal; synced = record { all = refl; whole = omega arith }; idle = idle };
+      found = record { is_journal = is_journal; synced = record { all = refl; entire = omega arith }; idle = idle };
       says = refl;
       is = ap (λ (b : Book). record { book = Some b; state = record world.state { disk = disk }; took = world.took }) goes
           ∙ ap (λ (d : Disk). record { book = Some (book_on world.state journal); state = record world.state { disk = d }; took = world.took }) is;
     }) tt
 
 pub cannot-open : (world : World) → ¬ CanOpen world.book → Happened events.Open world world
-cannot-open world not = cannot (λ told later o. not o.can) refl
+cannot-open world not = cannot (λ reported later o. not o.can) refl
 
 pub busy-open : (world : World) → ¬ AllByRecursion IsIdle world.state.halves → Happened events.Open world world
-busy-open world not = cannot (λ told later o. not o.found.idle) refl
+busy-open world not = cannot (λ reported later o. not o.found.idle) refl
 
 pub lost-open : (world : World) → ((journal : Journal) → IsJournal world.state.disk.bytes (sizes_of (words_in world.state.halves)) journal → ⊥) → Happened events.Open world world
-lost-open world not = cannot (λ told later o. not o.journal o.found.is_journal) refl
+lost-open world not = cannot (λ reported later o. not o.journal o.found.is_journal) refl
 
 -- ---- a step of the law
 
-step-happened : (event : Event) (old new : World) → Happened event old new → (told : law.Told) × Steps (as_event event) old told new
-step-happened event old new (happens told h chosen) = (told, inl h)
+step-happened : (event : Event) (old new : World) → Happened event old new → (reported : law.Reported) × Steps (as_event event) old reported new
+step-happened event old new (happens reported h chosen) = (reported, inl h)
 step-happened event old new (cannot not same) = (law.Nothing, inr (refl, same))
 
-pub step-of_law : (event : Event) (old new : World) (result : Result (Unit {0}) CoreFault) → Went event old result new → (told : law.Told) × Steps (as_event event) old told new
+pub step-of_law : (event : Event) (old new : World) (result : Result (Unit {0}) CoreFault) → Went event old result new → (reported : law.Reported) × Steps (as_event event) old reported new
 step-of_law event old new (Ok done) went = step-happened event old new went
 step-of_law event old new (Err fault) went = (law.Nothing, inr (refl, went.1))

@@ -19,11 +19,11 @@ use Rattle.book_model.specs.declared.fault.Fault.TheVariants as faults
 use Rattle.book_model.specs.declared.next.RomNext.{RomNext}
 use Rattle.book_model.specs.declared.next.RomOutcome.{RomOutcome}
 use Rattle.book_model.specs.declared.next.RomOutcome.TheVariants.{Issued, Settled, Stopped}
-use Rattle.book_model.specs.Book.{Book, Slave, Errand, Free, Issuing, Unsettled, Settling, Doing, Resting, Payload, PayloadSync, OpenGate, OpenSync, CloseGate, CloseSync, FarGate, Mark, MarkSync, Version, VersionSync, slave_at, nobody, with_fault}
+use Rattle.book_model.specs.Book.{Book, Slave, Operation, NoOperation, Issuing, Unsettled, Settling, Doing, Resting, Payload, PayloadSync, OpenGate, OpenSync, CloseGate, CloseSync, FarGate, Mark, MarkSync, Version, VersionSync, slave_at, nobody, with_fault}
 use Rattle.book_model.specs.Entries.{runs_of, live_runs}
 use Rattle.book_model.specs.Open.{owing_slaves, opened_slave, open_book}
 use Rattle.book_model.specs.DiskSteps.{action_of, doing_next, disk_next, disk_done, went_on}
-use Rattle.book_model.specs.RomSteps.{is_last, was_taken, with_errand, with_issue, with_written, with_again, rom_next, rom_done}
+use Rattle.book_model.specs.RomSteps.{is_last, was_taken, with_operation, with_issue, with_written, with_again, rom_next, rom_done}
 use Rattle.book_model.proofs.SlaveEventLaws.{Asks, nothing, issue, settle, asks}
 use Rattle.world_run.specs.declared.station.Asked.{Asked}
 use Rattle.world_run.specs.declared.station.Asked.TheVariants.{Nothing, Issue, Settle}
@@ -124,7 +124,7 @@ knows-rested asked book out slaves = record { disk = sym (ap (λ (o : Bool). if 
 
 owing-asked : (runs : List Run) (k : ℕ) (slaves : List Slave) → all_asked (owing_slaves runs k slaves) ≡ all_asked slaves
 owing-asked runs k [] = refl
-owing-asked runs k (s ∷ ss) = ap (λ (l : List Asked). asked_of s.errand ∷ l) (owing-asked runs (suc k) ss)
+owing-asked runs k (s ∷ ss) = ap (λ (l : List Asked). asked_of s.operation ∷ l) (owing-asked runs (suc k) ss)
 
 abbrev IsBack : Book → Book → Type 0
 IsBack old later = (later.is_handed_out ≡ false) × (all_asked later.slaves ≡ all_asked old.slaves)
@@ -160,13 +160,13 @@ knows-done action asked book result knows not =
 
 -- ---- the slaves
 
-pub get-asked : (slaves : List Slave) (i : ℕ) → get_or (all_asked slaves) i Nothing ≡ asked_of (get_or slaves i nobody).errand
-get-asked slaves i = get_or-map (λ (slave : Slave). asked_of slave.errand) slaves i nobody
+pub get-asked : (slaves : List Slave) (i : ℕ) → get_or (all_asked slaves) i Nothing ≡ asked_of (get_or slaves i nobody).operation
+get-asked slaves i = get_or-map (λ (slave : Slave). asked_of slave.operation) slaves i nobody
 
-set-asked : (slaves : List Slave) (i : ℕ) (slave : Slave) → all_asked (set slaves i slave) ≡ set (all_asked slaves) i (asked_of slave.errand)
-set-asked slaves i slave = map-set (λ (s : Slave). asked_of s.errand) slaves i slave
+set-asked : (slaves : List Slave) (i : ℕ) (slave : Slave) → all_asked (set slaves i slave) ≡ set (all_asked slaves) i (asked_of slave.operation)
+set-asked slaves i slave = map-set (λ (s : Slave). asked_of s.operation) slaves i slave
 
-keep-asked : (slaves : List Slave) (i : ℕ) → all_asked slaves ≡ set (all_asked slaves) i (asked_of (get_or slaves i nobody).errand)
+keep-asked : (slaves : List Slave) (i : ℕ) → all_asked slaves ≡ set (all_asked slaves) i (asked_of (get_or slaves i nobody).operation)
 keep-asked slaves i = sym (ap (λ (a : Asked). set (all_asked slaves) i a) (sym (get-asked slaves i)) ∙ set-get_or (all_asked slaves) i Nothing)
 
 -- one slave's part is so, and the disk's stays
@@ -175,50 +175,50 @@ pub record OneAsked (book : Book) (i : ℕ) (asked : Asked) (later : Book) : Typ
   pub out : later.is_handed_out ≡ book.is_handed_out
   pub disk : handed_out later ≡ handed_out book
 
-one-same : (book : Book) (i : ℕ) (asked : Asked) → asked ≡ asked_of (slave_at book i).errand → OneAsked book i asked book
+one-same : (book : Book) (i : ℕ) (asked : Asked) → asked ≡ asked_of (slave_at book i).operation → OneAsked book i asked book
 one-same book i asked is = record { slaves = keep-asked book.slaves i ∙ ap (λ (a : Asked). set (all_asked book.slaves) i a) (sym is); out = refl; disk = refl }
 
 one-set : (book later : Book) (i : ℕ) (slave : Slave) → later.slaves ≡ set book.slaves i slave → later.is_handed_out ≡ book.is_handed_out → later.doing ≡ book.doing
-    → later.halves ≡ book.halves → later.capacity ≡ book.capacity → OneAsked book i (asked_of slave.errand) later
+    → later.halves ≡ book.halves → later.capacity ≡ book.capacity → OneAsked book i (asked_of slave.operation) later
 one-set book later i slave slaves out doing halves capacity =
     record { slaves = ap all_asked slaves ∙ set-asked book.slaves i slave; out = out; disk = handed-by later book out doing halves capacity }
 
-next-asked : (book : Book) (i : ℕ) → Asks book i → OneAsked book i (asked_next (rom_next book i).0 (asked_of (slave_at book i).errand)) (rom_next book i).1
-next-asked book i (nothing next.Idle none is) = subst (λ (p : RomNext × Book). OneAsked book i (asked_next p.0 (asked_of (slave_at book i).errand)) p.1) (sym is) (one-same book i _ refl)
-next-asked book i (nothing next.Stop none is) = subst (λ (p : RomNext × Book). OneAsked book i (asked_next p.0 (asked_of (slave_at book i).errand)) p.1) (sym is) (one-same book i _ refl)
+next-asked : (book : Book) (i : ℕ) → Asks book i → OneAsked book i (asked_next (rom_next book i).0 (asked_of (slave_at book i).operation)) (rom_next book i).1
+next-asked book i (nothing next.Idle none is) = subst (λ (p : RomNext × Book). OneAsked book i (asked_next p.0 (asked_of (slave_at book i).operation)) p.1) (sym is) (one-same book i _ refl)
+next-asked book i (nothing next.Stop none is) = subst (λ (p : RomNext × Book). OneAsked book i (asked_next p.0 (asked_of (slave_at book i).operation)) p.1) (sym is) (one-same book i _ refl)
 next-asked book i (nothing (next.Issue word value) none is) = absurd none
 next-asked book i (nothing (next.Settle taken) none is) = absurd none
 next-asked book i (issue w others todo is) =
-    subst (λ (p : RomNext × Book). OneAsked book i (asked_next p.0 (asked_of (slave_at book i).errand)) p.1) (sym is)
+    subst (λ (p : RomNext × Book). OneAsked book i (asked_next p.0 (asked_of (slave_at book i).operation)) p.1) (sym is)
     (one-set book (with_issue book i w) i _ refl refl refl refl refl)
 next-asked book i (settle word value taken there is) =
-    subst (λ (p : RomNext × Book). OneAsked book i (asked_next p.0 (asked_of (slave_at book i).errand)) p.1) (sym is)
-    (one-set book (with_errand book i (Settling word value taken)) i _ refl refl refl refl refl)
+    subst (λ (p : RomNext × Book). OneAsked book i (asked_next p.0 (asked_of (slave_at book i).operation)) p.1) (sym is)
+    (one-set book (with_operation book i (Settling word value taken)) i _ refl refl refl refl refl)
 
-pub asked-behind_next : (book : Book) (i : ℕ) → i < length book.slaves → OneAsked book i (asked_next (rom_next book i).0 (asked_of (slave_at book i).errand)) (rom_next book i).1
-asked-behind_next book i within = next-asked book i (asks book i (grind (arith, nat_tests)) (slave_at book i).errand refl)
+pub asked-after_next : (book : Book) (i : ℕ) → i < length book.slaves → OneAsked book i (asked_next (rom_next book i).0 (asked_of (slave_at book i).operation)) (rom_next book i).1
+asked-after_next book i within = next-asked book i (asks book i (grind (arith, nat_tests)) (slave_at book i).operation refl)
 
 pub next-past : (book : Book) (i : ℕ) → length book.slaves ≤ i → (rom_next book i).1 ≡ book
 next-past book i past = let is : nat_lt i (length book.slaves) ≡ false = grind (arith, nat_tests) in rw is refl
 
 again-asked : (book : Book) (i word : ℕ) (last : Bool) → is_last (cell_of (slave_at book i).cells word).known ≡ last → OneAsked book i Nothing (with_again book i word)
-again-asked book i word true is = rw is (one-set book (with_fault (with_errand book i Free) (faults.SlaveDead i)) i _ refl refl refl refl refl)
-again-asked book i word false is = rw is (one-set book (with_errand book i Free) i _ refl refl refl refl refl)
+again-asked book i word true is = rw is (one-set book (with_fault (with_operation book i NoOperation) (faults.SlaveDead i)) i _ refl refl refl refl refl)
+again-asked book i word false is = rw is (one-set book (with_operation book i NoOperation) i _ refl refl refl refl refl)
 
-done-asked : (book : Book) (i : ℕ) (errand : Errand) (outcome : RomOutcome) → (slave_at book i).errand ≡ errand → OneAsked book i (asked_then (asked_of errand) outcome) (rom_done book i outcome)
-done-asked book i Free outcome is = rw is (one-same book i Nothing (sym (ap asked_of is)))
+done-asked : (book : Book) (i : ℕ) (operation : Operation) (outcome : RomOutcome) → (slave_at book i).operation ≡ operation → OneAsked book i (asked_then (asked_of operation) outcome) (rom_done book i outcome)
+done-asked book i NoOperation outcome is = rw is (one-same book i Nothing (sym (ap asked_of is)))
 done-asked book i (Unsettled word value taken) outcome is = rw is (one-same book i Nothing (sym (ap asked_of is)))
-done-asked book i (Issuing word value) (Issued how) is = rw is (one-set book (with_errand book i (Unsettled word value (was_taken how))) i _ refl refl refl refl refl)
+done-asked book i (Issuing word value) (Issued how) is = rw is (one-set book (with_operation book i (Unsettled word value (was_taken how))) i _ refl refl refl refl refl)
 done-asked book i (Issuing word value) (Settled how) is = rw is (one-same book i Issue (sym (ap asked_of is)))
-done-asked book i (Issuing word value) Stopped is = rw is (one-set book (with_fault (with_errand book i Free) faults.Stopped) i _ refl refl refl refl refl)
+done-asked book i (Issuing word value) Stopped is = rw is (one-set book (with_fault (with_operation book i NoOperation) faults.Stopped) i _ refl refl refl refl refl)
 done-asked book i (Settling word value taken) (Issued how) is = rw is (one-same book i (Settle taken) (sym (ap asked_of is)))
 done-asked book i (Settling word value taken) (Settled Written) is = rw is (one-set book (with_written book i word value) i _ refl refl refl refl refl)
 done-asked book i (Settling word value taken) (Settled Again) is = rw is (again-asked book i word (is_last (cell_of (slave_at book i).cells word).known) refl)
-done-asked book i (Settling word value taken) (Settled Dead) is = rw is (one-set book (with_fault (with_errand book i Free) (faults.SlaveDead i)) i _ refl refl refl refl refl)
-done-asked book i (Settling word value taken) Stopped is = rw is (one-set book (with_fault (with_errand book i Free) faults.Stopped) i _ refl refl refl refl refl)
+done-asked book i (Settling word value taken) (Settled Dead) is = rw is (one-set book (with_fault (with_operation book i NoOperation) (faults.SlaveDead i)) i _ refl refl refl refl refl)
+done-asked book i (Settling word value taken) Stopped is = rw is (one-set book (with_fault (with_operation book i NoOperation) faults.Stopped) i _ refl refl refl refl refl)
 
-pub asked-behind_done : (book : Book) (i : ℕ) (outcome : RomOutcome) → OneAsked book i (asked_then (asked_of (slave_at book i).errand) outcome) (rom_done book i outcome)
-asked-behind_done book i outcome = done-asked book i (slave_at book i).errand outcome refl
+pub asked-after_done : (book : Book) (i : ℕ) (outcome : RomOutcome) → OneAsked book i (asked_then (asked_of (slave_at book i).operation) outcome) (rom_done book i outcome)
+asked-after_done book i outcome = done-asked book i (slave_at book i).operation outcome refl
 
 pub knows-one : (action : Option DiskNext) (asked : List Asked) (book later : Book) (i : ℕ) (now : Asked) → KnowsProgress action asked book → OneAsked book i now later
     → KnowsProgress action (set asked i now) later
@@ -229,7 +229,7 @@ knows-one action asked book later i now knows one = record {
 }
 
 -- what the station's list says of a slave
-pub reads-asked : (action : Option DiskNext) (asked : List Asked) (book : Book) (i : ℕ) → KnowsProgress action asked book → get_or asked i Nothing ≡ asked_of (slave_at book i).errand
+pub reads-asked : (action : Option DiskNext) (asked : List Asked) (book : Book) (i : ℕ) → KnowsProgress action asked book → get_or asked i Nothing ≡ asked_of (slave_at book i).operation
 reads-asked action asked book i knows = ap (λ (l : List Asked). get_or l i Nothing) knows.slaves ∙ get-asked book.slaves i
 
 -- ---- an opened book
@@ -245,7 +245,7 @@ knows-opened words capacity journal =
 
 -- ---- nothing is in progress with any slave
 
-pub all-nothing : (slaves : List Slave) → AllByRecursion (λ (a : Asked). a ≡ Nothing) (all_asked slaves) ↔ AllByRecursion (λ (slave : Slave). asked_of slave.errand ≡ Nothing) slaves
+pub all-nothing : (slaves : List Slave) → AllByRecursion (λ (a : Asked). a ≡ Nothing) (all_asked slaves) ↔ AllByRecursion (λ (slave : Slave). asked_of slave.operation ≡ Nothing) slaves
 all-nothing [] = (λ all. tt, λ all. tt)
 all-nothing (s ∷ ss) = (λ all. (all.0, (all-nothing ss).0 all.1), λ all. (all.0, (all-nothing ss).1 all.1))
 

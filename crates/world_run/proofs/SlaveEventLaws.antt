@@ -11,14 +11,14 @@ use Rattle.book_model.specs.declared.next.RomNext.{RomNext}
 use Rattle.book_model.specs.declared.next.RomNext.TheVariants as next
 use Rattle.book_model.specs.declared.next.RomOutcome.{RomOutcome}
 use Rattle.book_model.specs.declared.next.RomOutcome.TheVariants as outcomes
-use Rattle.book_model.specs.Book.{Book, Errand, Free, Issuing, Unsettled, Settling, slave_at}
+use Rattle.book_model.specs.Book.{Book, Operation, NoOperation, Issuing, Unsettled, Settling, slave_at}
 use Rattle.book_model.specs.RomSteps.{rom_next, rom_done}
 use Rattle.book_model.specs.Steps.{TakesOrNot, MayBegin, took_after, MayComeBack}
 use Rattle.book_model.proofs.LineLaws.{half-there}
 use Rattle.book_model.proofs.OutcomeLaws.{set-same}
 use Rattle.world_law.specs.World as law
-use Rattle.world_law.specs.World.{World, Told}
-use Rattle.world_law.specs.Happenings.{fault_told, with_book}
+use Rattle.world_law.specs.World.{World, Reported}
+use Rattle.world_law.specs.Happenings.{fault_reported, with_book}
 use Rattle.world_run.specs.declared.half.WordEnd.{WordEnd}
 use Rattle.world_run.specs.declared.half.WordEnd.TheVariants.{Well, Failed}
 use Rattle.world_run.specs.declared.happenings.Event.TheVariants as events
@@ -126,8 +126,8 @@ same-one : (halves : List SlaveHalf) (slave : ℕ) (a b : SlaveHalf) → slice_g
 same-one halves slave a b here there = let both : Some a ≡ Some b = sym here ∙ there in cc
 
 module _ (slave : ℕ) (sides : Sides) (half : SlaveHalf) (here : slice_get sides.halves slave ≡ Some half) where
-  may-back : (errand : Errand) (outcome : RomOutcome) → MayReturn (asked_of errand) outcome slave sides → MayComeBack (slice_index_or sides.took slave false) errand outcome half half
-  may-back Free outcome may = absurd may
+  may-back : (operation : Operation) (outcome : RomOutcome) → MayReturn (asked_of operation) outcome slave sides → MayComeBack (slice_index_or sides.took slave false) operation outcome half half
+  may-back NoOperation outcome may = absurd may
   may-back (Unsettled word value taken) outcome may = absurd may
   may-back (Issuing word value) (outcomes.Issued Taken) may = (may, refl)
   may-back (Issuing word value) (outcomes.Issued NotTaken) may = (may, refl)
@@ -140,8 +140,8 @@ module _ (slave : ℕ) (sides : Sides) (half : SlaveHalf) (here : slice_get side
   may-back (Settling word value taken) (outcomes.Settled Dead) may = OnlyRests-same half
   may-back (Settling word value taken) outcomes.Stopped may = OnlyRests-same half
 
-  back-may : (errand : Errand) (outcome : RomOutcome) (later : SlaveHalf) → MayComeBack (slice_index_or sides.took slave false) errand outcome half later → MayReturn (asked_of errand) outcome slave sides
-  back-may Free outcome later may = absurd may
+  back-may : (operation : Operation) (outcome : RomOutcome) (later : SlaveHalf) → MayComeBack (slice_index_or sides.took slave false) operation outcome half later → MayReturn (asked_of operation) outcome slave sides
+  back-may NoOperation outcome later may = absurd may
   back-may (Unsettled word value taken) outcome later may = absurd may
   back-may (Issuing word value) (outcomes.Issued Taken) later may = may.0
   back-may (Issuing word value) (outcomes.Issued NotTaken) later may = may.0
@@ -155,10 +155,10 @@ module _ (slave : ℕ) (sides : Sides) (half : SlaveHalf) (here : slice_get side
   back-may (Settling word value taken) outcomes.Stopped later may = tt
 
 pub comes-back : (world : World) (book later : Book) (slave : ℕ) (outcome : RomOutcome) → world.book ≡ Some book → slave < length world.state.halves
-    → MayReturn (asked_of (slave_at book slave).errand) outcome slave (sides_of world) → later ≡ rom_done book slave outcome → Happened (events.RomDone slave outcome) world (with_book world later)
+    → MayReturn (asked_of (slave_at book slave).operation) outcome slave (sides_of world) → later ≡ rom_done book slave outcome → Happened (events.RomDone slave outcome) world (with_book world later)
 comes-back world book later slave outcome up inside may goes =
     let there = half-there world.state.halves slave inside in
-    happens (fault_told (rom_done book slave outcome)) (
+    happens (fault_reported (rom_done book slave outcome)) (
       book,
       up,
       (
@@ -167,18 +167,18 @@ comes-back world book later slave outcome up inside may goes =
           half = there.0;
           here = there.1;
           after = there.0;
-          may = may-back slave (sides_of world) there.0 there.1 (slave_at book slave).errand outcome may;
+          may = may-back slave (sides_of world) there.0 there.1 (slave_at book slave).operation outcome may;
           is = ap (with_book world) goes ∙ sym (same-half world (rom_done book slave outcome) slave there.0 world.took there.1 refl);
         },
       ),
     ) refl
 
 pub never-back : (world : World) (book : Book) (slave : ℕ) (outcome : RomOutcome) → world.book ≡ Some book
-    → ¬ MayReturn (asked_of (slave_at book slave).errand) outcome slave (sides_of world) → Happened (events.RomDone slave outcome) world world
-never-back world book slave outcome up not = cannot (λ told later h.
+    → ¬ MayReturn (asked_of (slave_at book slave).operation) outcome slave (sides_of world) → Happened (events.RomDone slave outcome) world world
+never-back world book slave outcome up not = cannot (λ reported later h.
     let r = h.2.1 in
-    not (subst (λ (b : Book). MayReturn (asked_of (slave_at b slave).errand) outcome slave (sides_of world)) (some-one h.0 book world.book h.1 up)
-    (back-may slave (sides_of world) r.half r.here (slave_at h.0 slave).errand outcome r.after r.may))) refl
+    not (subst (λ (b : Book). MayReturn (asked_of (slave_at b slave).operation) outcome slave (sides_of world)) (some-one h.0 book world.book h.1 up)
+    (back-may slave (sides_of world) r.half r.here (slave_at h.0 slave).operation outcome r.after r.may))) refl
 
 -- ---- a slave comes to rest
 

@@ -7,7 +7,7 @@ use Rattle.book_model.specs.declared.next.RomNext.{RomNext}
 use Rattle.book_model.specs.declared.next.RomNext.TheVariants as next
 use Rattle.book_model.specs.declared.next.RomOutcome.{RomOutcome}
 use Rattle.book_model.specs.declared.next.RomOutcome.TheVariants as outcomes
-use Rattle.book_model.specs.Book.{Book, Slave, Errand, Free, Issuing, Unsettled, Settling}
+use Rattle.book_model.specs.Book.{Book, Slave, Operation, NoOperation, Issuing, Unsettled, Settling}
 use Rattle.book_model.specs.DiskSteps.{action_of}
 use Rattle.world_run.specs.declared.station.Asked.{Asked}
 use Rattle.world_run.specs.declared.station.Asked.TheVariants.{Nothing, Issue, Settle}
@@ -25,8 +25,8 @@ as_action disk.Idle = None
 as_action disk.Stop = None
 
 -- What is in progress with a slave.
-abbrev pub asked_of : Errand → Asked
-asked_of Free = Nothing
+abbrev pub asked_of : Operation → Asked
+asked_of NoOperation = Nothing
 asked_of (Issuing word value) = Issue
 asked_of (Unsettled word value taken) = Nothing
 asked_of (Settling word value taken) = Settle taken
@@ -50,7 +50,7 @@ asked_then (Settle taken) outcomes.Stopped = Nothing
 
 -- What is in progress with each slave.
 abbrev pub all_asked : List Slave → List Asked
-all_asked slaves = map (λ (slave : Slave). asked_of slave.errand) slaves
+all_asked slaves = map (λ (slave : Slave). asked_of slave.operation) slaves
 
 -- The invariant of a station that is up: it knows what is in progress with the disk and with each slave.
 pub record KnowsProgress (action : Option DiskNext) (asked : List Asked) (book : Book) : Type 0 where
@@ -62,4 +62,4 @@ pub record KnowsProgress (action : Option DiskNext) (asked : List Asked) (book :
 pub record IsClosedAndIdle (book : Book) : Type 0 where
   pub fault : is_some book.fault ≡ true
   pub disk : book.is_handed_out ≡ false
-  pub slaves : AllByRecursion (λ (slave : Slave). asked_of slave.errand ≡ Nothing) book.slaves
+  pub slaves : AllByRecursion (λ (slave : Slave). asked_of slave.operation ≡ Nothing) book.slaves

@@ -6,7 +6,7 @@ use Rattle.book_model.specs.declared.next.RomNext.TheVariants as next
 use Rattle.book_model.specs.Book.{Book}
 use Rattle.book_model.specs.RomSteps.{rom_next}
 use Rattle.world_law.specs.World as law
-use Rattle.world_law.specs.World.{World, Told}
+use Rattle.world_law.specs.World.{World, Reported}
 use Rattle.world_law.specs.Happenings.{Happens}
 use Rattle.world_run.specs.declared.happenings.Event.{Event}
 use Rattle.world_run.specs.declared.happenings.Event.TheVariants as events
@@ -52,8 +52,8 @@ IsChosen event old new = Unit {0}
 
 -- The event has happened with its choices. Or it can't happen, and nothing has changed.
 pub data Happened (event : Event) (old new : World) : Type 0 where
-  happens : (told : Told) → Happens (as_event event) old told new → IsChosen event old new → Happened event old new
-  cannot : ((told : Told) (later : World) → Happens (as_event event) old told later → ⊥) → new ≡ old → Happened event old new
+  happens : (reported : Reported) → Happens (as_event event) old reported new → IsChosen event old new → Happened event old new
+  cannot : ((reported : Reported) (later : World) → Happens (as_event event) old reported later → ⊥) → new ≡ old → Happened event old new
 
 -- The events that take memory.
 abbrev pub TakesMemory : Event → Type 0

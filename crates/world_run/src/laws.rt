@@ -5,7 +5,7 @@ ghost use Rattle.book_model.specs.Kept.{Kept};
 ghost use Rattle.book_model.specs.Machine.{Machine};
 ghost use Rattle.book_model.specs.declared.fault.CoreFault.{CoreFault};
 ghost use Rattle.book_model.specs.Opening.{words_in};
-ghost use Rattle.world_law.specs.World.{Told, World};
+ghost use Rattle.world_law.specs.World.{Reported, World};
 ghost use Rattle.world_law.specs.Happenings.{Steps};
 ghost use Rattle.world_law.specs.Law.{MachineFits, Starts};
 ghost use Rattle.world_run.specs.declared.happenings.Event.{Event};
@@ -15,7 +15,7 @@ ghost use Rattle.world_run.specs.Torn.{synced_of};
 /// Every step of a world in memory is a step of the main law.
 pub fn a_step_is_one_of_the_law()
     ensures { (event : Event) (old new : World) (result : Result (Unit {0}) CoreFault) → Went event old result new
-        → (told : Told) × Steps (as_event event) old told new }
+        → (reported : Reported) × Steps (as_event event) old reported new }
 {}
 
 /// The main law starts from a world that is down, with idle slaves, whose disk was made of bytes with a journal that is kept. Such are

@@ -194,7 +194,7 @@ impl Station {
 
     /// What is in progress with the slave.
     pub(crate) fn asked(&self, slave: u16) -> Asked
-        ensures { result ≡ asked_of (slave_at self.now slave).errand }
+        ensures { result ≡ asked_of (slave_at self.now slave).operation }
     {
         let at = usize::from(slave);
         if at >= self.asked.len() {

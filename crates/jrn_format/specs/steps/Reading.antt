@@ -121,15 +121,15 @@ pub data Front : Type 0 where
   Bad : JournalFault → Front
 
 -- A batch that was read, or a fault at this offset.
-abbrev pub judged : List ℕ → (at : ℕ) → Option (Batch × List ℕ) → Front
-judged sizes at None = Bad (BadJournal at)
-judged sizes at (Some x) = if batch_is_within sizes x.0 then Live x.0 x.1 else Bad WrongLine
+abbrev pub validated : List ℕ → (at : ℕ) → Option (Batch × List ℕ) → Front
+validated sizes at None = Bad (BadJournal at)
+validated sizes at (Some x) = if batch_is_within sizes x.0 then Live x.0 x.1 else Bad WrongLine
 
 -- What the bytes begin with, where `end` is the file offset just past them.
 unfoldable pub front_of : Spelling → ℕ → List ℕ → (end : ℕ) → List ℕ → Front
 front_of spelling half sizes end [] = Closed
-front_of spelling half sizes end (gate ∷ behind) =
-    if gate == 0xA5 then judged sizes (end - (length behind + 1)) (batch_at spelling half behind) else Closed
+front_of spelling half sizes end (gate ∷ after) =
+    if gate == 0xA5 then validated sizes (end - (length after + 1)) (batch_at spelling half after) else Closed
 
 -- The result of a reader of that: the batch and the bytes after it, or None at a closed gate.
 abbrev pub Finds : {X : Type 0} → (X → Batch × List ℕ) → Result (Option X) JournalFault → Front → Type 0
@@ -138,16 +138,16 @@ Finds view (Ok None) front = front ≡ Closed
 Finds view (Err fault) front = UnlessMemory fault (front ≡ Bad fault)
 
 -- All batches of an area that begins so.
-abbrev pub batches_behind : Front → (List ℕ → Result (List Batch) JournalFault) → Result (List Batch) JournalFault
-batches_behind Closed others = Ok []
-batches_behind (Live batch rest) others = others rest >>> λ batches. Ok (batch ∷ batches)
-batches_behind (Bad fault) others = Err fault
+abbrev pub batches_after : Front → (List ℕ → Result (List Batch) JournalFault) → Result (List Batch) JournalFault
+batches_after Closed others = Ok []
+batches_after (Live batch rest) others = others rest >>> λ batches. Ok (batch ∷ batches)
+batches_after (Bad fault) others = Err fault
 
 -- The batches of an area that has fewer than n.
 unfoldable pub batches_below : Spelling → ℕ → List ℕ → (end n : ℕ) → List ℕ → Result (List Batch) JournalFault
 batches_below spelling half sizes end zero area = Ok []
 batches_below spelling half sizes end (suc n) area =
-    batches_behind (front_of spelling half sizes end area) (batches_below spelling half sizes end n)
+    batches_after (front_of spelling half sizes end area) (batches_below spelling half sizes end n)
 
 -- All batches of an area: there are no more of them than bytes.
 unfoldable pub batches_of : Spelling → ℕ → List ℕ → (end : ℕ) → List ℕ → Result (List Batch) JournalFault
@@ -192,19 +192,19 @@ is_marked short = false
 
 -- The form by the version byte and the bytes after the header.
 unfoldable pub form_of : ℕ → List ℕ → Result Form JournalFault
-form_of version behind =
-    if version == 1 then Ok One else if version == 2 then Ok Two else if is_marked behind then Ok Moving else Err (BadVersion version)
+form_of version after =
+    if version == 1 then Ok One else if version == 2 then Ok Two else if is_marked after then Ok Moving else Err (BadVersion version)
 
 -- The test of IsCapacity.
 abbrev pub is_capacity : ℕ → Bool
 is_capacity capacity = nat_le 4096 capacity && nat_le capacity 4194304
 
 -- The area after a header that states this number of slaves and this capacity, in a file of `size` bytes.
-unfoldable pub area_behind : (size slaves stated capacity : ℕ) → List ℕ → Form → Result (Form × List ℕ) JournalFault
-area_behind size slaves stated capacity behind form =
+unfoldable pub area_after : (size slaves stated capacity : ℕ) → List ℕ → Form → Result (Form × List ℕ) JournalFault
+area_after size slaves stated capacity after form =
     if stated == slaves
     then (if is_capacity capacity
-    then (if nat_le capacity (length behind) then Ok (form, take capacity behind) else Err (BadJournal size))
+    then (if nat_le capacity (length after) then Ok (form, take capacity after) else Err (BadJournal size))
     else Err (BadJournal 4))
     else Err WrongLine
 
@@ -213,7 +213,7 @@ unfoldable pub area_of : List ℕ → (slaves : ℕ) → Result (Form × List �
 area_of file slaves =
     if nat_lt (length file) 8 then Err NotAJournal
     else if slice_index file 0 == 0xA5
-    then (form_of (slice_index file 1) (drop 8 file) >>> area_behind (length file) slaves (field_at w16 2 file) (field_at w32 4 file) (drop 8 file))
+    then (form_of (slice_index file 1) (drop 8 file) >>> area_after (length file) slaves (field_at w16 2 file) (field_at w32 4 file) (drop 8 file))
     else Err NotAJournal
 
 -- The live batches of an area of this form.

@@ -12,7 +12,7 @@ pub(super) struct Recorder {
     // The bytes of all frames, one frame after another.
     sent: Vec<u8>,
     // Whether memory was refused for none of them.
-    is_whole: bool,
+    is_complete: bool,
     // How many frames pass, and how many are lost then.
     passing: u32,
     losing: u32,
@@ -23,7 +23,7 @@ impl Recorder {
         Recorder {
             site,
             sent: Vec::new(alloc),
-            is_whole: true,
+            is_complete: true,
             passing,
             losing,
         }
@@ -46,7 +46,7 @@ impl Recorder {
         ensures { self.new.site ≡ self.old.site }
     {
         let recorded = self.sent.extend_from_slice(frame.as_bytes());
-        self.is_whole &= recorded.is_ok();
+        self.is_complete &= recorded.is_ok();
         self.plan();
     }
 
@@ -59,7 +59,7 @@ impl Recorder {
                 None => return false,
             }
         }
-        left.is_empty() && self.is_whole
+        left.is_empty() && self.is_complete
     }
 
     // Lets go of the recorder, and of its site.
@@ -67,7 +67,7 @@ impl Recorder {
         let Recorder {
             site,
             sent,
-            is_whole: _,
+            is_complete: _,
             passing: _,
             losing: _,
         } = self;

@@ -18,7 +18,7 @@ enum Act {
     Poll(u8),
     // A datagram with this command, address and number of zeros adds this to the working counter.
     Take(Command, u32, usize, u16),
-    // This number of datagrams pass, and a word is in flight behind each.
+    // This number of datagrams pass, and a word is in flight after each.
     Pass(u32),
     // A word in flight ends so.
     End(Rest),
@@ -26,7 +26,7 @@ enum Act {
     Hold(u16, Option<WordWrite>),
     // This byte is written to 0x0500 (1 offers the EEPROM to the PDI), then control and status with the low byte of the address. The
     // status byte is this one, and 0 once the errors are cleared.
-    Judge(u8, [u8; 3], u8),
+    Validate(u8, [u8; 3], u8),
     // A copy of the half has its words.
     IsCopied,
 }
@@ -118,16 +118,16 @@ const CASES: &[Case] = &[
         0x0030,
         0,
         &[
-            Act::Judge(0, [0x00, 0x02, 0], 0x42),
-            Act::Judge(0, [0x01, 0x04, 0], 0x24),
-            Act::Judge(0, [0x01, 0x02, 64], 0x22),
-            Act::Judge(0, [0x01, 0x02, 63], 0x02),
-            Act::Judge(0, [0x00, 0x02, 64], 0x62),
-            Act::Judge(0, [0x00, 0x01, 63], 0x21),
-            Act::Judge(0, [0x00, 0x01, 62], 0x01),
-            Act::Judge(1, [0x00, 0x01, 0], 0x21),
-            Act::Judge(1, [0x00, 0x02, 0], 0x62),
-            Act::Judge(2, [0x01, 0x02, 0], 0x02),
+            Act::Validate(0, [0x00, 0x02, 0], 0x42),
+            Act::Validate(0, [0x01, 0x04, 0], 0x24),
+            Act::Validate(0, [0x01, 0x02, 64], 0x22),
+            Act::Validate(0, [0x01, 0x02, 63], 0x02),
+            Act::Validate(0, [0x00, 0x02, 64], 0x62),
+            Act::Validate(0, [0x00, 0x01, 63], 0x21),
+            Act::Validate(0, [0x00, 0x01, 62], 0x01),
+            Act::Validate(1, [0x00, 0x01, 0], 0x21),
+            Act::Validate(1, [0x00, 0x02, 0], 0x62),
+            Act::Validate(2, [0x01, 0x02, 0], 0x02),
         ],
     ),
     // An idle half, and then a busy one.
@@ -219,7 +219,7 @@ fn stays_busy(half: &mut RomHalf, datagrams: u32) -> bool {
     is_busy
 }
 
-fn is_judged(half: &mut RomHalf, access: u8, order: &[u8; 3], status: u8) -> bool {
+fn is_validated(half: &mut RomHalf, access: u8, order: &[u8; 3], status: u8) -> bool {
     write(half, 0x0500, &[access]) == 1
         && write(half, 0x0502, &[order[0], order[1], order[2], 0, 0, 0]) == 1
         && polled(half) == status
@@ -255,7 +255,7 @@ fn comes(half: &mut RomHalf, act: &Act) -> bool {
             true
         }
         Act::Hold(alias, write) => holds(half, *alias, write),
-        Act::Judge(access, order, status) => is_judged(half, *access, order, *status),
+        Act::Validate(access, order, status) => is_validated(half, *access, order, *status),
         Act::IsCopied => is_copied(half),
     }
 }

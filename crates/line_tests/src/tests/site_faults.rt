@@ -299,7 +299,7 @@ const CUTS: &[Case] = &[
     },
 ];
 
-// Bytes 1 and 2 are written, or a byte behind the end is, and a word is issued. Nothing is synced.
+// Bytes 1 and 2 are written, or a byte after the end is, and a word is issued. Nothing is synced.
 const INSIDE: Case = Case {
     deeds: &[
         Deed::Disk(DiskDeed::WriteAt(1, &[8, 9])),
@@ -310,7 +310,7 @@ const INSIDE: Case = Case {
     ..ONE
 };
 
-const BEHIND: Case = Case {
+const AFTER: Case = Case {
     deeds: &[Deed::Disk(DiskDeed::WriteAt(4, &[5])), Deed::Send(Ok(()))],
     is_snapshot: true,
     words: &[(0, true)],
@@ -320,14 +320,14 @@ const BEHIND: Case = Case {
 // A snapshot is what a power cut leaves, by the pattern of the fuse, or `Old` without one.
 const SNAPSHOTS: &[Case] = &[
     INSIDE,
-    BEHIND,
+    AFTER,
     Case {
         fuse: Some((9, Pattern::Old)),
         ..INSIDE
     },
     Case {
         fuse: Some((9, Pattern::Old)),
-        ..BEHIND
+        ..AFTER
     },
     Case {
         fuse: Some((9, Pattern::New)),
@@ -337,7 +337,7 @@ const SNAPSHOTS: &[Case] = &[
     Case {
         fuse: Some((9, Pattern::New)),
         disk: &[1, 2, 3, 4, 5],
-        ..BEHIND
+        ..AFTER
     },
     Case {
         fuse: Some((9, Pattern::Fill(0x12a5))),
@@ -347,7 +347,7 @@ const SNAPSHOTS: &[Case] = &[
     Case {
         fuse: Some((9, Pattern::Fill(0x12a5))),
         disk: &[1, 2, 3, 4, 0xa5],
-        ..BEHIND
+        ..AFTER
     },
 ];
 

@@ -6,7 +6,7 @@ use Rattle.sii_cats.specs.steps.Items.Front.{Ended, Item, Broken}
 use Rattle.sii_cats.specs.declared.categories.Category.{Category}
 use Rattle.sii_cats.specs.declared.fault.ChainFault.{ChainFault}
 
--- the category in front, behind its type word
+-- the category in front, after its type word
 abbrev pub content_at : ℕ → List ℕ → Front Member
 content_at kind [] = Broken
 content_at kind (count ∷ words) =
@@ -38,7 +38,7 @@ HeaderGives words at (Ok (Some c)) = (c.at ≡ at) × (end_of c ≤ length words
 HeaderGives words at (Ok None) = member_at (drop at words) ≡ Ended
 HeaderGives words at (Err fault) = ChainFails (λ k. (k ≡ at) × (member_at (drop at words) ≡ Broken)) fault
 
--- The whole chain was read: these are its categories, and this is the word behind it.
+-- The whole chain was read: these are its categories, and this is the word after it.
 pub record IsWalked (words : List ℕ) (categories : List Category) (at : ℕ) : Type 0 where
   pub read : members_of words ≡ Ok (map (member_of words) categories)
   pub placed : ArePlaced words categories

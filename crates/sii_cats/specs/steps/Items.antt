@@ -14,15 +14,15 @@ abbrev pub ◌>>=◌ : {A B E : Type 0} → Result A E → (A → Result B E) �
 (Err e) >>= f = Err e
 
 -- the items up to the end, or what is left where none can be read
-abbrev pub items_behind : {X : Type 0} → List ℕ → Front X → (List ℕ → Result (List X) (List ℕ)) → Result (List X) (List ℕ)
-items_behind cells Ended others = Ok []
-items_behind cells (Item x rest) others = others rest >>= λ xs. Ok (x ∷ xs)
-items_behind cells Broken others = Err cells
+abbrev pub items_after : {X : Type 0} → List ℕ → Front X → (List ℕ → Result (List X) (List ℕ)) → Result (List X) (List ℕ)
+items_after cells Ended others = Ok []
+items_after cells (Item x rest) others = others rest >>= λ xs. Ok (x ∷ xs)
+items_after cells Broken others = Err cells
 
 -- the items, of which there must be fewer than n
 unfoldable pub items_below : {X : Type 0} → (List ℕ → Front X) → ℕ → List ℕ → Result (List X) (List ℕ)
 items_below front zero cells = Err cells
-items_below front (suc n) cells = items_behind cells (front cells) (items_below front n)
+items_below front (suc n) cells = items_after cells (front cells) (items_below front n)
 
 -- all items; there are no more of them than cells
 unfoldable pub items_of : {X : Type 0} → (List ℕ → Front X) → List ℕ → Result (List X) (List ℕ)

@@ -11,7 +11,7 @@ RebuiltFails words front (RunsOut at) = ⊥
 RebuiltFails words front (BadCategory k) = ⊥
 RebuiltFails words front NoRoom = length words < length front
 
--- What `rebuilt` answers: the front, and behind it the end mark and the old words.
+-- What `rebuilt` answers: the front, and after it the end mark and the old words.
 abbrev pub GivesRebuilt : {V : Type 0} → (V → List ℕ) → List ℕ → List ℕ → Result V CatFault → Type 0
 GivesRebuilt view words front (Ok v) = (length front ≤ length words) × (view v ≡ front ++ closing (drop (length front) words))
 GivesRebuilt view words front (Err fault) = RebuiltFails words front fault

@@ -1,4 +1,4 @@
--- Rows placed one behind the other.
+-- Rows placed one after the other.
 use Rattle.std.specs.Prelude.{◌≡◌, ℕ, ◌+◌, ◌<◌, List, [], ◌∷◌, ◌++◌, Result, Ok, Err}
 use Rattle.sii_image.specs.declared.process_image.Segment.{Segment}
 use Rattle.sii_image.specs.declared.rows.Row.{Row}
@@ -7,12 +7,12 @@ use Rattle.sii_image.specs.declared.fault.ImageFault.TheVariants.{Memory, ImageO
 use Rattle.sii_image.specs.declared.placement.Placement.{Placement}
 use Rattle.sii_image.specs.ProcessImage.{segment_at, size_of, total}
 
--- the segments of rows one behind the other, the first at this offset
+-- the segments of rows one after the other, the first at this offset
 abbrev pub segments_from : ℕ → List (ℕ × Row) → List Segment
 segments_from offset [] = []
 segments_from offset (r ∷ rows) = segment_at offset r ∷ segments_from (offset + size_of r.1) rows
 
--- These rows were placed behind the earlier ones.
+-- These rows were placed after the earlier ones.
 pub record AreAdded (old new : Placement) (rows : List (ℕ × Row)) : Type 0 where
   pub segments : new.segments.items ≡ old.segments.items ++ segments_from old.size rows
   pub size : new.size ≡ old.size + total rows

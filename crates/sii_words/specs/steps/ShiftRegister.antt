@@ -3,7 +3,7 @@ use Rattle.std.specs.Prelude.{◌≡◌, ℕ, ◌+◌, Bool, List, ◌++◌, len
 use Rattle.sii_words.specs.CheckByte.{bits_of_byte, minus, divided}
 
 -- shifting these bits through takes the register from `before` to `after`: the division subtracts `before` from these bits and
--- those behind them, and goes on with `after` subtracted from those behind them
+-- those after them, and goes on with `after` subtracted from those after them
 abbrev pub ShiftsThrough : List Bool → ℕ → ℕ → Type 0
 ShiftsThrough bits before after = (digits : ℕ) (rest : List Bool)
     → divided (length bits + digits) (minus (bits ++ rest) (bits_of_byte before)) ≡ divided digits (minus rest (bits_of_byte after))

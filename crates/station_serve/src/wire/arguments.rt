@@ -4,14 +4,14 @@ use crate::arguments::form_of;
 use crate::pages::code_asked;
 use crate::wire::rows::{rows, wire_program};
 use crate::wire::sizes::sizes_of;
-use command_line::{Given, Unread, read_typed, read_words, refuse};
+use command_line::{ParsedArguments, Unread, read_typed, read_words, refuse};
 use station_listing::Code;
 use station_rows::Form;
 use std::alloc::Global;
 use std::time::Duration;
 use wire_bringup::Sizes;
 use wire_frames::{FRAME_BYTES, Room};
-use wire_scan::{Asked, CaptureNames, Named, Tells};
+use wire_scan::{CaptureNames, Named, ScanOptions, Tells};
 use wire_session::RunOrder;
 
 /// A command line: what it asks for, and where its text and its frames go.
@@ -24,7 +24,7 @@ pub struct Arguments<'a> {
     /// The name of the file that each frame is written to, if there is one.
     pub capture: Option<&'a str>,
     /// The capture and the files that it may be none of, if there are any.
-    pub apart: Option<CaptureNames<'a>>,
+    pub separate: Option<CaptureNames<'a>>,
     /// Whose the wire is.
     pub tenure: Tenure,
     /// Whether faults have a second line where standard error is no terminal, too.
@@ -66,7 +66,7 @@ pub enum Task<'a> {
         /// The name of the line file.
         line: &'a str,
         /// What is asked for that isn't done where nothing is said.
-        asked: Asked,
+        asked: ScanOptions,
     },
     /// Runs a script on the line.
     Run(RunOrder<'a>),
@@ -82,7 +82,7 @@ pub enum Task<'a> {
         /// The name of the line file.
         line: &'a str,
         /// What is asked for that isn't done where nothing is said.
-        asked: Asked,
+        asked: ScanOptions,
     },
     /// Explains one code, or all of them.
     Explain {
@@ -118,7 +118,7 @@ pub fn read_arguments<'a>(alloc: Global, words: &'a [String]) -> Result<Argument
             text: given.text("text"),
             time_out: given.milliseconds("timeout"),
             capture: given.text("capture"),
-            apart: apart_in(&given),
+            separate: separate_in(&given),
             tenure,
             is_verbose: given.has("verbose"),
             is_quiet: given.has("quiet") || matches!(task, Task::Explain { .. }),
@@ -130,7 +130,7 @@ pub fn read_arguments<'a>(alloc: Global, words: &'a [String]) -> Result<Argument
 }
 
 /// The capture, and the names of the line file and the script, if there is a capture and a line file.
-fn apart_in<'a>(given: &Given<'a>) -> Option<CaptureNames<'a>> {
+fn separate_in<'a>(given: &ParsedArguments<'a>) -> Option<CaptureNames<'a>> {
     Some(CaptureNames {
         capture: given.text("capture")?,
         line: given.text("LINE")?,
@@ -139,7 +139,7 @@ fn apart_in<'a>(given: &Given<'a>) -> Option<CaptureNames<'a>> {
 }
 
 /// Whose the wire is, as the options of the subcommand say, or why they are refused.
-fn tenure_of(given: &Given<'_>) -> Result<Tenure, &'static str> {
+fn tenure_of(given: &ParsedArguments<'_>) -> Result<Tenure, &'static str> {
     let carried = given.text("carry");
     if !given.has("beside") {
         return match carried {
@@ -176,7 +176,7 @@ fn room_of(text: &str) -> Option<Room> {
 }
 
 /// The task of the subcommand that was given, or why its words are refused.
-fn task_of<'a>(given: &Given<'a>) -> Result<Task<'a>, &'static str> {
+fn task_of<'a>(given: &ParsedArguments<'a>) -> Result<Task<'a>, &'static str> {
     let line = given.word("LINE");
     let form = form_of(given);
     let task = match given.subcommand {
@@ -187,7 +187,7 @@ fn task_of<'a>(given: &Given<'a>) -> Result<Task<'a>, &'static str> {
         "backup" => backup_task(given, sizes_in(given)?),
         "init" => Task::Init {
             line,
-            asked: asked_apart(given),
+            asked: asked_separate(given),
         },
         "run" => Task::Run(order_of(given)),
         "plan" => Task::Plan {
@@ -196,7 +196,7 @@ fn task_of<'a>(given: &Given<'a>) -> Result<Task<'a>, &'static str> {
         },
         "recover" => Task::Recover {
             line,
-            asked: asked_apart(given),
+            asked: asked_separate(given),
         },
         "explain" => Task::Explain {
             code: code_asked(given)?,
@@ -207,7 +207,7 @@ fn task_of<'a>(given: &Given<'a>) -> Result<Task<'a>, &'static str> {
 }
 
 /// The task of `backup`: a line file is named, or a folder.
-fn backup_task<'a>(given: &Given<'a>, sizes: Sizes) -> Task<'a> {
+fn backup_task<'a>(given: &ParsedArguments<'a>, sizes: Sizes) -> Task<'a> {
     match given.text("to") {
         Some(folder) => Task::BackupTo { folder, sizes },
         None => Task::Backup {
@@ -218,14 +218,14 @@ fn backup_task<'a>(given: &Given<'a>, sizes: Sizes) -> Task<'a> {
 }
 
 /// The sizes of EEPROMs that are given.
-fn sizes_in(given: &Given<'_>) -> Result<Sizes, &'static str> {
+fn sizes_in(given: &ParsedArguments<'_>) -> Result<Sizes, &'static str> {
     sizes_of(given.word("words")).ok_or(
         "--words is SLAVE=N,.. with N from 64 to 4096, a multiple of 64",
     )
 }
 
 /// What `run` or `plan` is given.
-fn order_of<'a>(given: &Given<'a>) -> RunOrder<'a> {
+fn order_of<'a>(given: &ParsedArguments<'a>) -> RunOrder<'a> {
     RunOrder {
         named: Named {
             line: given.word("LINE"),
@@ -236,8 +236,8 @@ fn order_of<'a>(given: &Given<'a>) -> RunOrder<'a> {
 }
 
 /// What the flags ask for.
-fn asked_in(given: &Given<'_>) -> Asked {
-    Asked {
+fn asked_in(given: &ParsedArguments<'_>) -> ScanOptions {
+    ScanOptions {
         trusts_images: given.has("trust-images"),
         is_forced: given.has("force"),
         resizes: given.has("resize"),
@@ -249,8 +249,8 @@ fn asked_in(given: &Given<'_>) -> Asked {
 }
 
 /// What the flags of `init` and `recover` ask for. Their `--force` is about EEPROMs beside a master, and not about slaves in operation.
-fn asked_apart(given: &Given<'_>) -> Asked {
-    Asked {
+fn asked_separate(given: &ParsedArguments<'_>) -> ScanOptions {
+    ScanOptions {
         is_forced: false,
         ..asked_in(given)
     }

@@ -17,7 +17,7 @@ use std::thread::Threads;
 use std::time::Duration;
 use wire_faults::WireFault;
 use wire_frames::{EthernetWire, NumberedWire, TimedWire, Wire};
-use wire_scan::{CaptureNames, keep_capture_apart, scan_line};
+use wire_scan::{CaptureNames, keep_capture_separate, scan_line};
 use wire_session::{init_on_wire, plan_on_wire, recover_line, run_script};
 
 /// A connection to a line.
@@ -25,7 +25,7 @@ use wire_session::{init_on_wire, plan_on_wire, recover_line, run_script};
 pub struct Connection<R, W> {
     /// The wire, which is read and written by these two.
     pub wire: EthernetWire<R, W>,
-    /// The number behind which the frames are numbered.
+    /// The number after which the frames are numbered.
     pub number: u32,
 }
 
@@ -35,7 +35,7 @@ pub struct Screen<'a, E, T> {
     /// The stream for faults.
     pub faults: &'a mut E,
     /// Whether a fault of the line has a second line.
-    pub is_told: bool,
+    pub is_reported: bool,
     /// The terminal for the line with the progress, if there is one.
     pub terminal: Option<T>,
 }
@@ -46,7 +46,7 @@ pub struct Screen<'a, E, T> {
 ///
 /// Each frame is written down in the file of the capture, if one is named, once it is sent or received. Where the capture can't begin, no
 /// frame is sent and nothing is read or written. If it can't be written further, the work goes on as without it, and the fault is printed
-/// behind all others.
+/// after all others.
 pub fn serve_on_wire<
     H: Wait + Threads + Clock + AllocGlobal + Sync,
     R: Read + Send + Drop,
@@ -86,7 +86,7 @@ fn serve_noting<
     store: &mut S,
     output: &mut O,
 ) -> ExitStatus {
-    let mut noting = Noting::new(rt.alloc(), store, screen.is_told);
+    let mut noting = Noting::new(rt.alloc(), store, screen.is_reported);
     serve_job(rt, arguments, screen, connection, &mut noting, output)
 }
 
@@ -110,7 +110,7 @@ fn serve_job<
     let Arguments {
         task,
         capture,
-        apart,
+        separate,
         time_out,
         tenure,
         is_quiet,
@@ -118,13 +118,13 @@ fn serve_job<
     } = arguments;
     let Screen {
         faults,
-        is_told,
+        is_reported,
         terminal,
     } = screen;
     let Connection { wire, number } = connection;
-    match begin_apart(rt.alloc(), capture, apart, store) {
+    match begin_separate(rt.alloc(), capture, separate, store) {
         Ok(begun) => {
-            let job = Job {
+            let job = WireJob {
                 task,
                 time_out,
                 tenure,
@@ -132,7 +132,7 @@ fn serve_job<
                 terminal: if is_quiet { None } else { terminal },
             };
             let ended = do_observed(rt, job, begun.as_ref(), wire, store, output);
-            let status = status_of(ended, is_told, store, faults);
+            let status = status_of(ended, is_reported, store, faults);
             let mut failures = Failures::none();
             let status = end_capture(begun, status, &mut failures);
             failures.print(faults);
@@ -141,7 +141,7 @@ fn serve_job<
         Err(fault) => {
             drop(wire);
             let status = report_fault(fault, faults);
-            if is_told {
+            if is_reported {
                 tell_file(fault, CAPTURE_OR_OUTPUT, store, faults);
             }
             status
@@ -151,7 +151,7 @@ fn serve_job<
 
 /// What is done on a wire, and how.
 #[derive(Drop)]
-struct Job<'a, T> {
+struct WireJob<'a, T> {
     task: Task<'a>,
     time_out: Option<Duration>,
     tenure: Tenure,
@@ -171,13 +171,13 @@ fn do_observed<
     T: Write + Send + Drop,
 >(
     rt: &H,
-    job: Job<'_, T>,
+    job: WireJob<'_, T>,
     capture: Option<&Capture<S::File>>,
     wire: EthernetWire<R, W>,
     store: &mut S,
     output: &mut O,
 ) -> Result<ExitStatus, WireFault> {
-    let Job {
+    let WireJob {
         task,
         time_out,
         tenure,
@@ -200,15 +200,15 @@ fn do_observed<
 ///
 /// # Errors
 ///
-/// As for `keep_capture_apart`, and then as for `begin_capture`.
-fn begin_apart<S: Store>(
+/// As for `keep_capture_separate`, and then as for `begin_capture`.
+fn begin_separate<S: Store>(
     alloc: Global,
     capture: Option<&str>,
-    apart: Option<CaptureNames<'_>>,
+    separate: Option<CaptureNames<'_>>,
     store: &mut S,
 ) -> Result<Option<Capture<S::File>>, Fault> {
-    if let Some(names) = apart {
-        keep_capture_apart(alloc, names, store)?;
+    if let Some(names) = separate {
+        keep_capture_separate(alloc, names, store)?;
     }
     begin_capture(capture, store)
 }
@@ -261,10 +261,10 @@ where
     Ok(ExitStatus::Done)
 }
 
-/// The exit status for a result: that of what was done, or that of the fault, which is printed, with what there is to tell of it if `is_told`.
+/// The exit status for a result: that of what was done, or that of the fault, which is printed, with what there is to tell of it if `is_reported`.
 fn status_of<S: Store, E: Write>(
     ended: Result<ExitStatus, WireFault>,
-    is_told: bool,
+    is_reported: bool,
     store: &Noting<'_, S>,
     faults: &mut E,
 ) -> ExitStatus {
@@ -272,7 +272,7 @@ fn status_of<S: Store, E: Write>(
         Ok(status) => status,
         Err(fault) => {
             let _ = writeln!(faults, "{fault}");
-            if is_told {
+            if is_reported {
                 let _ = fault.tell(faults);
                 if let WireFault::Station(fault) = fault {
                     tell_file(fault, OUTPUT, store, faults);
@@ -290,8 +290,8 @@ fn tell_file<S: Store, E: Write>(
     store: &Noting<'_, S>,
     faults: &mut E,
 ) {
-    if let Some(told) = store.told(fault.code(), streams) {
-        let _ = writeln!(faults, "{told}; see sii_wire explain");
+    if let Some(reported) = store.reported(fault.code(), streams) {
+        let _ = writeln!(faults, "{reported}; see sii_wire explain");
     }
 }
 

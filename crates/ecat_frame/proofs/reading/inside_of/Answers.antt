@@ -16,4 +16,4 @@ returns-then-stated-gt-MAX_INSIDE-clause-err c =
 pub returns-clause-ok : goal.returns-clause-ok
 returns-clause-ok c =
     let header = has_header c.args.bytes.now (λ i. omega (arith, c.type_inv.bytes i)) c.in-len2-up.len_at_least _ c.from_le_bytes-header.ensures in
-    header_inside _ _ _ header c.if-header-ne-TYPE.false c.if-stated-behind.false c.if-stated-gt-MAX_INSIDE.false
+    header_inside _ _ _ header c.if-header-ne-TYPE.false c.if-stated-after.false c.if-stated-gt-MAX_INSIDE.false

@@ -2,7 +2,7 @@ use Rattle.std.proofs.Common.{◌≡◌, ℕ, ◌+◌, ◌*◌, ◌%◌, ◌<◌
 use Rattle.site_core.specs.Line.{Line, Owns}
 use Rattle.esc_rom.specs.Runs.{Ran, Waited}
 use Rattle.esc_rom.specs.WordPairs.{ReadsPair, ReadsAll}
-use Rattle.esc_rom.proofs.Runs.{Ran-told, Ran-cut, IsCut-more, cut_as}
+use Rattle.esc_rom.proofs.Runs.{Ran-reported, Ran-cut, IsCut-more, cut_as}
 use Rattle.esc_rom.proofs.AllWords.{Filled, filled_none, filled_more, filled_not, filled_all, never_rests}
 use Rattle.esc_rom.specs.Courses.{Ends, OnlyIf, UpTo}
 use Rattle.esc_rom.specs.Sent.{WaitsBy, ReadsPairBy, ReadsNext}
@@ -13,11 +13,11 @@ pub returns-in_err-_rested-clause-runs : goal.returns-in_err-_rested-clause-runs
 returns-in_err-_rested-clause-runs g c = cut_as (ReadsAll _ c.args.slave _ c.args.words.now) c.args.slave c.from_residual.result c.from_residual.ensures.0 (IsCut-more (omega arith) c.in_err-_rested.ensures.runs)
 
 pub returns-in_default-clause-runs : goal.returns-in_default-clause-runs
-returns-in_default-clause-runs g c = never_rests c.args.words.now (omega arith) (Ran-told (λ old. Waited old c.args.slave) c.in_default.is c.in_ok-_rested.ensures.runs)
+returns-in_default-clause-runs g c = never_rests c.args.words.now (omega arith) (Ran-reported (λ old. Waited old c.args.slave) c.in_default.is c.in_ok-_rested.ensures.runs)
 
 pub loop-pair-init : goal.loop-pair-init
 loop-pair-init g c = record {
-  ran = filled_none c.in-Some._rested (Ran-told (λ old. Waited old c.args.slave) c.in-Some.is c.in_ok-_rested.ensures.runs);
+  ran = filled_none c.in-Some._rested (Ran-reported (λ old. Waited old c.args.slave) c.in-Some.is c.in_ok-_rested.ensures.runs);
   length = refl;
   frames = record {
     rested = c.in-Some._rested;
@@ -44,7 +44,7 @@ returns-in_default-2-clause-runs g c =
     let long : c.len-pair-end.result ≡ length c.args.words.now = c.len-pair-end.ensures.len in
     let same_long : length c.loop-pair.words ≡ length c.args.words.now = c.loop-pair.invariant.length in
     let room : 2 * c.loop-pair.pair + 1 < length c.loop-pair.words = omega arith in
-    filled_not c.loop-pair.pair room (omega arith) c.loop-pair.invariant.ran (Ran-told (λ old. ReadsPair old c.args.slave (2 * c.loop-pair.pair)) c.in_default-2.is c.in_ok-found.ensures.runs)
+    filled_not c.loop-pair.pair room (omega arith) c.loop-pair.invariant.ran (Ran-reported (λ old. ReadsPair old c.args.slave (2 * c.loop-pair.pair)) c.in_default-2.is c.in_ok-found.ensures.runs)
 
 pub loop-pair-preserved : goal.loop-pair-preserved
 loop-pair-preserved g c =
@@ -59,7 +59,7 @@ loop-pair-preserved g c =
     let d = g.S.Site.seen c.read_pair.new.site in
     let both : List ℕ = slice_set (slice_set words (2 * i) found.first) (2 * i + 1) found.second in
     let more : Ran (Filled c.args.slave both (2 * i + 2)) a c.args.slave (10000 + 30006 * (i + 1)) d =
-    filled_more room (omega arith) c.loop-pair.invariant.ran (Ran-told (λ old. ReadsPair old c.args.slave (2 * c.loop-pair.pair)) c.in-Some-2.is c.in_ok-found.ensures.runs) in
+    filled_more room (omega arith) c.loop-pair.invariant.ran (Ran-reported (λ old. ReadsPair old c.args.slave (2 * c.loop-pair.pair)) c.in-Some-2.is c.in_ok-found.ensures.runs) in
     let set : c.set-in-loop-pair.new.self ≡ both = c.set-in-loop-pair.ensures ∙ ap (λ (w : List ℕ). slice_set w (2 * i + 1) found.second) c.set.ensures in
     let next : 2 * i + 2 ≡ 2 * (i + 1) = omega arith in
     record {

@@ -5,7 +5,7 @@ use Rattle.std.specs.List.{flat_map}
 use Rattle.jrn_format.specs.declared.journal.Entry.{Entry}
 use Rattle.std.proofs.lemmas.List.Elements.{All-more}
 use Rattle.jrn_format.specs.Batch.{EntryFits, spelt_entry}
-use Rattle.jrn_format.proofs.Fitting.{payload_fits, spelt_behind, spelt_more}
+use Rattle.jrn_format.proofs.Fitting.{payload_fits, spelt_after, spelt_more}
 use Rattle.jrn_format.proofs.writing.payload.Goals as goal
 
 pub loop-entry-preserved : goal.loop-entry-preserved
@@ -23,5 +23,5 @@ returns-clause-spelt c =
     let count = to_le_bytes w16 (length entries) in
     let last = c.loop-entry.invariant.spelt
     ∙ ap (λ (es : List Entry). c.put_u16.new.out.items ++ flat_map spelt_entry es) (take_all c.loop-entry.entry-index entries (omega (arith, c.loop-entry-test.false))) in
-    spelt_behind c.new-bytes.result.items count (flat_map spelt_entry entries) c.in_ok-put_u16.ensures last
+    spelt_after c.new-bytes.result.items count (flat_map spelt_entry entries) c.in_ok-put_u16.ensures last
     ∙ ap (λ (front : List ℕ). front ++ (count ++ flat_map spelt_entry entries)) c.new-bytes.ensures.items

@@ -5,7 +5,7 @@ use Rattle.std.specs.List.{flat_map}
 use Rattle.sii_words.specs.declared.run.Run.{Run}
 use Rattle.std.proofs.lemmas.List.Elements.{All-more}
 use Rattle.jrn_format.specs.Batch.{RunFits, spelt_run}
-use Rattle.jrn_format.proofs.Fitting.{entry_fits, spelt_behind, spelt_more}
+use Rattle.jrn_format.proofs.Fitting.{entry_fits, spelt_after, spelt_more}
 use Rattle.jrn_format.proofs.writing.put_entry.Goals as goal
 
 pub loop-run-preserved : goal.loop-run-preserved
@@ -26,5 +26,5 @@ returns-clause-spelt c =
     let count = c.in_ok-put_u16.ensures ∙ ap (λ (rs : List Run). c.extend_from_slice.new.self.items ++ to_le_bytes w16 (length rs)) c.as_slice-runs.ensures in
     let last = c.loop-run.invariant.spelt
     ∙ ap (λ (rs : List Run). c.put_u16.new.out.items ++ flat_map spelt_run rs) (take_all c.loop-run.run-index runs (omega (arith, c.loop-run-test.false)) ∙ c.as_slice-runs.ensures) in
-    spelt_behind c.args.out.now.items (to_le_bytes w64 entry.number) _ number
-    (spelt_behind c.extend_from_slice.new.self.items (to_le_bytes w16 (length entry.runs)) (flat_map spelt_run entry.runs) count last)
+    spelt_after c.args.out.now.items (to_le_bytes w64 entry.number) _ number
+    (spelt_after c.extend_from_slice.new.self.items (to_le_bytes w16 (length entry.runs)) (flat_map spelt_run entry.runs) count last)

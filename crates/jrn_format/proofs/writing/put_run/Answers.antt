@@ -3,7 +3,7 @@ use Rattle.std.proofs.lemmas.List.{take_all}
 use Rattle.std.specs.List.{flat_map}
 use Rattle.std.specs.Int.{w16, to_le_bytes}
 use Rattle.std.proofs.lemmas.List.Elements.{All-more}
-use Rattle.jrn_format.proofs.Fitting.{run_fits, spelt_behind, spelt_more}
+use Rattle.jrn_format.proofs.Fitting.{run_fits, spelt_after, spelt_more}
 use Rattle.jrn_format.proofs.writing.put_run.Goals as goal
 
 pub loop-word-preserved : goal.loop-word-preserved
@@ -23,6 +23,6 @@ returns-clause-spelt c =
     let count = c.in_ok-put_u16-3.ensures ∙ ap (λ (ws : List ℕ). c.put_u16-2.new.out.items ++ to_le_bytes w16 (length ws)) c.as_slice-words.ensures in
     let last = c.loop-word.invariant.spelt
     ∙ ap (λ (ws : List ℕ). c.put_u16-3.new.out.items ++ flat_map (to_le_bytes w16) ws) (take_all c.loop-word.word-index words (omega (arith, c.loop-word-test.false)) ∙ c.as_slice-words.ensures) in
-    spelt_behind c.args.out.now.items (to_le_bytes w16 run.slave) _ c.in_ok-put_u16.ensures
-    (spelt_behind c.put_u16.new.out.items (to_le_bytes w16 run.first) _ c.in_ok-put_u16-2.ensures
-    (spelt_behind c.put_u16-2.new.out.items (to_le_bytes w16 (length run.words)) (flat_map (to_le_bytes w16) run.words) count last))
+    spelt_after c.args.out.now.items (to_le_bytes w16 run.slave) _ c.in_ok-put_u16.ensures
+    (spelt_after c.put_u16.new.out.items (to_le_bytes w16 run.first) _ c.in_ok-put_u16-2.ensures
+    (spelt_after c.put_u16-2.new.out.items (to_le_bytes w16 (length run.words)) (flat_map (to_le_bytes w16) run.words) count last))

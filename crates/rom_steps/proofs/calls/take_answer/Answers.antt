@@ -12,7 +12,7 @@ returns-in-None-next_of c = steps (over c.in-Some.step refl (sym c.in-Some.ensur
 
 pub returns-then-content-from : goal.returns-then-content-from
 returns-then-content-from c =
-    other_length c.in-Some.step c.in-Some-next_of.sent refl (sym c.in-Some.ensures) (record { next = c.in-Some-next_of.ensures.next; long = c.in-Some-next_of.ensures.long; behind = c.in-Some-next_of.ensures.behind })
+    other_length c.in-Some.step c.in-Some-next_of.sent refl (sym c.in-Some.ensures) (record { next = c.in-Some-next_of.ensures.next; long = c.in-Some-next_of.ensures.long; after = c.in-Some-next_of.ensures.after })
     (λ same. let other = c.if-content-from.true in let long = c.from.ensures in omega arith) refl
 
 pub returns : goal.returns
@@ -24,6 +24,6 @@ returns c =
       step = c.in-Some.step;
       is = sym c.in-Some.ensures;
       datagram = c.in-Some-next_of.sent;
-      sends = record { next = c.in-Some-next_of.ensures.next; long = c.in-Some-next_of.ensures.long; behind = c.in-Some-next_of.ensures.behind };
+      sends = record { next = c.in-Some-next_of.ensures.next; long = c.in-Some-next_of.ensures.long; after = c.in-Some-next_of.ensures.after };
       long = let same = c.if-content-from.false in let long = c.from.ensures in omega arith;
     })

@@ -11,7 +11,7 @@ pub returns-in-Ok-clause-closes : goal.returns-in-Ok-clause-closes
 returns-in-Ok-clause-closes g c =
     let closed = c.close_desk-ends in
     subst (λ (receipts : List Numbered). Closes g.T.Tickets.opened c.args.shares.items receipts c.args.ends) c.new.ensures.items
-    (closes-quietly g.T.Tickets.opened c.args.shares.items c.new.result.items c.args.ends closed.result.1 closed.result.2 closed.ensures.closes closed.ensures.told c.in-Ok.is)
+    (closes-quietly g.T.Tickets.opened c.args.shares.items c.new.result.items c.args.ends closed.result.1 closed.result.2 closed.ensures.closes closed.ensures.reported c.in-Ok.is)
 
 pub returns-in-Err-clause-stopped : goal.returns-in-Err-clause-stopped
 returns-in-Err-clause-stopped g c =

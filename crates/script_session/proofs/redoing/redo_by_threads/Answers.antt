@@ -5,7 +5,7 @@ use Rattle.site_core.specs.State.{Seen}
 use Rattle.book_model.specs.Book.{Book}
 use Rattle.station_files.specs.declared.faults.Fault.{Fault}
 use Rattle.script_session.specs.AtDesk.{EndsFollowed}
-use Rattle.script_session.specs.Parts.{AreSound, IsApart, IsDeskTold, IsLineOf, IsTogether}
+use Rattle.script_session.specs.Parts.{AreSound, IsSeparate, IsDeskReported, IsLineOf, IsTogether}
 use Rattle.site_shadow.specs.Site.{SiteValue}
 use Rattle.station_jobs.specs.declared.log.SlaveLog.{SlaveLog}
 use Rattle.station_jobs.specs.Ends.{Stay}
@@ -31,13 +31,13 @@ returns-in-Ok-sound-clause-redone g c =
     let words = c.issues_of-words.result in
     let together = subst (λ (r : Result SiteValue Fault). IfOk r (λ site. IsTogether c.in_ok-ends.ends site × IsLineOf c.args.slaves site.line)) c.in_ok-site.was c.put_together-put.ensures.together in
     redone c.args.alone c.in-Ok.prepared.sites c.in_ok-ends.ends c.in_ok-site.site words c.requires c.core.ensures.stands c.of.result.core parts.result.1.seen
-    (c.of.ensures.core ∙ parts.ensures.book) parts.ensures.seen c.in-Ok.ensures.sites.apart desk.of_sites desk.closes together.0
+    (c.of.ensures.core ∙ parts.ensures.book) parts.ensures.seen c.in-Ok.ensures.sites.separate desk.of_sites desk.closes together.0
     (subst (λ (l : List (Stay SiteValue SlaveLog)). IsCount (issues_of l) words) c.as_slice.ensures.value c.issues_of-words.ensures)
 
-pub returns-in-Ok-sound-clause-told : goal.returns-in-Ok-sound-clause-told
-returns-in-Ok-sound-clause-told g c =
+pub returns-in-Ok-sound-clause-reported : goal.returns-in-Ok-sound-clause-reported
+returns-in-Ok-sound-clause-reported g c =
     let parts = c.into_parts-core in
-    let sound = c.judge_ends-sound in
+    let sound = c.validate_ends-sound in
     let sites = c.in-Ok.prepared.sites in
     let ends = c.in_ok-ends.ends in
     let put = c.put_together-put in
@@ -47,7 +47,7 @@ returns-in-Ok-sound-clause-told g c =
     record {
       served = record {
         sites = sites;
-        apart = subst (λ (s : Seen). IsApart s.state sites) parts.ensures.seen c.in-Ok.ensures.sites.apart;
+        separate = subst (λ (s : Seen). IsSeparate s.state sites) parts.ensures.seen c.in-Ok.ensures.sites.separate;
         ends = ends;
         of_sites = c.in_ok-ends.ensures.of_sites;
         together = together.0;
@@ -55,11 +55,11 @@ returns-in-Ok-sound-clause-told g c =
       still = c.in-Ok.ensures.turning;
       followed = subst (λ (r : Result (Unit {0}) Fault). EndsFollowed follows well c.args.alone r ends) c.in-Ok-sound.is
           (followed_ends follows well g.D.Lends.tells c.args.alone parts.result.1.seen sites ends put.result.1 sound.result parts.ensures.seen
-          c.in-Ok.ensures.sites.apart c.in_ok-ends.ensures.of_sites (put.ensures.told parts.result.1.seen c.in-Ok.ensures.told)
+          c.in-Ok.ensures.sites.separate c.in_ok-ends.ensures.of_sites (put.ensures.reported parts.result.1.seen c.in-Ok.ensures.reported)
           (ap (λ (l : Line). length l.sizes) (sym parts.ensures.line) ∙ c.prepare.ensures.count)
           (on_ok sound.result (λ (both : AreSound put.result.1 × IsTrue c.disk_is_synced-is_synced.result).
           (both.0, c.disk_is_synced-is_synced.ensures both.1)) sound.ensures) c.put_together-put.ensures.followed);
-      devices = subst (λ (s : Seen). IsDeskTold follows well g.D.Lends.tells s put.result.1 ends) parts.ensures.seen (put.ensures.told parts.result.1.seen c.in-Ok.ensures.told);
+      devices = subst (λ (s : Seen). IsDeskReported follows well g.D.Lends.tells s put.result.1 ends) parts.ensures.seen (put.ensures.reported parts.result.1.seen c.in-Ok.ensures.reported);
       sound = (subst (λ (r : Result (Unit {0}) Fault). OnOk r (AreSound put.result.1 × IsTrue c.disk_is_synced-is_synced.result)) c.in-Ok-sound.is sound.ensures).0;
     }
 

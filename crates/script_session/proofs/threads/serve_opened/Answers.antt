@@ -11,6 +11,6 @@ returns-in-Ok-clause-served g c =
     let same = sym c.hand_in.ensures.ends in
     record {
       of_sites = subst (λ (e : Ends SiteValue). AreEndsOfParts c.args.sites e) same c.in-Ok.ensures.ends;
-      ending = subst (λ (e : Ends SiteValue). EndsSo g.T.Tickets.opened g.C.Asked.commands e left.ending) same c.hand_in.ensures.ending;
+      ending = subst (λ (e : Ends SiteValue). EndsSo g.T.Tickets.opened g.C.NamesCommands.commands e left.ending) same c.hand_in.ensures.ending;
       unserved = c.hand_in.ensures.unserved;
     }

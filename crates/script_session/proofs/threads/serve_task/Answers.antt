@@ -3,10 +3,10 @@ use Rattle.std.specs.Prelude.{vec_capacity}
 use Rattle.site_core.specs.Line.{Line}
 use Rattle.book_model.specs.Book.{Book}
 use Rattle.station_line.specs.Site.{IsFollowed}
-use Rattle.script_session.specs.AtDesk.{IsUnservedTold}
-use Rattle.script_session.specs.Parts.{IsApart, Sites}
-use Rattle.script_session.proofs.ApartLaws.{apart_told}
-use Rattle.script_session.proofs.DeskLaws.{as-many-ends, ends-apart, line-told, served-at-desk, serves-parts}
+use Rattle.script_session.specs.AtDesk.{IsUnservedReported}
+use Rattle.script_session.specs.Parts.{IsSeparate, Sites}
+use Rattle.script_session.proofs.SeparateLaws.{separate_reported}
+use Rattle.script_session.proofs.DeskLaws.{as-many-ends, ends-separate, line-reported, served-at-desk, serves-parts}
 use Rattle.script_session.proofs.threads.serve_task.Goals as goal
 
 pub serve_at_desk-requires-clause-opening : goal.serve_at_desk-requires-clause-opening
@@ -23,7 +23,7 @@ returns-in-Ok-serve_at_desk-clause-left g c =
     let parts = c.into_parts-core in
     let desk = c.in-Ok-serve_at_desk in
     served-at-desk c.args.alone c.args.task.work.commands.items c.of-opening.result.core parts.result.1.seen c.in-Ok.prepared.sites desk.at c.put_back.result
-    (c.of-opening.ensures.core ∙ parts.ensures.book) parts.ensures.seen c.in-Ok.ensures.sites.apart desk.ensures.served.of_sites c.put_back.ensures.left
+    (c.of-opening.ensures.core ∙ parts.ensures.book) parts.ensures.seen c.in-Ok.ensures.sites.separate desk.ensures.served.of_sites c.put_back.ensures.left
     desk.ensures.served.ending
 
 pub returns-in-Ok-serve_at_desk-clause-parts : goal.returns-in-Ok-serve_at_desk-clause-parts
@@ -33,17 +33,17 @@ returns-in-Ok-serve_at_desk-clause-parts g c =
     let prepared = c.in-Ok in
     let back = c.put_back in
     serves-parts c.args.alone c.args.task.work.commands.items c.of-opening.result.core parts.result.1.seen prepared.prepared.sites desk.at
-    (c.of-opening.ensures.core ∙ parts.ensures.book) parts.ensures.seen prepared.ensures.sites.apart desk.ensures.served.of_sites desk.ensures.served.ending
-    g.D.Device.follows g.D.Device.well g.D.Lends.tells c.args.task.turns prepared.prepared.whole.told back.result prepared.ensures.turning back.ensures.left back.ensures.told back.ensures.sound
-    prepared.ensures.told (ap (λ (l : Line). length l.sizes) (sym parts.ensures.line) ∙ c.prepare.ensures.count) back.ensures.followed
+    (c.of-opening.ensures.core ∙ parts.ensures.book) parts.ensures.seen prepared.ensures.sites.separate desk.ensures.served.of_sites desk.ensures.served.ending
+    g.D.Device.follows g.D.Device.well g.D.Lends.tells c.args.task.turns prepared.prepared.entire.reported back.result prepared.ensures.turning back.ensures.left back.ensures.reported back.ensures.sound
+    prepared.ensures.reported (ap (λ (l : Line). length l.sizes) (sym parts.ensures.line) ∙ c.prepare.ensures.count) back.ensures.followed
 
 pub returns-in-Ok-serve_at_desk-clause-failed : goal.returns-in-Ok-serve_at_desk-clause-failed
 returns-in-Ok-serve_at_desk-clause-failed g c =
     let parts = c.into_parts-core in
     let desk = c.in-Ok-serve_at_desk in
-    ends-apart c.args.alone c.args.task.work.commands.items c.of-opening.result.core parts.result.1.seen c.in-Ok.prepared.sites desk.at
-    (c.of-opening.ensures.core ∙ parts.ensures.book) parts.ensures.seen c.in-Ok.ensures.sites.apart desk.ensures.served.of_sites desk.ensures.served.ending
-    g.D.Device.follows g.D.Device.well g.D.Lends.tells c.in-Ok.prepared.whole.told c.put_back.result c.in-Ok.ensures.told c.put_back.ensures.failed
+    ends-separate c.args.alone c.args.task.work.commands.items c.of-opening.result.core parts.result.1.seen c.in-Ok.prepared.sites desk.at
+    (c.of-opening.ensures.core ∙ parts.ensures.book) parts.ensures.seen c.in-Ok.ensures.sites.separate desk.ensures.served.of_sites desk.ensures.served.ending
+    g.D.Device.follows g.D.Device.well g.D.Lends.tells c.in-Ok.prepared.entire.reported c.put_back.result c.in-Ok.ensures.reported c.put_back.ensures.failed
 
 pub put_back-requires-clause-reserved : goal.put_back-requires-clause-reserved
 put_back-requires-clause-reserved g c =
@@ -51,22 +51,22 @@ put_back-requires-clause-reserved g c =
 
 pub returns-in-Err-clause-failed : goal.returns-in-Err-clause-failed
 returns-in-Err-clause-failed g c =
-    line-told g.D.Device.follows g.D.Device.well g.D.Lends.tells c.args.alone c.args.task.work.commands.items c.into_parts-core.result.1.seen c.in-Err.why.told
+    line-reported g.D.Device.follows g.D.Device.well g.D.Lends.tells c.args.alone c.args.task.work.commands.items c.into_parts-core.result.1.seen c.in-Err.why.reported
     c.into_parts-core.ensures.seen c.in-Err.ensures.failed
 
 pub returns-in-Err-serve_at_desk-clause-failed : goal.returns-in-Err-serve_at_desk-clause-failed
 returns-in-Err-serve_at_desk-clause-failed g c =
     let parts = c.into_parts-core in
-    let told = c.told_unserved in
-    subst (IsUnservedTold g.D.Device.follows g.D.Device.well g.D.Lends.tells c.args.alone c.args.task.work.commands.items) (sym c.apart.ensures)
-    (apart_told g.D.Device.follows g.D.Device.well g.D.Lends.tells c.args.alone c.args.task.work.commands.items parts.result.1.seen c.in-Err-serve_at_desk.sites told.result
-    c.in-Ok.prepared.whole.told parts.ensures.seen
-    (subst (λ (sites : Sites). IsApart parts.result.1.seen.state sites) (sym c.in-Err-serve_at_desk.ensures.handed_back) c.in-Ok.ensures.sites.apart)
-    c.in-Ok.ensures.told told.ensures.line told.ensures.disk told.ensures.slaves)
+    let reported = c.reported_unserved in
+    subst (IsUnservedReported g.D.Device.follows g.D.Device.well g.D.Lends.tells c.args.alone c.args.task.work.commands.items) (sym c.separate.ensures)
+    (separate_reported g.D.Device.follows g.D.Device.well g.D.Lends.tells c.args.alone c.args.task.work.commands.items parts.result.1.seen c.in-Err-serve_at_desk.sites reported.result
+    c.in-Ok.prepared.entire.reported parts.ensures.seen
+    (subst (λ (sites : Sites). IsSeparate parts.result.1.seen.state sites) (sym c.in-Err-serve_at_desk.ensures.handed_back) c.in-Ok.ensures.sites.separate)
+    c.in-Ok.ensures.reported reported.ensures.line reported.ensures.disk reported.ensures.slaves)
 
-pub told_unserved-requires-clause-reserved : goal.told_unserved-requires-clause-reserved
-told_unserved-requires-clause-reserved g c =
-    subst (λ (sites : Sites). length sites.slaves.items ≤ vec_capacity c.in-Ok.prepared.whole.room.told) (sym c.in-Err-serve_at_desk.ensures.handed_back) c.in-Ok.ensures.reserved
+pub reported_unserved-requires-clause-reserved : goal.reported_unserved-requires-clause-reserved
+reported_unserved-requires-clause-reserved g c =
+    subst (λ (sites : Sites). length sites.slaves.items ≤ vec_capacity c.in-Ok.prepared.entire.room.reported) (sym c.in-Err-serve_at_desk.ensures.handed_back) c.in-Ok.ensures.reserved
 
 pub returns-in-Err-clause-before : goal.returns-in-Err-clause-before
 returns-in-Err-clause-before g c = subst (IsFollowed g.D.Device.follows) c.into_parts-core.ensures.seen c.prepare.ensures.followed

@@ -10,5 +10,5 @@ ghosts-serve_at_desk-T-Tickets g a = record { opened = a.opening.core }
 abbrev pub ghosts-serve_at_desk-R-Ledger : goal.ghosts-serve_at_desk-R-Ledger
 ghosts-serve_at_desk-R-Ledger g a = record { name = a.opening.refusals.name; parts = a.opening.refusals.count }
 
-abbrev pub ghosts-serve_at_desk-C-Asked : goal.ghosts-serve_at_desk-C-Asked
-ghosts-serve_at_desk-C-Asked g a = record { commands = a.work.commands.items }
+abbrev pub ghosts-serve_at_desk-C-NamesCommands : goal.ghosts-serve_at_desk-C-NamesCommands
+ghosts-serve_at_desk-C-NamesCommands g a = record { commands = a.work.commands.items }

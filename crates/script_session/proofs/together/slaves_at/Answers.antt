@@ -3,7 +3,7 @@ use Rattle.std.specs.Vec.Iter.{into_iter_items}
 use Rattle.std.proofs.lemmas.List.{length-append}
 use Rattle.script_session.specs.Parts.{IsWorkFollowed}
 use Rattle.script_session.proofs.PartLaws.{all_more}
-use Rattle.script_session.proofs.ToldLaws.{room-left}
+use Rattle.script_session.proofs.ReportedLaws.{room-left}
 use Rattle.station_threads.proofs.Zips.{gone-over}
 use Rattle.script_session.proofs.together.slaves_at.Goals as goal
 

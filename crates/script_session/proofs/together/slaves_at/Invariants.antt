@@ -10,6 +10,6 @@ invariant-loop-end g l = record {
   over : l.yielded ++ into_iter_items l.end-iterator ≡ into_iter_items l.initial.end-iterator;
   left : AreLeftBy g.D.Device.follows g.D.Device.well g.D.Lends.tells l.yielded l.left;
   followed : AllByRecursion (IsWorkFollowed g.D.Device.follows) l.yielded;
-  count : length l.left.told.items ≡ length l.yielded;
-  reserved : vec_capacity l.left.told ≡ vec_capacity l.fn.room.told;
+  count : length l.left.reported.items ≡ length l.yielded;
+  reserved : vec_capacity l.left.reported ≡ vec_capacity l.fn.room.reported;
 }

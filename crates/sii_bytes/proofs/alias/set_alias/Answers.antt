@@ -8,8 +8,8 @@ use Rattle.sii_bytes.proofs.alias.set_alias.Goals as goal
 pub returns-clause-answer : goal.returns-clause-answer
 returns-clause-answer c =
     let bytes = c.args.bytes.now in
-    let whole : length bytes % 2 ≡ 0 = c.if-bytes-ne0.false in
-    let read : AreWords IsImageSize bytes = (whole, c.if-not-is_image_size.ensures.0 refl) in
+    let entire : length bytes % 2 ≡ 0 = c.if-bytes-ne0.false in
+    let read : AreWords IsImageSize bytes = (entire, c.if-not-is_image_size.ensures.0 refl) in
     let all : AreBytes bytes = c.check_byte.ensures.bytes in
     let pair = c.to_le_bytes.result in
     let fits : c.args.value < 65536 = omega (arith, c.ranges.value.fits) in

@@ -1,5 +1,5 @@
 use Rattle.std.proofs.Common.{◌+◌, drop, arith}
-use Rattle.sii_bytes.proofs.LineRead.{onward-as, onward-ends, onward-more, onward-refused, nothing-left, whole-more}
+use Rattle.sii_bytes.proofs.LineRead.{onward-as, onward-ends, onward-more, onward-refused, nothing-left, entire-more}
 use Rattle.sii_bytes.proofs.line.read_each.Goals as goal
 
 pub returns-in-Err-clause-err : goal.returns-in-Err-clause-err
@@ -9,7 +9,7 @@ returns-in-Err-clause-err c =
 
 pub loop-count-preserved : goal.loop-count-preserved
 loop-count-preserved c = record {
-  whole = whole-more c.args.lengths.now c.loop-count.left.now c.split_at.result.1.now c.loop-count.count-index 0 (omega arith) c.loop-count.invariant.whole c.split_at.ensures.back;
+  entire = entire-more c.args.lengths.now c.loop-count.left.now c.split_at.result.1.now c.loop-count.count-index 0 (omega arith) c.loop-count.invariant.entire c.split_at.ensures.back;
   onward =
       onward-as _ c.push.new.self.items (drop (c.loop-count.count-index + 1) c.args.lengths.now) c.split_at.result.1.now c.args.lengths.now c.args.bytes.now c.in-Ok-push.ensures.items
       (onward-more c.args.lengths.now c.loop-count.count-index 0 (omega arith) c.loop-count.slaves.items c.loop-count.left.now c.args.bytes.now c.split_at.result.0.now

@@ -5,6 +5,6 @@ use Rattle.sii_bytes.proofs.line.read_each.Given as goal
 
 abbrev pub invariant-loop-count : goal.invariant-loop-count
 invariant-loop-count l = record {
-  whole : sum (drop l.count-index l.lengths) ≡ length l.left;
+  entire : sum (drop l.count-index l.lengths) ≡ length l.left;
   onward : Onward l.slaves.items (drop l.count-index l.lengths) l.left l.lengths l.fn.bytes;
 }

@@ -6,7 +6,7 @@ pub of-requires-clause-some : goal.of-requires-clause-some
 of-requires-clause-some c =
     let count = slave-count c.args.lengths.now c.args.bytes.now c.in-Ok.slaves.items c.in-Ok.ensures.ok.1 in
     let len = c.in-Ok.slaves.ok.0 in
-    let told = c.is_empty.ensures in
+    let reported = c.is_empty.ensures in
     let some = c.if-is_empty.false in
     grind arith
 

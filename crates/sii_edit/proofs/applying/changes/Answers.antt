@@ -10,7 +10,7 @@ returns c =
     let carried = rw c.new-draft.ensures at c.in_ok-carry_out.ensures.1 in
     let facts = accepted plant new c.args.command.now c.in_ok-runs.runs.items carried c.in_ok-layouts.ensures.accepted c.in_ok-runs.ensures in
     record {
-      accepted = facts.judged;
+      accepted = facts.validated;
       runs = facts.between;
       inside = facts.inside;
       layouts = c.in_ok-layouts.ensures.layouts ∙ sym facts.reached;

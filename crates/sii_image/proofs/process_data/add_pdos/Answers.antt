@@ -22,7 +22,7 @@ returns-in_err-head-clause-exact c =
 pub overflow_add-sums : goal.overflow_add-sums
 overflow_add-sums c =
     let entries : List ℕ = c.in-Some.entries.now in
-    let size : 4 + length entries + length c.in-Some.behind.now ≡ length c.loop-head.rest.now = rw c.in-Some.is at c.in_ok-head.ensures.size in
+    let size : 4 + length entries + length c.in-Some.after.now ≡ length c.loop-head.rest.now = rw c.in-Some.is at c.in_ok-head.ensures.size in
     let within = c.loop-head.invariant.most 262144 c.requires.room c.from-number.result c.if-number-sums.true in
     omega (arith, size, within, c.bits_of_entries.ensures.most, c.loop-head.invariant.left, c.requires.few)
 
@@ -30,7 +30,7 @@ pub loop-head-preserved-then-number-sums : goal.loop-head-preserved-then-number-
 loop-head-preserved-then-number-sums c =
     let head = c.in-Some.head in
     let entries : List ℕ = c.in-Some.entries.now in
-    adds_more c.args.content.now c.args.sums.now c.loop-head.sums _ c.loop-head.rest.now c.in-Some.behind.now (in_place head entries) (length entries) c.loop-head.invariant
+    adds_more c.args.content.now c.args.sums.now c.loop-head.sums _ c.loop-head.rest.now c.in-Some.after.now (in_place head entries) (length entries) c.loop-head.invariant
     (rw c.in-Some.is at c.in_ok-head.ensures.exact) (omega (arith, c.bits_of_entries.ensures.bits, c.bits_of_entries.ensures.most)) (rw c.in-Some.is at c.in_ok-head.ensures.size)
     (rw (c.from-number.ensures, c.bits_of_entries.ensures.bits) refl)
 
@@ -38,8 +38,8 @@ pub loop-head-preserved : goal.loop-head-preserved
 loop-head-preserved c =
     let head = c.in-Some.head in
     let entries : List ℕ = c.in-Some.entries.now in
-    let size : 4 + length entries + length c.in-Some.behind.now ≡ length c.loop-head.rest.now = rw c.in-Some.is at c.in_ok-head.ensures.size in
-    adds_none c.args.content.now c.args.sums.now c.loop-head.sums c.loop-head.rest.now c.in-Some.behind.now (in_place head entries) c.loop-head.invariant
+    let size : 4 + length entries + length c.in-Some.after.now ≡ length c.loop-head.rest.now = rw c.in-Some.is at c.in_ok-head.ensures.size in
+    adds_none c.args.content.now c.args.sums.now c.loop-head.sums c.loop-head.rest.now c.in-Some.after.now (in_place head entries) c.loop-head.invariant
     (rw c.in-Some.is at c.in_ok-head.ensures.exact) (omega (arith, size)) (omega (arith, c.if-number-sums.false, c.from-number.ensures))
 
 pub returns-clause-exact : goal.returns-clause-exact

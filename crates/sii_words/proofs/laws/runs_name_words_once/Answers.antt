@@ -1,5 +1,5 @@
-use Rattle.sii_words.proofs.RunLaws.{apart-runs_between}
+use Rattle.sii_words.proofs.RunLaws.{separate-runs_between}
 use Rattle.sii_words.proofs.laws.runs_name_words_once.Goals as goal
 
 pub returns : goal.returns
-returns c = apart-runs_between
+returns c = separate-runs_between

@@ -4,8 +4,8 @@ use Rattle.std.specs.Option.{option_map}
 use Rattle.esc_model.specs.Orders.{fetch_order}
 use Rattle.site_wire.specs.Answering.{found_of}
 use Rattle.site_wire.specs.declared.amending.Tried.TheVariants as tried
-use Rattle.site_wire.specs.declared.answers.Shown.{Shown}
-use Rattle.site_wire.specs.declared.answers.Shown.TheVariants as shown
+use Rattle.site_wire.specs.declared.answers.AccessState.{AccessState}
+use Rattle.site_wire.specs.declared.answers.AccessState.TheVariants as shown
 use Rattle.site_wire.specs.contracts.answers.ShownPartialEq.TheImpl.{eq-value}
 use Rattle.site_wire.proofs.Due.{words_due}
 use Rattle.site_wire.proofs.ForEeprom.{words_eeprom}
@@ -14,7 +14,7 @@ use Rattle.site_wire.proofs.ReadingBack.{tried_asking, tried_polling, tried_fetc
 use Rattle.site_wire.proofs.amending.try_pair.Goals as goal
 
 -- what isn't other than idle without an error is that
-well_by : (s : Shown) → not (eq-value.it s shown.Well) ≡ false → s ≡ shown.Well
+well_by : (s : AccessState) → not (eq-value.it s shown.Well) ≡ false → s ≡ shown.Well
 well_by shown.Nothing is = absurd (false≢true (sym is))
 well_by shown.Busy is = absurd (false≢true (sym is))
 well_by shown.Failed is = absurd (false≢true (sym is))
@@ -68,7 +68,7 @@ returns-in-Some g c =
     (option_map found_of c.pass.result) (c.pass.ensures (words_order c.args.slave c.args.word c.args.held) c.read_frame.ensures)
     c.wait_idle.new.line.log.all c.wait_idle.result c.wait_idle.ensures
     (omega arith) (found_of c.in_ok-taken.taken) (ap (option_map found_of) c.in_ok-taken.was)
-    c.if-taken-ne1.false (c.in_ok-shown.was ∙ ap (λ (s : Shown). Some s) (well_by c.in_ok-shown.shown (sym c.if-ne.ensures)))
+    c.if-taken-ne1.false (c.in_ok-shown.was ∙ ap (λ (s : AccessState). Some s) (well_by c.in_ok-shown.shown (sym c.if-ne.ensures)))
     c.pass-2.new.self.log.all (option_map found_of c.pass-2.result) (found_of c.in_ok-fetched.fetched) c.in-Some.pair
     (ap (option_map found_of) c.in_ok-fetched.was) c.in-Some.ensures
     (c.pass-2.ensures (fetch_order c.args.slave) c.frame_for-fetch.ensures)

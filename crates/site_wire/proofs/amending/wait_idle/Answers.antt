@@ -2,7 +2,7 @@ use Rattle.std.proofs.Common.{◌≡◌, None, Some, sym, ap, ◌∙◌}
 use Rattle.std.specs.Option.{option_map}
 use Rattle.esc_model.specs.Orders.{poll_order}
 use Rattle.site_wire.specs.Answering.{found_of}
-use Rattle.site_wire.specs.declared.answers.Shown.TheVariants as shown
+use Rattle.site_wire.specs.declared.answers.AccessState.TheVariants as shown
 use Rattle.site_wire.proofs.Sends.{polls_more}
 use Rattle.site_wire.proofs.amending.wait_idle.Goals as goal
 

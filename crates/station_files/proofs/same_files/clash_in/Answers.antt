@@ -1,6 +1,6 @@
 use Rattle.std.proofs.Common.{arith, ◌+◌}
 use Rattle.std.proofs.lemmas.List.{take_rest}
-use Rattle.station_files.proofs.Apart.{met_at, none_more}
+use Rattle.station_files.proofs.Separate.{met_at, none_more}
 use Rattle.station_files.proofs.same_files.clash_in.Goals as goal
 
 pub returns-in-Some : goal.returns-in-Some

@@ -1,4 +1,4 @@
-use Rattle.station_files.proofs.Apart.{none_yet}
+use Rattle.station_files.proofs.Separate.{none_yet}
 use Rattle.station_files.proofs.same_files.first_met.Goals as goal
 
 pub loop-at-preserved : goal.loop-at-preserved

@@ -1,5 +1,5 @@
 use Rattle.std.proofs.Common.{◌∙◌}
-use Rattle.station_files.proofs.Apart.{leads_one_more}
+use Rattle.station_files.proofs.Separate.{leads_one_more}
 use Rattle.station_files.proofs.same_files.locate_all.Goals as goal
 
 pub loop-one-preserved : goal.loop-one-preserved

@@ -7,7 +7,7 @@ use Rattle.station_jobs.specs.Dispatch.{with_outcome}
 use Rattle.station_jobs.specs.Jobs.{DoneInTurn}
 use Rattle.station_jobs.specs.Flushing.{DoesAction}
 use Rattle.station_jobs.proofs.ActionLaws.{action-goes, still-begins, flushed}
-use Rattle.station_jobs.proofs.JobLoops.{told-turn, led-all, led-told}
+use Rattle.station_jobs.proofs.JobLoops.{reported-turn, led-all, led-reported}
 use Rattle.std.proofs.Common.{Bool, Ok, refl}
 use Rattle.std.specs.Result.{result_eq}
 use Rattle.std.proofs.lemmas.Bool.{false≢true}
@@ -27,9 +27,9 @@ loop-preserved g c =
     let result = c.act-result.result in
     let not : result ≡ Err device.Stopped → ⊥ = λ is. (let never = c.if-eq.false in let eq : c.eq.result ≡ true = rw is at c.eq.ensures in absurd cc) in
     let does = c.act-result.ensures.does in
-    let told = c.done.ensures.log ∙ ap (λ (l : List (Assignment DiskNext (Result (Unit {0}) DeviceFault))). with_outcome l result) c.in-Work.ensures.log in (
-      subst (λ (l : List (Assignment DiskNext (Result (Unit {0}) DeviceFault))). DoneInTurn DoesAction l start new) (sym told)
-          (told-turn DoesAction log action result start now new c.loop.invariant.0 does (action-goes action result now new does not)),
+    let reported = c.done.ensures.log ∙ ap (λ (l : List (Assignment DiskNext (Result (Unit {0}) DeviceFault))). with_outcome l result) c.in-Work.ensures.log in (
+      subst (λ (l : List (Assignment DiskNext (Result (Unit {0}) DeviceFault))). DoneInTurn DoesAction l start new) (sym reported)
+          (reported-turn DoesAction log action result start now new c.loop.invariant.0 does (action-goes action result now new does not)),
       (λ next may. still-begins action next result now new does not (c.loop.invariant.1 next (c.in-Work.ensures.no_more next (c.done.ensures.no_more next may)))),
       c.act-result.ensures.line ∙ c.loop.invariant.2,
       c.loop.invariant.3,
@@ -48,7 +48,7 @@ new-requires-clause-leads g c =
       | in-Some+in-Work+then-eq w ↦
           let new = g.S.Site.seen w.act-result.new.site in
           rw (c.into_log.ensures.log, w.dispatch-is, w.site-is, w.done.ensures.log, w.in-Work.ensures.log)
-          (flushed _ start new (led-told DoesAction log w.in-Work.action w.act-result.result start now new turn w.act-result.ensures.does))
+          (flushed _ start new (led-reported DoesAction log w.in-Work.action w.act-result.result start now new turn w.act-result.ensures.does))
     ]
 
 stopped-is : (same : Unit {0} → Unit {0} → Bool) (result : Result (Unit {0}) DeviceFault) → result_eq same eq-value.it result (Err device.Stopped) ≡ true → result ≡ Err device.Stopped

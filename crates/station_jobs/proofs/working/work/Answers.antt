@@ -7,7 +7,7 @@ use Rattle.station_jobs.specs.Dispatch.{with_outcome}
 use Rattle.station_jobs.specs.Jobs.{DoneInTurn}
 use Rattle.station_jobs.specs.Working.{CallsSlave}
 use Rattle.station_jobs.proofs.CallLaws.{call-goes, worked}
-use Rattle.station_jobs.proofs.JobLoops.{told-turn, led-all, led-told, led-untold}
+use Rattle.station_jobs.proofs.JobLoops.{reported-turn, led-all, led-reported, led-unreported}
 use Rattle.std.proofs.Common.{false, refl, rules, arith}
 use Rattle.std.proofs.lemmas.Bool.{false≢true}
 use Rattle.std.proofs.lemmas.Grind.{common_steps}
@@ -28,9 +28,9 @@ loop-preserved g c =
     let outcome = c.call-outcome.result in
     let not : outcome ≡ outcomes.Stopped → ⊥ = λ is. (let never = c.if-eq.false in let eq : c.eq.result ≡ true = rw is at c.eq.ensures in absurd cc) in
     let calls = c.call-outcome.ensures.calls in
-    let told = c.done.ensures.log ∙ ap (λ (l : List (Assignment RomNext RomOutcome)). with_outcome l outcome) c.in-Work.ensures.log in (
-      subst (λ (l : List (Assignment RomNext RomOutcome)). DoneInTurn Does l start new) (sym told)
-          (told-turn Does log job outcome start now new c.loop.invariant.0 calls (call-goes c.args.slave job outcome now new calls not)),
+    let reported = c.done.ensures.log ∙ ap (λ (l : List (Assignment RomNext RomOutcome)). with_outcome l outcome) c.in-Work.ensures.log in (
+      subst (λ (l : List (Assignment RomNext RomOutcome)). DoneInTurn Does l start new) (sym reported)
+          (reported-turn Does log job outcome start now new c.loop.invariant.0 calls (call-goes c.args.slave job outcome now new calls not)),
       (λ next may. c.loop.invariant.1 next (c.in-Work.ensures.no_more next (c.done.ensures.no_more next may))),
       c.call-outcome.ensures.line ∙ c.loop.invariant.2,
       c.loop.invariant.3,
@@ -51,11 +51,11 @@ new-requires-clause-leads g c =
       | in-Some+in-Work+then-not-pass w ↦
           let new = g.S.Site.seen w.call-outcome.new.site in
           rw (c.into_log.ensures.log, w.dispatch-is, w.site-is, w.in-Work.ensures.log)
-          (worked slave _ start new (led-untold Does log w.in-Work.job w.call-outcome.result start now new turn w.call-outcome.ensures.calls))
+          (worked slave _ start new (led-unreported Does log w.in-Work.job w.call-outcome.result start now new turn w.call-outcome.ensures.calls))
       | in-Some+in-Work+else-not-pass+then-eq w ↦
           let new = g.S.Site.seen w.call-outcome.new.site in
           rw (c.into_log.ensures.log, w.dispatch-is, w.site-is, w.done.ensures.log, w.in-Work.ensures.log)
-          (worked slave _ start new (led-told Does log w.in-Work.job w.call-outcome.result start now new turn w.call-outcome.ensures.calls))
+          (worked slave _ start new (led-reported Does log w.in-Work.job w.call-outcome.result start now new turn w.call-outcome.ensures.calls))
     ]
 
 stopped-is : (outcome : RomOutcome) → eq-value.it outcome outcomes.Stopped ≡ true → outcome ≡ outcomes.Stopped

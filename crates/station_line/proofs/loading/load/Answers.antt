@@ -4,7 +4,7 @@ use Rattle.station_files.specs.FileNames.{spelt}
 use Rattle.station_files.specs.ScriptFiles.{SpellsCommands}
 use Rattle.station_files.proofs.Loaded.{handed_on}
 use Rattle.station_line.specs.Refusals.{RefusesRun}
-use Rattle.station_line.proofs.Judged.{has_journal, journal_refused, run_apart, script_refused}
+use Rattle.station_line.proofs.Validated.{has_journal, journal_refused, run_separate, script_refused}
 use Rattle.station_line.proofs.loading.load.Goals as goal
 
 pub returns-in-None-clause-spelt : goal.returns-in-None-clause-spelt
@@ -13,18 +13,18 @@ returns-in-None-clause-spelt g c = subst (λ (files : Known). SpellsCommands fil
 pub returns-in-None-clause-journal : goal.returns-in-None-clause-journal
 returns-in-None-clause-journal g c =
     let session = c.in_ok-session.session in
-    has_journal session.site session.refusal c.in_ok-session.ensures.judged c.in-None.is
+    has_journal session.site session.refusal c.in_ok-session.ensures.validated c.in-None.is
 
-pub returns-in-None-clause-apart : goal.returns-in-None-clause-apart
-returns-in-None-clause-apart g c =
+pub returns-in-None-clause-separate : goal.returns-in-None-clause-separate
+returns-in-None-clause-separate g c =
     let files = c.in-Ok.files in
-    run_apart g.S.Store.leads c.in_ok-session.session.line c.args.name.now c.args.script.now files.written (spelt files.names.items)
-    c.in-Ok.ensures.written c.in-Ok.ensures.names c.in-Ok-load_commands.ensures.apart
+    run_separate g.S.Store.leads c.in_ok-session.session.line c.args.name.now c.args.script.now files.written (spelt files.names.items)
+    c.in-Ok.ensures.written c.in-Ok.ensures.names c.in-Ok-load_commands.ensures.separate
 
 pub returns-in-Some-clause-refused : goal.returns-in-Some-clause-refused
 returns-in-Some-clause-refused g c =
     let session = c.in_ok-session.session in
-    inr (inr (journal_refused (g.S.Store.files c.args.store.now) c.args.name.now session.line session.site session.refusal c.in-Some.fault c.of_journal.result c.in_ok-session.ensures.loaded c.in_ok-session.ensures.judged c.in-Some.is c.of_journal.ensures))
+    inr (inr (journal_refused (g.S.Store.files c.args.store.now) c.args.name.now session.line session.site session.refusal c.in-Some.fault c.of_journal.result c.in_ok-session.ensures.loaded c.in_ok-session.ensures.validated c.in-Some.is c.of_journal.ensures))
 
 pub returns-in-Err-clause-refused : goal.returns-in-Err-clause-refused
 returns-in-Err-clause-refused g c =

@@ -3,14 +3,14 @@ use Rattle.station_files.specs.FileNames.{spelt}
 use Rattle.station_files.specs.declared.faults.Fault.TheVariants.{Memory}
 use Rattle.station_files.proofs.Loaded.{handed_on}
 use Rattle.station_line.specs.Refusals.{RefusesCommandFiles}
-use Rattle.station_line.proofs.Judged.{joined_apart, joined_refused}
+use Rattle.station_line.proofs.Validated.{joined_separate, joined_refused}
 use Rattle.station_line.proofs.loading.load_commands.Goals as goal
 
-pub returns-in-Ok-clause-apart : goal.returns-in-Ok-clause-apart
-returns-in-Ok-clause-apart g c =
+pub returns-in-Ok-clause-separate : goal.returns-in-Ok-clause-separate
+returns-in-Ok-clause-separate g c =
     let names = c.args.files in
     let all = c.in_ok-all.all in
-    joined_apart g.S.Store.leads names.written all.written (spelt names.names.items ++ c.args.script.now ∷ []) (spelt all.names.items) c.in_ok-all.ensures.written c.in_ok-all.ensures.names c.in-Ok.ensures.apart
+    joined_separate g.S.Store.leads names.written all.written (spelt names.names.items ++ c.args.script.now ∷ []) (spelt all.names.items) c.in_ok-all.ensures.written c.in_ok-all.ensures.names c.in-Ok.ensures.separate
 
 pub returns-clause-refused : goal.returns-clause-refused
 returns-clause-refused g c =

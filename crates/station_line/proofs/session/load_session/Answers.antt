@@ -5,7 +5,7 @@ use Rattle.station_files.specs.LineFiles.{names_of, RefusesSlaves}
 use Rattle.station_files.proofs.Loaded.{handed_on}
 use Rattle.station_line.specs.Refusals.{RefusesSession}
 use Rattle.station_line.proofs.Opened.{loads, old-by}
-use Rattle.station_line.proofs.Judged.{judged_by}
+use Rattle.station_line.proofs.Validated.{validated_by}
 use Rattle.station_line.proofs.Refused.{handed_by, journal_unread, lock_refused, plant_refused, same_refused}
 use Rattle.station_line.proofs.session.load_session.Goals as goal
 
@@ -23,10 +23,10 @@ returns-clause-loaded g c =
 pub returns-clause-old : goal.returns-clause-old
 returns-clause-old g c = old-by c.in_ok-slaves.slaves.items c.in_ok-journal.journal.items c.in_ok-site.site c.is_old-is_old.result (rw c.deref-4.ensures.value at c.in_ok-site.ensures) (rw c.deref.ensures.value at c.is_old-is_old.ensures)
 
-pub returns-clause-judged : goal.returns-clause-judged
-returns-clause-judged g c =
-    judged_by c.in_ok-slaves.slaves.items c.in_ok-journal.journal.items c.in_ok-site.site c.in_ok-refusal.refusal (rw c.deref-4.ensures.value at c.in_ok-site.ensures)
-    (rw (c.deref-2.ensures.value, c.deref-3.ensures.value) at c.in_ok-refusal.ensures.judged)
+pub returns-clause-validated : goal.returns-clause-validated
+returns-clause-validated g c =
+    validated_by c.in_ok-slaves.slaves.items c.in_ok-journal.journal.items c.in_ok-site.site c.in_ok-refusal.refusal (rw c.deref-4.ensures.value at c.in_ok-site.ensures)
+    (rw (c.deref-2.ensures.value, c.deref-3.ensures.value) at c.in_ok-refusal.ensures.validated)
 
 pub returns-in_err-line-clause-refused : goal.returns-in_err-line-clause-refused
 returns-in_err-line-clause-refused g c =
@@ -58,9 +58,9 @@ returns-in_err-journal-clause-refused g c =
     (journal_unread files (g.S.Store.files c.load_slaves.new.store) g.S.Store.leads c.args.name.now _ c.in_ok-line.line fault c.in_ok-line.ensures.line
     (c.load_slaves.ensures.same ∙ c.lock.ensures.same ∙ c.load_line.ensures.same) c.as_str-2.ensures.value c.in_err-journal.ensures.refused)
 
-pub returns-in_err-keep_line_apart-clause-refused : goal.returns-in_err-keep_line_apart-clause-refused
-returns-in_err-keep_line_apart-clause-refused g c =
+pub returns-in_err-keep_line_separate-clause-refused : goal.returns-in_err-keep_line_separate-clause-refused
+returns-in_err-keep_line_separate-clause-refused g c =
     let files = g.S.Store.files c.args.store.now in
-    let fault = c.in_err-keep_line_apart.field-0.0 in
-    handed_on (RefusesSession files g.S.Store.leads c.args.name.now) c.from_residual-in_err-keep_line_apart.result fault c.from_residual-in_err-keep_line_apart.ensures.1
-    (same_refused files g.S.Store.leads c.args.name.now c.in_ok-line.line fault c.in_ok-line.ensures.line c.in_err-keep_line_apart.ensures.refused)
+    let fault = c.in_err-keep_line_separate.field-0.0 in
+    handed_on (RefusesSession files g.S.Store.leads c.args.name.now) c.from_residual-in_err-keep_line_separate.result fault c.from_residual-in_err-keep_line_separate.ensures.1
+    (same_refused files g.S.Store.leads c.args.name.now c.in_ok-line.line fault c.in_ok-line.ensures.line c.in_err-keep_line_separate.ensures.refused)

@@ -22,7 +22,7 @@ returns-clause-status g c =
     IfOk-weaker c.print_image.result (ShowsImage c.in_ok-image.image) _
     (λ status shown. record {
       listing = shown.listing;
-      judged = shown.judged;
+      validated = shown.validated;
       says =
           if_some _ _ (text_of (option_map (λ name. name.now) c.args.shown.file) (g.R.Read.remaining c.args.input.now) (g.S.Store.files c.args.store.now))
           (λ text spelt. record { words = c.in_ok-image.image; spelt = spelt; says = shown.says })

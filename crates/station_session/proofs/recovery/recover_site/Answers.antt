@@ -1,7 +1,7 @@
 use Rattle.std.proofs.Common.{refl}
 use Rattle.station_line.proofs.Extending.{recovers_on, fails_on}
 use Rattle.station_session.proofs.Ending.{keeps-files, ends-recovered, ends-unrecovered}
-use Rattle.station_session.proofs.OnFiles.{log_of, told_of}
+use Rattle.station_session.proofs.OnFiles.{log_of, reported_of}
 use Rattle.station_session.proofs.recovery.recover_site.Goals as goal
 
 pub returns-in-Ok : goal.returns-in-Ok
@@ -15,5 +15,5 @@ returns-in-Err g c =
     let files = g.S.Store.files c.args.store.now in
     let held = c.take_apart-parts.result in
     ends-unrecovered files files c.args.line.now c.args.site.seen (log_of held.files) c.note.result
-    (keeps-files c.args.site.seen c.in-Err.left.seen held.is_sound (log_of held.files) (told_of held.files c.in-Err.left.seen held.is_sound c.take_apart-parts.ensures.files) c.requires.new (fails_on c.args.site.line c.args.site.seen c.in-Err.fault c.in-Err.left.line c.in-Err.left.seen c.in-Err.ensures.refused) c.in-Err.ensures.keeps)
+    (keeps-files c.args.site.seen c.in-Err.left.seen held.is_sound (log_of held.files) (reported_of held.files c.in-Err.left.seen held.is_sound c.take_apart-parts.ensures.files) c.requires.new (fails_on c.args.site.line c.args.site.seen c.in-Err.fault c.in-Err.left.line c.in-Err.left.seen c.in-Err.ensures.refused) c.in-Err.ensures.keeps)
     (λ other out. refl) c.note.ensures.fault

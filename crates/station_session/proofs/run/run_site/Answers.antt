@@ -4,7 +4,7 @@ use Rattle.station_line.specs.Opened.{GoesKept, StartsFrom}
 use Rattle.station_line.specs.Site.{IsFollowed}
 use Rattle.station_line.proofs.Opened.{starts-synced}
 use Rattle.station_session.specs.RunFiles.{TellsOf, opened, unopened}
-use Rattle.station_session.proofs.RunFiles.{told-opening}
+use Rattle.station_session.proofs.RunFiles.{reported-opening}
 use Rattle.station_session.proofs.run.run_site.Goals as goal
 
 pub returns-in-Ok-clause-goes : goal.returns-in-Ok-clause-goes
@@ -18,10 +18,10 @@ returns-in-Ok-clause-goes g c =
 
 pub returns-in-Err-clause-goes : goal.returns-in-Err-clause-goes
 returns-in-Err-clause-goes g c =
-    let told = c.of_opening.result in
+    let reported = c.of_opening.result in
     unopened c.in-Err.left.seen (record {
       goes = subst (λ (s : SiteValue). GoesKept s.seen c.in-Err.left.seen) c.with_device.ensures c.in-Err.ensures.goes;
       followed = subst (λ t. IsFollowed (TellsOf g.D.Device.follows g.D.Lends.tells t) c.in-Err.left.seen)
-          (sym (told-opening told.desk told.opening c.tell.result c.of_opening.ensures.desk c.of_opening.ensures.opening))
+          (sym (reported-opening reported.desk reported.opening c.tell.result c.of_opening.ensures.desk c.of_opening.ensures.opening))
           (c.into_parts-parts.result.1, (c.into_parts-parts.ensures.device, c.tell.ensures));
     }) c.note.ensures.fault

@@ -5,13 +5,13 @@ use Rattle.station_threads.proofs.closing.close.Goals as goal
 
 pub returns-in-Ok : goal.returns-in-Ok
 returns-in-Ok g c =
-    let judged = c.in-Ok.ensures in
+    let validated = c.in-Ok.ensures in
     record {
-      handed_in = rw (sym c.as_mut_slice.ensures.value, sym c.as_slice.ensures.value) judged.handed_in;
-      served = judged.served;
-      contents = judged.contents;
-      left = judged.left;
-      turns = judged.turns;
+      handed_in = rw (sym c.as_mut_slice.ensures.value, sym c.as_slice.ensures.value) validated.handed_in;
+      served = validated.served;
+      contents = validated.contents;
+      left = validated.left;
+      turns = validated.turns;
       ends = refl;
       handed_back = tt;
       all_shares = tt;
@@ -33,13 +33,13 @@ put-back {A} long new items same is =
 pub returns-in-Err-clause-handed_back : goal.returns-in-Err-clause-handed_back
 returns-in-Err-clause-handed_back g c =
     let shares = c.args.shares in (
-      put-back shares.len c.judge.new.shares shares.items (c.judge.ensures.shares ∙ c.as_mut_slice.ensures.value) (omega (arith, shares.ok.0)),
+      put-back shares.len c.validate.new.shares shares.items (c.validate.ensures.shares ∙ c.as_mut_slice.ensures.value) (omega (arith, shares.ok.0)),
       refl,
       refl,
     )
 
 pub returns-in-Err-clause-all_shares : goal.returns-in-Err-clause-all_shares
-returns-in-Err-clause-all_shares g c = rw (c.judge.ensures.same, sym c.as_mut_slice.ensures.value) c.judge.ensures.all_shares
+returns-in-Err-clause-all_shares g c = rw (c.validate.ensures.same, sym c.as_mut_slice.ensures.value) c.validate.ensures.all_shares
 
 pub returns-in-Err-clause-mismatch : goal.returns-in-Err-clause-mismatch
 returns-in-Err-clause-mismatch g c = rw (sym c.as_mut_slice.ensures.value, sym c.as_slice.ensures.value) c.in-Err.ensures.mismatch

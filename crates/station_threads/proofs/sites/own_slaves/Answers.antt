@@ -14,4 +14,4 @@ loop-slave-preserved g c place site below at =
     elim (cases_lt place c.loop-slave.slave) [ inl low ↦ c.loop-slave.invariant place site low at | inr high ↦ here (omega (arith, high, below)) ]
 
 pub returns : goal.returns
-returns g c whole place site at = let inside = slice_get_within c.args.sites.now place site at in c.loop-slave.invariant place site (omega (arith, inside, c.loop-slave-test.false)) at
+returns g c entire place site at = let inside = slice_get_within c.args.sites.now place site at in c.loop-slave.invariant place site (omega (arith, inside, c.loop-slave-test.false)) at

@@ -13,8 +13,8 @@ overflow_cast-slave g c =
     let at = c.loop-site in
     let site = c.in-Some.site in
     let steps : into_iter_items at.site-iterator ≡ site ∷ into_iter_items c.next.new.self = c.in-Some.ensures.steps.0 in
-    let whole = rw steps at (at.invariant.0 ∙ c.into_iter-site-iterator.ensures.into_iter_gives.0) in
-    let owned = c.requires.owned (length at.yielded) site (place-of _ at.yielded _ site whole) in
+    let entire = rw steps at (at.invariant.0 ∙ c.into_iter-site-iterator.ensures.into_iter_gives.0) in
+    let owned = c.requires.owned (length at.yielded) site (place-of _ at.yielded _ site entire) in
     let long = parts-long at.yielded at.parts.items at.invariant.3 in
     omega (arith, owned.1, at.parts.ok.0, c.len-slave.ensures)
 
@@ -26,8 +26,8 @@ new-requires-clause-owns g c κs lives =
     let at = c.loop-site in
     let site = c.in-Some.site in
     let steps : into_iter_items at.site-iterator ≡ site ∷ into_iter_items c.next.new.self = c.in-Some.ensures.steps.0 in
-    let whole = rw steps at (at.invariant.0 ∙ c.into_iter-site-iterator.ensures.into_iter_gives.0) in
-    let owned = c.requires.owned (length at.yielded) site (place-of _ at.yielded _ site whole) in
+    let entire = rw steps at (at.invariant.0 ∙ c.into_iter-site-iterator.ensures.into_iter_gives.0) in
+    let owned = c.requires.owned (length at.yielded) site (place-of _ at.yielded _ site entire) in
     let long = parts-long at.yielded at.parts.items at.invariant.3 in
     let here : c.len-slave.result ≡ length at.yielded = omega (arith, at.parts.ok.0, c.len-slave.ensures) in
     subst (λ (n : ℕ). Owns (g.S.Site.line site) n) (sym here) owned

@@ -14,7 +14,7 @@ returns-in-Ok-clause-plans g c =
       found = c.in-Ok.ensures.found;
       commands = given.commands.items;
       spelt = c.in-Ok.ensures.spelt;
-      apart = c.in-Ok.ensures.apart;
+      separate = c.in-Ok.ensures.separate;
       plans = plans;
     })
     c.plan_found.ensures

@@ -4,4 +4,4 @@ use Rattle.wire_session.proofs.recovery.recover_line.Goals as goal
 pub returns-in-Ok : goal.returns-in-Ok
 returns-in-Ok g c =
     recovers c.recover_found.result g.S.Store.leads (g.S.Store.files c.args.store.now) (g.S.Store.files c.find_line.new.store) (g.S.Store.files c.recover_found.new.store) c.args.name.now c.in-Ok.found.line c.in-Ok.found.slaves.items c.in-Ok.found.journal.items
-    c.in-Ok.ensures.found c.in-Ok.ensures.judged c.in-Ok.ensures.apart c.find_line.ensures.same c.recover_found.ensures
+    c.in-Ok.ensures.found c.in-Ok.ensures.validated c.in-Ok.ensures.separate c.find_line.ensures.same c.recover_found.ensures

@@ -4,9 +4,9 @@ use denote.Param.Send.{sendable}
 use Rattle.site_core.specs.State.{Seen}
 use Rattle.site_wire.specs.Following.{WireFollows}
 use Rattle.site_wire.proofs.Sent.{shared-send, wire-device-send}
-use Rattle.site_wire.specs.Told.{TellsWire}
-use Rattle.wire_session.specs.Slaves.{EndsTold, SlavesHold}
-use Rattle.wire_session.proofs.RunEnds.{told_own}
+use Rattle.site_wire.specs.Logged.{TellsWire}
+use Rattle.wire_session.specs.Slaves.{EndsReported, SlavesHold}
+use Rattle.wire_session.proofs.RunEnds.{reported_own}
 use Rattle.wire_session.proofs.SlavesHeld.{slaves_hold}
 use Rattle.station_line.specs.Site.{switched_on}
 use Rattle.wire_session.specs.Recovery.{SavesRecovered}
@@ -21,19 +21,19 @@ recover_site-requires-send-D g c κs lives = search (wire-device-send, shared-se
 pub returns-in-Ok-site_of : goal.returns-in-Ok-site_of
 returns-in-Ok-site_of g c =
     let count = length c.args.found.line.now.images.items in
-    recovers_opened (λ s. IsSomeAnd c.recover_site.result.told (λ told. EndsTold WireFollows (λ device. device.is_over ≡ false) TellsWire c.in-Ok-site_of.site count told s.seen))
-    (λ s. IsSomeAnd c.recover_site.result.told (SlavesHold c.args.found.slaves.now s)) c.recover_site.result.ended (g.S.Store.files c.args.store.now)
+    recovers_opened (λ s. IsSomeAnd c.recover_site.result.reported (λ reported. EndsReported WireFollows (λ device. device.is_over ≡ false) TellsWire c.in-Ok-site_of.site count reported s.seen))
+    (λ s. IsSomeAnd c.recover_site.result.reported (SlavesHold c.args.found.slaves.now s)) c.recover_site.result.ended (g.S.Store.files c.args.store.now)
     (g.S.Store.files c.open_journal.new.store) (g.S.Store.files c.recover_site.new.store) c.args.found.line.now c.args.found.slaves.now
     c.args.found.journal.items c.in-Ok-site_of.site c.open_journal.ensures.others c.in-Ok-site_of.ensures
-    (λ s recovered way. told_own {Q = SlavesHold c.args.found.slaves.now s} c.recover_site.result.told c.recover_site.ensures.own
-    (λ told own ends. slaves_hold c.in-Ok-site_of.site count s told (ap (λ (seen : Seen). seen.past) c.in-Ok-site_of.ensures.seen) ends own c.args.found.slaves.now c.args.found.journal.items
+    (λ s recovered way. reported_own {Q = SlavesHold c.args.found.slaves.now s} c.recover_site.result.reported c.recover_site.ensures.own
+    (λ reported own ends. slaves_hold c.in-Ok-site_of.site count s reported (ap (λ (seen : Seen). seen.past) c.in-Ok-site_of.ensures.seen) ends own c.args.found.slaves.now c.args.found.journal.items
     c.in-Ok-site_of.ensures.seen c.in-Ok-site_of.ensures.sizes (sym c.requires.count) recovered) way)
     c.recover_site.ensures.recovers
 
 pub returns-in-Err-site_of : goal.returns-in-Err-site_of
 returns-in-Err-site_of g c =
     ends_refused
-    (λ (done : Unit {0}). SavesRecovered (λ s. IsSomeAnd c.of_fault-in-Err-site_of.result.told (SlavesHold c.args.found.slaves.now s)) (g.S.Store.files c.open_journal.new.store)
+    (λ (done : Unit {0}). SavesRecovered (λ s. IsSomeAnd c.of_fault-in-Err-site_of.result.reported (SlavesHold c.args.found.slaves.now s)) (g.S.Store.files c.open_journal.new.store)
     c.args.found.line.now (switched_on c.args.found.slaves.now c.args.found.journal.items))
     c.of_fault-in-Err-site_of.result.ended Memory (g.S.Store.files c.args.store.now) (g.S.Store.files c.open_journal.new.store) c.args.found.line.now
     c.open_journal.ensures.others (inr refl) c.of_fault-in-Err-site_of.ensures.ended

@@ -2,8 +2,8 @@ use Rattle.std.proofs.Common.{◌≡◌, ◌∙◌, ap, subst, length, arith}
 use Rattle.site_core.specs.State.{Seen}
 use Rattle.script_session.proofs.SoundLaws.{on_ok}
 use Rattle.station_line.proofs.Opened.{as-many, has-disk}
-use Rattle.script_session.specs.Saving.{IsToldLine}
-use Rattle.wire_session.specs.Slaves.{EndsTold}
+use Rattle.script_session.specs.Saving.{IsReportedLine}
+use Rattle.wire_session.specs.Slaves.{EndsReported}
 use Rattle.wire_session.proofs.Recovering.{ends_recovered}
 use Rattle.wire_session.proofs.recovery.recover_site.Goals as goal
 
@@ -24,12 +24,12 @@ returns-in-Ok-clause-recovers g c =
     let tells = g.D.Lends.tells in
     let slaves = length c.args.line.now.images.items in
     let saved = c.save_recovered-ended in
-    ends_recovered (λ s. EndsTold follows well tells c.args.site slaves (record { desk = c.in-Ok.redone.told; behind = saved.result.1 }) s.seen)
+    ends_recovered (λ s. EndsReported follows well tells c.args.site slaves (record { desk = c.in-Ok.redone.reported; after = saved.result.1 }) s.seen)
     saved.result.0 (g.S.Store.files c.args.store.now) (g.S.Store.files saved.new.store) c.args.line.now c.args.site.seen
     c.in-Ok.redone.alone c.into_parts-core.result.1.seen.state c.in-Ok.ensures.recovered c.in-Ok.ensures.begins
-    (on_ok saved.result.0 (λ (ends : IsToldLine follows well tells saved.result.1 slaves c.into_parts-core.result.1.seen). record {
-      leads = c.in-Ok.ensures.told;
-      ends = subst (IsToldLine follows well tells saved.result.1 slaves) c.into_parts-core.ensures.seen ends;
-    }) saved.ensures.told)
+    (on_ok saved.result.0 (λ (ends : IsReportedLine follows well tells saved.result.1 slaves c.into_parts-core.result.1.seen). record {
+      leads = c.in-Ok.ensures.reported;
+      ends = subst (IsReportedLine follows well tells saved.result.1 slaves) c.into_parts-core.ensures.seen ends;
+    }) saved.ensures.reported)
     (ap (λ (seen : Seen). seen.state) c.into_parts-core.ensures.seen)
     saved.ensures.saved saved.ensures.others saved.ensures.failed

@@ -1,4 +1,4 @@
-use Rattle.wire_session.proofs.BehindDesk.{told-opened, begins-opened, counts-opened}
+use Rattle.wire_session.proofs.AfterDesk.{reported-opened, begins-opened, counts-opened}
 use Rattle.script_session.proofs.RedoLaws.{opened-here}
 use Rattle.wire_session.proofs.redoing.recover_by_threads.Goals as goal
 
@@ -11,7 +11,7 @@ returns-in-Ok-clause-begins g c = begins-opened c.redo_opened.result c.args.site
 pub returns-in-Ok-clause-counts : goal.returns-in-Ok-clause-counts
 returns-in-Ok-clause-counts g c = counts-opened c.redo_opened.result c.args.site c.in-Ok.alone c.in-Ok.found c.in-Ok.ensures.opens c.redo_opened.ensures.counts
 
-pub returns-in-Ok-clause-told : goal.returns-in-Ok-clause-told
-returns-in-Ok-clause-told g c =
-    told-opened g.D.Device.follows g.D.Device.well g.D.Lends.tells c.redo_opened.result c.args.site c.in-Ok.alone c.in-Ok.found c.in-Ok.ensures.opens
-    c.redo_opened.ensures.told
+pub returns-in-Ok-clause-reported : goal.returns-in-Ok-clause-reported
+returns-in-Ok-clause-reported g c =
+    reported-opened g.D.Device.follows g.D.Device.well g.D.Lends.tells c.redo_opened.result c.args.site c.in-Ok.alone c.in-Ok.found c.in-Ok.ensures.opens
+    c.redo_opened.ensures.reported

@@ -1,16 +1,16 @@
 use Rattle.station_files.specs.Files.{Known}
 use Rattle.station_files.specs.declared.faults.ExitStatus.{ExitStatus}
 use Rattle.wire_session.specs.Running.{SavesFound}
-use Rattle.wire_session.proofs.Endings.{ends_told, reported_twice}
+use Rattle.wire_session.proofs.Endings.{ends_as_reported, reported_twice}
 use Rattle.wire_session.proofs.running.run_found.Goals as goal
 
 pub returns : goal.returns
 returns g c =
     let found = c.args.found in
-    ends_told
-    (λ (files : Known) (status : ExitStatus). SavesFound files found.line found.slaves.items found.journal.items c.args.commands.items c.run_opened-ended.result.told status)
+    ends_as_reported
+    (λ (files : Known) (status : ExitStatus). SavesFound files found.line found.slaves.items found.journal.items c.args.commands.items c.run_opened-ended.result.reported status)
     c.run_opened-ended.result.ended c.tell_why-explained.result c.report_end.result (g.S.Store.files c.args.store.now)
     (g.S.Store.files c.run_opened-ended.new.store) (g.S.Store.files c.report_end.new.store) found.line
     c.report_end.ensures.same c.tell_why-explained.ensures
-    (reported_twice c.tell_why-explained.result c.tell_handed-told.result c.report_end.result c.tell_handed-told.ensures.reported c.report_end.ensures.reported)
+    (reported_twice c.tell_why-explained.result c.tell_handed-reported.result c.report_end.result c.tell_handed-reported.ensures.reported c.report_end.ensures.reported)
     (rw c.deref.ensures.value at c.run_opened-ended.ensures)

@@ -7,12 +7,12 @@ use Rattle.site_wire.proofs.Sent.{shared-send, wire-device-send}
 use Rattle.station_files.specs.declared.faults.ExitStatus.{ExitStatus}
 use Rattle.station_line.proofs.Opened.{old-by}
 use Rattle.wire_session.specs.Running.{SavesFound}
-use Rattle.site_wire.specs.Told.{TellsWire}
-use Rattle.wire_session.specs.Slaves.{EndsTold, SlavesHold}
+use Rattle.site_wire.specs.Logged.{TellsWire}
+use Rattle.wire_session.specs.Slaves.{EndsReported, SlavesHold}
 use Rattle.wire_session.proofs.SlavesHeld.{slaves_hold}
 use Rattle.station_files.specs.declared.faults.Fault.TheVariants.{Memory}
 use Rattle.wire_session.proofs.Endings.{ends_refused}
-use Rattle.wire_session.proofs.RunEnds.{ends_found, told_own}
+use Rattle.wire_session.proofs.RunEnds.{ends_found, reported_own}
 use Rattle.wire_session.proofs.running.run_opened.Goals as goal
 
 pub run_site-requires-send-D : goal.run_site-requires-send-D
@@ -26,12 +26,12 @@ run_site-requires-clause-old g c κs lives =
 pub returns-in-Ok-site_of : goal.returns-in-Ok-site_of
 returns-in-Ok-site_of g c =
     let count = length c.args.found.line.now.images.items in
-    ends_found (λ last. IsSomeAnd c.run_site.result.told (λ told. EndsTold WireFollows (λ device. device.is_over ≡ false) TellsWire c.in-Ok-site_of.site count told last))
+    ends_found (λ last. IsSomeAnd c.run_site.result.reported (λ reported. EndsReported WireFollows (λ device. device.is_over ≡ false) TellsWire c.in-Ok-site_of.site count reported last))
     c.run_site.result (g.S.Store.files c.args.store.now) (g.S.Store.files c.open_journal.new.store) (g.S.Store.files c.run_site.new.store)
     c.args.found.line.now c.args.found.slaves.now c.args.found.journal.items c.in-Ok-site_of.site c.args.work.commands.items c.open_journal.ensures.others
     c.in-Ok-site_of.ensures
-    (λ s recovered way. told_own {Q = SlavesHold c.args.found.slaves.now s} c.run_site.result.told c.run_site.ensures.own
-    (λ told own ends. slaves_hold c.in-Ok-site_of.site count s told (ap (λ (seen : Seen). seen.past) c.in-Ok-site_of.ensures.seen) ends own c.args.found.slaves.now c.args.found.journal.items
+    (λ s recovered way. reported_own {Q = SlavesHold c.args.found.slaves.now s} c.run_site.result.reported c.run_site.ensures.own
+    (λ reported own ends. slaves_hold c.in-Ok-site_of.site count s reported (ap (λ (seen : Seen). seen.past) c.in-Ok-site_of.ensures.seen) ends own c.args.found.slaves.now c.args.found.journal.items
     c.in-Ok-site_of.ensures.seen c.in-Ok-site_of.ensures.sizes (sym c.requires.count) recovered) way)
     c.run_site.ensures.ends
 
@@ -39,6 +39,6 @@ pub returns-in-Err-site_of : goal.returns-in-Err-site_of
 returns-in-Err-site_of g c =
     let found = c.args.found in
     ends_refused
-    (λ (status : ExitStatus). SavesFound (g.S.Store.files c.open_journal.new.store) found.line.now found.slaves.now found.journal.items c.args.work.commands.items c.of_fault-in-Err-site_of.result.told status)
+    (λ (status : ExitStatus). SavesFound (g.S.Store.files c.open_journal.new.store) found.line.now found.slaves.now found.journal.items c.args.work.commands.items c.of_fault-in-Err-site_of.result.reported status)
     c.of_fault-in-Err-site_of.result.ended Memory (g.S.Store.files c.args.store.now) (g.S.Store.files c.open_journal.new.store) found.line.now
     c.open_journal.ensures.others (inr refl) c.of_fault-in-Err-site_of.ensures.ended

@@ -8,8 +8,8 @@ end_threads-ended-requires-clause-line g c κs lives =
     line-of c.in-Ok.left.site.line c.len.result (length c.args.line.now.images.items)
     (omega (arith, c.len.ensures, c.args.line.now.images.ok.0)) c.in-Ok.ensures.line
 
-pub end_threads-ended-requires-clause-told : goal.end_threads-ended-requires-clause-told
-end_threads-ended-requires-clause-told g c κs lives = c.in-Ok.ensures.left.told
+pub end_threads-ended-requires-clause-reported : goal.end_threads-ended-requires-clause-reported
+end_threads-ended-requires-clause-reported g c κs lives = c.in-Ok.ensures.left.reported
 
 pub returns-else-not-are_of_parts-clause-ends : goal.returns-else-not-are_of_parts-clause-ends
 returns-else-not-are_of_parts-clause-ends g c =

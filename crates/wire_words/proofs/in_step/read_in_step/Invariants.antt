@@ -7,6 +7,6 @@ abbrev pub invariant-loop-frame : goal.invariant-loop-frame
 invariant-loop-frame g l = record {
   same : l.wire.stations ≡ l.fn.wire.stations;
   lent : l.wire.is_lent ≡ l.fn.wire.is_lent;
-  told : All (IsUnderWay g.W.Wire.gives) l.readers;
+  reported : All (IsUnderWay g.W.Wire.gives) l.readers;
   kept : AllKept g.W.Wire.gives l.ahead;
 }

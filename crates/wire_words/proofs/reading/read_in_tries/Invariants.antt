@@ -5,7 +5,7 @@ use Rattle.wire_words.proofs.reading.read_in_tries.Given as goal
 abbrev pub invariant-loop-frame : goal.invariant-loop-frame
 invariant-loop-frame g l = record {
   same : l.wire.stations ≡ l.fn.wire.stations;
-  told : IsUnderWay g.W.Wire.gives l.reader;
+  reported : IsUnderWay g.W.Wire.gives l.reader;
   station : l.reader.station ≡ slice_index l.fn.wire.stations.by_slave l.slave;
   word : l.reader.word ≡ l.word;
 }

@@ -7,7 +7,7 @@ use Rattle.book_model.specs.Entries.{entries_of, live_runs}
 use Rattle.book_parts.specs.Room.{Room}
 use Rattle.book_parts.specs.Ledger.{opened}
 use Rattle.book_parts.specs.Shown.{Shown}
-use Rattle.book_core.specs.Found.{IsTaken}
+use Rattle.book_core.specs.OpenedState.{IsTaken}
 use Rattle.book_core.proofs.OpenLaws.{form-live, opened-stands}
 use Rattle.book_core.proofs.book.Core.open.Goals as goal
 

@@ -6,7 +6,7 @@ use Rattle.book_parts.specs.declared.spot.Spot.{Spot}
 use Rattle.book_parts.specs.declared.spot.Spot.TheVariants.{InOlder, InNewer}
 use Rattle.book_parts.specs.Room.{Room}
 use Rattle.book_parts.specs.Spot.{as_place}
-use Rattle.book_parts.proofs.RoomOpenLaws.{apart, place_by, stands_at, payloads-fit, payload-at, all-bytes, apart-more, one-more-fits, apart-is}
+use Rattle.book_parts.proofs.RoomOpenLaws.{separate, place_by, stands_at, payloads-fit, payload-at, all-bytes, separate-more, one-more-fits, separate-is}
 use Rattle.book_parts.proofs.area.Area.open.Goals as goal
 use Rattle.book_parts.proofs.area.Area.open.Goals.{then-batch-at, else-batch-at}
 
@@ -42,11 +42,11 @@ loop-batch-preserved c =
     c.put.ensures
     ∙ rw (place, c.loop-batch.invariant)
     (ap (λ (h : Halves). let r : Room = record { form = c.args.form; capacity = c.args.capacity; halves = h } in r)
-    (apart-more c.args.form c.args.capacity at c.older_of-at.result.1 c.args.batches.now c.loop-batch.batch-index batch c.loop-batch-test.true c.batch-item.is))
+    (separate-more c.args.form c.args.capacity at c.older_of-at.result.1 c.args.batches.now c.loop-batch.batch-index batch c.loop-batch-test.true c.batch-item.is))
 
 pub returns : goal.returns
 returns c =
     let all = take_all c.loop-batch.batch-index c.args.batches.now c.loop-batch-test.false in
     c.loop-batch.invariant
-    ∙ ap (apart c.args.form c.args.capacity c.older_of-at.result.0 c.older_of-at.result.1) all
-    ∙ rw (c.older_of-at.ensures.half, c.older_of-at.ensures.generation) (apart-is c.args.form c.args.capacity c.args.batches.now)
+    ∙ ap (separate c.args.form c.args.capacity c.older_of-at.result.0 c.older_of-at.result.1) all
+    ∙ rw (c.older_of-at.ensures.half, c.older_of-at.ensures.generation) (separate-is c.args.form c.args.capacity c.args.batches.now)

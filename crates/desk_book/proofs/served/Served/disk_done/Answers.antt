@@ -1,6 +1,6 @@
 use Rattle.std.proofs.Common.{◌≡◌, ◌∙◌, true, refl, sym, ap}
 use Rattle.book_model.specs.Book.{Book}
-use Rattle.desk_book.specs.declared.call.Call.TheVariants.{DiskTold}
+use Rattle.desk_book.specs.declared.call.Call.TheVariants.{DiskReported}
 use Rattle.station_jobs.specs.Noted.{is_waiting}
 use Rattle.desk_book.specs.Logs.{disk_log}
 use Rattle.desk_book.proofs.OutLaws.{disk-out}
@@ -13,7 +13,7 @@ invariant_of-self g c =
     let s = c.self.inside in
     let i = c.self.invariant in
     let outcome = c.args.outcome in
-    let call = DiskTold outcome in
+    let call = DiskReported outcome in
     let waits : is_waiting (disk_log s.history) ≡ true = ap is_waiting (sym i.3.of_disk) ∙ sym c.is_waiting.ensures ∙ c.if-not-is_waiting.false in
     let out : s.core.is_handed_out ≡ true = ap (λ (b : Book). b.is_handed_out) i.0.same ∙ disk-out g.T.Tickets.opened s.history i.0.answers waits in
     rw c.note.ensures (

@@ -1,5 +1,5 @@
 use Rattle.std.proofs.Common.{refl}
-use Rattle.ecat_frame.specs.Kept.{pdus}
+use Rattle.ecat_frame.specs.Retained.{pdus}
 use Rattle.ecat_frame.proofs.Spelled.{kept_empty}
 use Rattle.ecat_frame.proofs.frame.Frame.new.Goals as goal
 

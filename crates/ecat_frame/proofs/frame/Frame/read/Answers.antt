@@ -8,11 +8,11 @@ returns-in_default-clause-err c =
 
 pub append-requires : goal.append-requires
 append-requires c =
-    has_room c.args.inside.now c.loop-more.rest.now _ c.loop-more.frame _ _ _ c.loop-more.invariant c.requires c.in-Some.ensures.whole
+    has_room c.args.inside.now c.loop-more.rest.now _ c.loop-more.frame _ _ _ c.loop-more.invariant c.requires c.in-Some.ensures.entire
 
 pub loop-more-preserved : goal.loop-more-preserved
 loop-more-preserved c =
-    rw c.append.ensures (goes_on c.args.inside.now c.loop-more.rest.now _ c.loop-more.frame _ _ _ c.loop-more.invariant c.loop-more-test.true c.in-Some.ensures.whole)
+    rw c.append.ensures (goes_on c.args.inside.now c.loop-more.rest.now _ c.loop-more.frame _ _ _ c.loop-more.invariant c.loop-more-test.true c.in-Some.ensures.entire)
 
 pub returns-then-not-is_empty-clause-err : goal.returns-then-not-is_empty-clause-err
 returns-then-not-is_empty-clause-err c =

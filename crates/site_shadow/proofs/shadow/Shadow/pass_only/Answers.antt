@@ -2,8 +2,8 @@ use Rattle.std.proofs.Common.{◌≡◌, ◌++◌, ◌∷◌, [], List, true, fa
 use Rattle.std.proofs.lemmas.Grind.{common_steps}
 use Rattle.site_core.specs.State.{State}
 use Rattle.site_shadow.specs.Stopping.{noted}
-use Rattle.site_shadow.specs.Following.{FollowsBehind}
-use Rattle.site_shadow.proofs.Keeping.{FollowsBehind-none}
+use Rattle.site_shadow.specs.Following.{FollowsAfter}
+use Rattle.site_shadow.proofs.Keeping.{FollowsAfter-none}
 use Rattle.site_shadow.proofs.Replies.{AreReplies-length}
 use Rattle.site_shadow.proofs.OnlyDatagram.{reply-long, put_back, Passed-only}
 use Rattle.site_shadow.proofs.shadow.Shadow.pass_only.Goals as goal
@@ -39,7 +39,7 @@ returns-then-is_none-clause-follows g c = λ running followed.
     let middle_is : c.note-2.new.self ≡ c.take-torn.new.self.state ∷ [] =
     c.note-2.ensures ∙ ap (λ (m : List State). m ++ c.now.result ∷ []) c.requires.empty ∙ ap (λ (s : State). s ∷ []) c.now.ensures in
     subst (λ (m : List State). g.D.Device.follows c.take-torn.new.device (noted c.args.self.now m c.take-torn.new.self.state)) (sym middle_is)
-    (FollowsBehind-none g.D.Device.follows c.take-torn.new.device c.take-torn.result
+    (FollowsAfter-none g.D.Device.follows c.take-torn.new.device c.take-torn.result
     (noted c.args.self.now ([] ++ c.take-torn.new.self.state ∷ []) c.take-torn.new.self.state) going
     (c.take-torn.ensures.follows c.args.self.now [] running refl followed))
 
@@ -47,5 +47,5 @@ pub returns-clause-follows : goal.returns-clause-follows
 returns-clause-follows g c = λ running followed.
     let middle_is : c.note-2.new.self ≡ c.take-torn.new.self.state ∷ [] =
     c.note-2.ensures ∙ ap (λ (m : List State). m ++ c.now.result ∷ []) c.requires.empty ∙ ap (λ (s : State). s ∷ []) c.now.ensures in
-    subst (λ (m : List State). FollowsBehind g.D.Device.follows c.take-torn.new.device c.take-torn.result (noted c.args.self.now m c.take-torn.new.self.state)) (sym middle_is)
+    subst (λ (m : List State). FollowsAfter g.D.Device.follows c.take-torn.new.device c.take-torn.result (noted c.args.self.now m c.take-torn.new.self.state)) (sym middle_is)
     (c.take-torn.ensures.follows c.args.self.now [] running refl followed)

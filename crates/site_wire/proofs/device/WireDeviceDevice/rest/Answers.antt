@@ -1,6 +1,6 @@
 use Rattle.std.proofs.Common.{refl}
 use Rattle.site_shadow.specs.declared.device.Resting.TheVariants as resting
-use Rattle.site_wire.proofs.Following.{rest_keeps, over_before, over_behind}
+use Rattle.site_wire.proofs.Following.{rest_keeps, over_before, over_after}
 use Rattle.site_wire.proofs.device.WireDeviceDevice.rest.Goals as goal
 
 pub returns-then-self-clause-follows : goal.returns-then-self-clause-follows
@@ -9,7 +9,7 @@ returns-then-self-clause-follows g c =
 
 pub returns-then-self-2-clause-follows : goal.returns-then-self-2-clause-follows
 returns-then-self-2-clause-follows g c =
-    over_behind c.args.slave c.args.half.now c.args.frame.now c.args.k c.args.self.now c.carry.new.self resting.Stays c.if-self-2.true
+    over_after c.args.slave c.args.half.now c.args.frame.now c.args.k c.args.self.now c.carry.new.self resting.Stays c.if-self-2.true
     c.carry.ensures.journal c.carry.ensures.carries
 
 pub returns-clause-follows : goal.returns-clause-follows

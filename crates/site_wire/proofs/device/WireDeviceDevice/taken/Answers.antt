@@ -7,7 +7,7 @@ pub returns-then-self-clause-follows : goal.returns-then-self-clause-follows
 returns-then-self-clause-follows g c = nothing_stops c.args.self.now c.args.self.now New refl (record { sent = refl; over = λ going. going })
 
 pub returns-then-self-2-clause-follows : goal.returns-then-self-2-clause-follows
-returns-then-self-2-clause-follows g c = nothing_stops c.args.self.now c.judge.new.self New c.judge.ensures.journal c.judge.ensures.quiet
+returns-then-self-2-clause-follows g c = nothing_stops c.args.self.now c.validate.new.self New c.validate.ensures.journal c.validate.ensures.quiet
 
 pub returns-clause-follows : goal.returns-clause-follows
-returns-clause-follows g c = nothing_keeps c.args.self.now c.judge.new.self c.judge.ensures.journal c.judge.ensures.quiet
+returns-clause-follows g c = nothing_keeps c.args.self.now c.validate.new.self c.validate.ensures.journal c.validate.ensures.quiet

@@ -1,6 +1,6 @@
 use Rattle.std.proofs.Common.{ℕ, ◌+◌, List, [], ◌∙◌, ap, sym, subst, arith}
 use Rattle.station_alone.specs.declared.choice.Answer.{Answer}
-use Rattle.station_alone.proofs.RunLaws.{Ran, ran-none, ran-more, ran-whole}
+use Rattle.station_alone.proofs.RunLaws.{Ran, ran-none, ran-more, ran-entire}
 use Rattle.station_alone.proofs.alone.Alone.run.Goals as goal
 
 pub loop-choice-init : goal.loop-choice-init
@@ -27,16 +27,16 @@ loop-choice-preserved g c = record {
 
 pub returns-clause-steps : goal.returns-clause-steps
 returns-clause-steps g c =
-    (ran-whole c.args.choices.now c.loop-choice.choice-index c.loop-choice.answers.items c.args.self.now c.loop-choice.self c.loop-choice-test.false c.loop-choice.invariant.ran).steps
+    (ran-entire c.args.choices.now c.loop-choice.choice-index c.loop-choice.answers.items c.args.self.now c.loop-choice.self c.loop-choice-test.false c.loop-choice.invariant.ran).steps
 
 pub returns-clause-goes_on : goal.returns-clause-goes_on
 returns-clause-goes_on g c =
-    (ran-whole c.args.choices.now c.loop-choice.choice-index c.loop-choice.answers.items c.args.self.now c.loop-choice.self c.loop-choice-test.false c.loop-choice.invariant.ran).goes_on
+    (ran-entire c.args.choices.now c.loop-choice.choice-index c.loop-choice.answers.items c.args.self.now c.loop-choice.self c.loop-choice-test.false c.loop-choice.invariant.ran).goes_on
 
 pub returns-clause-keeps : goal.returns-clause-keeps
 returns-clause-keeps g c =
-    (ran-whole c.args.choices.now c.loop-choice.choice-index c.loop-choice.answers.items c.args.self.now c.loop-choice.self c.loop-choice-test.false c.loop-choice.invariant.ran).keeps
+    (ran-entire c.args.choices.now c.loop-choice.choice-index c.loop-choice.answers.items c.args.self.now c.loop-choice.self c.loop-choice-test.false c.loop-choice.invariant.ran).keeps
 
 pub returns-clause-in_order : goal.returns-clause-in_order
 returns-clause-in_order g c =
-    (ran-whole c.args.choices.now c.loop-choice.choice-index c.loop-choice.answers.items c.args.self.now c.loop-choice.self c.loop-choice-test.false c.loop-choice.invariant.ran).in_order
+    (ran-entire c.args.choices.now c.loop-choice.choice-index c.loop-choice.answers.items c.args.self.now c.loop-choice.self c.loop-choice-test.false c.loop-choice.invariant.ran).in_order

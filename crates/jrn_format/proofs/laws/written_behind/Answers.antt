@@ -1,5 +1,0 @@
-use Rattle.jrn_format.proofs.AreaLaws.{same_before}
-use Rattle.jrn_format.proofs.laws.written_behind.Goals as goal
-
-pub returns : goal.returns
-returns c = same_before

@@ -1,9 +1,0 @@
-use Rattle.station_files.specs.declared.faults.Fault.{Fault}
-use Rattle.script_session.proofs.DeskLaws.{servable}
-use Rattle.script_session.proofs.apart.servable_sites.Goals as goal
-
-pub returns-clause-servable : goal.returns-clause-servable
-returns-clause-servable c state bytes halves =
-    let sites = c.in_ok-sites in
-    servable {E = Fault} c.whole_sites.result sites.sites c.args.capacity state c.args.line.disk _ (c.reaches.ensures.0 c.if-not-reaches.false) bytes halves
-    sites.ensures.disk sites.ensures.new sites.ensures.slaves c.whole_sites.ensures

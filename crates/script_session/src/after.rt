@@ -1,0 +1,151 @@
+//! What goes behind a desk on its line: a recovery, the commands that weren't submitted there, on this thread, and saving.
+ghost use Rattle.std.specs.Prelude.{◌≡◌, length, IfErr, IfOk, IsTrue, OnOk};
+ghost use Rattle.station_files.specs.Files.{ChangesAmong};
+ghost use Rattle.station_line.specs.Site.{HoldsSite, IsFollowed, files_of};
+ghost use Rattle.script_session.specs.After.{GoesAfterDesk, LedOn, SavesFollowed, ServesSome, Tells};
+ghost use Rattle.script_session.specs.Parts.{IsLineOf};
+ghost use Rattle.script_session.specs.Saving.{IsReportedLine, MayFail, SavesAfter, SavesServed};
+
+use crate::saving::save_reported;
+use sii_edit::Command;
+use site_shadow::{Lends, ShadowSite};
+use station_alone::{Alone, recover};
+use station_files::{ExitStatus, Fault, Store};
+use station_line::{of_open, serve_commands};
+use station_text::LineFile;
+use std::alloc::Global;
+use std::io::Write;
+
+/// A line that a desk has left.
+#[derive(Drop)]
+pub struct DeskLeft<S> {
+    /// The site of the line.
+    pub site: S,
+    /// Whether the commands were submitted at the desk.
+    pub is_driven: bool,
+    /// The commands where they were not submitted, and otherwise none.
+    pub commands: Vec<Command>,
+}
+
+/// How the work on a line ended, and what is told of its device.
+#[derive(Drop)]
+pub struct LineEnd<T> {
+    /// The status of the answers that were given, or the fault that ended the work.
+    pub ended: Result<ExitStatus, Fault>,
+    /// What the line's device tells.
+    pub reported: T,
+}
+
+/// Recovers a line that a desk has left, and saves what it holds. If the commands were not submitted at the desk, they are served between the two.
+/// After a fault nothing more is written.
+///
+/// The result is the fault of the recovery, as `of_open` gives it; then that of `serve_commands`; then that of `save_reported`.
+pub fn end_line<D: Lends, S: Store, O: Write>(
+    alloc: Global,
+    line: &LineFile,
+    left: DeskLeft<ShadowSite<D>>,
+    store: &mut S,
+    output: &mut O,
+) -> LineEnd<D::Logged>
+    requires line { IsLineOf (length line.now.images.items) left.site.line }
+    ensures others { ChangesAmong (S.files store.old) (S.files store.new) (files_of line.now) }
+    ensures failed { IfErr result.ended (MayFail (S.files store.old) (S.files store.new)) }
+    ensures saved { IfOk result.ended (SavesAfter (S.files store.new) line.now left.site.seen left.is_driven left.commands.items) }
+    ensures goes { GoesAfterDesk (Tells D.follows D.tells result.reported) left.is_driven left.commands.items left.site.seen result.ended }
+    ensures held { OnOk result.ended (IsTrue left.is_driven → SavesFollowed
+        (LedOn D.follows D.well D.tells result.reported (length line.now.images.items) left.site.seen) (S.files store.new) line.now) }
+{
+    let DeskLeft {
+        site,
+        is_driven,
+        commands,
+    } = left;
+    match recover(alloc, site) {
+        Ok((alone, _recovered)) => {
+            if !is_driven {
+                return serve_alone(alloc, line, alone, commands, store, output);
+            }
+            drop(commands);
+            save_station(alloc, line, alone, ExitStatus::Done, store)
+        }
+        Err((back, fault)) => {
+            drop(commands);
+            LineEnd {
+                ended: Err(of_open(fault)),
+                reported: reported_of(back),
+            }
+        }
+    }
+}
+
+/// Serves the commands on an open station on this thread, and saves what its line holds. After a fault nothing more is written.
+fn serve_alone<D: Lends, S: Store, O: Write>(
+    alloc: Global,
+    line: &LineFile,
+    mut alone: Alone<ShadowSite<D>>,
+    commands: Vec<Command>,
+    store: &mut S,
+    output: &mut O,
+) -> LineEnd<D::Logged>
+    requires disk { IsTrue alone.line.has_disk }
+    requires slaves { length alone.line.sizes ≡ length line.now.images.items }
+    ensures others { ChangesAmong (S.files store.old) (S.files store.new) (files_of line.now) }
+    ensures failed { IfErr result.ended (MayFail (S.files store.old) (S.files store.new)) }
+    ensures saved { IfOk result.ended (SavesServed (S.files store.new) line.now alone commands.items) }
+    ensures serves { ServesSome (Tells D.follows D.tells result.reported) commands.items alone }
+{
+    let mut status = ExitStatus::Done;
+    let slaves = line.images.len() as u16;
+    match serve_commands(&mut alone, slaves, commands, output, &mut status) {
+        Ok(()) => save_station(alloc, line, alone, status, store),
+        Err(fault) => {
+            let (core, site) = alone.into_parts();
+            drop(core);
+            LineEnd {
+                ended: Err(fault),
+                reported: reported_of(site),
+            }
+        }
+    }
+}
+
+/// Saves what the line of this station holds. Gives this status of the answers.
+fn save_station<D: Lends, S: Store>(
+    alloc: Global,
+    line: &LineFile,
+    alone: Alone<ShadowSite<D>>,
+    status: ExitStatus,
+    store: &mut S,
+) -> LineEnd<D::Logged>
+    requires disk { IsTrue alone.line.has_disk }
+    requires slaves { length alone.line.sizes ≡ length line.now.images.items }
+    ensures others { ChangesAmong (S.files store.old) (S.files store.new) (files_of line.now) }
+    ensures failed { IfErr result.ended (MayFail (S.files store.old) (S.files store.new)) }
+    ensures saved { OnOk result.ended (HoldsSite (S.files store.new) line.now alone.seen.state) }
+    ensures status { IfOk result.ended (λ given. given ≡ status) }
+    ensures followed { IsFollowed (Tells D.follows D.tells result.reported) alone.seen }
+    ensures reported { OnOk result.ended (IsReportedLine D.follows D.well D.tells result.reported (length line.now.images.items) alone.seen) }
+{
+    let (core, site) = alone.into_parts();
+    drop(core);
+    let (saved, reported) = save_reported(alloc, line, site, store);
+    match saved {
+        Ok(()) => LineEnd {
+            ended: Ok(status),
+            reported,
+        },
+        Err(fault) => LineEnd {
+            ended: Err(fault),
+            reported,
+        },
+    }
+}
+
+/// What is told of the device of a line that isn't worked on any more.
+fn reported_of<D: Lends>(site: ShadowSite<D>) -> D::Logged
+    ensures { IsFollowed (Tells D.follows D.tells result) site.seen }
+{
+    let (parts, mut device) = site.into_parts();
+    drop(parts);
+    device.tell()
+}

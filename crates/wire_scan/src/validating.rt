@@ -1,0 +1,86 @@
+//! What is looked at once a line is found, before a word is written.
+ghost use Rattle.std.specs.Prelude.{◌≡◌, ◌≤◌, length, IfOk};
+
+use line_changes::resizes;
+use sii_edit::Command;
+use sii_words::{Plant, Words};
+use std::alloc::{AllocError, Global};
+use wire_bringup::{FoundLine, SlaveState};
+use wire_faults::WireFault;
+
+/// The words of the slaves of a line that was found, of which the line file names so many.
+///
+/// # Errors
+///
+/// `Line` for the first slave that can't be worked on; then `OtherCount` where the line has another number of slaves.
+pub fn validate_slaves(
+    alloc: Global,
+    found: FoundLine,
+    wanted: usize,
+) -> Result<Vec<Words>, WireFault>
+    ensures count { IfOk result (λ slaves. length slaves.items ≡ wanted) }
+    ensures found { IfOk result (λ slaves. length slaves.items ≡ length found.slaves.items) }
+{
+    let slaves = found.into_words(alloc)?;
+    let count = slaves.len();
+    if count == wanted {
+        Ok(slaves)
+    } else {
+        Err(WireFault::OtherCount { slaves: count })
+    }
+}
+
+/// Looks whether a run may begin on slaves in these states.
+///
+/// # Errors
+///
+/// For the first slave of so many: `Running` where it is in Safe-Operational or Operational, and `Held` where its PDI has the EEPROM or is
+/// offered it.
+pub(crate) fn validate_states(states: &[SlaveState], slaves: usize) -> Result<(), WireFault> {
+    for (slave, state) in states.iter().take(slaves).enumerate() {
+        if state.is_above_preop() {
+            return Err(WireFault::Running { slave });
+        }
+        if state.is_with_pdi() {
+            return Err(WireFault::Held { slave });
+        }
+    }
+    Ok(())
+}
+
+/// Looks whether the commands leave word 0x3E alone, or make it tell the size that the slave's EEPROM has. A command that is refused changes
+/// nothing.
+///
+/// # Errors
+///
+/// `OtherSize` for the first command that makes it tell another size; `Memory`.
+pub fn validate_commands(
+    alloc: Global,
+    slaves: &[Words],
+    commands: &[Command],
+) -> Result<(), WireFault>
+    requires some { 1 ≤ length slaves.now }
+    requires most { length slaves.now ≤ 64 }
+{
+    let plant = Plant::of(copies_of(alloc, slaves)?);
+    let found = resizes(alloc, &plant, commands)?;
+    match found.first() {
+        Some(first) => Err(WireFault::OtherSize {
+            command: first.command,
+            slave: first.slave,
+            words: first.says,
+        }),
+        None => Ok(()),
+    }
+}
+
+/// A copy of the slaves' words.
+fn copies_of(alloc: Global, slaves: &[Words]) -> Result<Vec<Words>, AllocError>
+    ensures { IfOk result (λ copies. length copies.items ≡ length slaves.now) }
+{
+    let mut copies = Vec::new(alloc);
+    for words in slaves {
+        copies.push(words.try_copy()?)?;
+    }
+    Ok(copies)
+}
