@@ -93,7 +93,7 @@ static int open_text(void) {
     int again = open("/dev/fd/1", O_WRONLY | O_APPEND | O_NOCTTY | O_NONBLOCK);
     FILE *passed = again < 0 ? popen("exec cat", "w") : NULL;
     must(again >= 0 || passed, "standard output");
-    // What the caller writes to this file later is to stand after the program's text.
+    // What the caller writes to this file later is to stand behind the program's text.
     if (!fstat(1, &at) && S_ISREG(at.st_mode)) fcntl(1, F_SETFL, fcntl(1, F_GETFL) | O_APPEND);
     return passed ? fileno(passed) : 1;
 }
@@ -132,7 +132,7 @@ int main(int argc, char **argv) {
     }
     long ms = timeout ? strtol(timeout, &rest, 10) : 0;
     if (!rest || *rest || ms < 1 || ms > 60000) errx(USAGE, "--timeout wants a number of milliseconds, 1 to 60000");
-    // Subcommands that need no wire. What stands after sii_slaves is a file.
+    // Subcommands that need no wire. What stands behind sii_slaves is a file.
     const char *plain = called == executed ? "" : " help explain man completions ";
     int wire = helps || is_among(count > 6 ? words[6] : "help", plain) ? spare : open_wire(name, ms);
     give_up_privileges();

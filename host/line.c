@@ -3,13 +3,13 @@
 //
 // Each IMAGE is the EEPROM chip of one slave, in the order of the line, low byte of each word first. A word that a slave writes is in its
 // file as soon as the chip has programmed it. A file that isn't there becomes a blank chip. At SIGTERM it says how many words were written,
-// and ends. These options hold for each image after them:
+// and ends. These options hold for each image behind them:
 //   --read US        how long a read takes (500 us)             --write US       how long a write takes (3000 us)
-//   --program US     how long the chip programs on after the write: it acknowledges no command meanwhile (0)
+//   --program US     how long the chip programs on behind the write: it acknowledges no command meanwhile (0)
 //   --nack N         each Nth command isn't acknowledged by the chip (0: none)
 //   --first N        nor are the first N (0)
 //   --stuck N        the controller stays busy with the Nth command for ever (0: with none)
-//   --ends           a command for a word after the end of the chip isn't acknowledged, as where a processor emulates the EEPROM
+//   --ends           a command for a word behind the end of the chip isn't acknowledged, as where a processor emulates the EEPROM
 //   --block          a pending error blocks commands, until command 0 clears it
 //   --busy-counts    a write to the EEPROM registers of a busy slave is counted, though it does nothing
 //   --wide           reads load eight bytes, not four, as control and status says
@@ -21,7 +21,7 @@
 // and these for the whole line:
 //   --cut K          the power fails in the midst of the Kth word that is written, and the program ends
 //   --left W         what the torn word then holds (0)
-//   --lose N         one frame in N is lost, by chance, before or after the slaves (0: none)
+//   --lose N         one frame in N is lost, by chance, before or behind the slaves (0: none)
 //   --watchdog MS    an operational slave without outputs for so long falls back to Safe-Operational (100; 0: never)
 #include <arpa/inet.h>
 #include <err.h>

@@ -2,7 +2,7 @@
 //
 // Brings slaves without mailboxes from Init to Operational, as LAYOUT says, exchanges their process data each millisecond from one thread,
 // and counts how well that went. LAYOUT is what `sii_station layout LINE` prints, in a file, or - for standard input. Where sync managers
-// lie in a slave's memory isn't said there, so it is read from the slave's EEPROM. A slave whose EEPROM doesn't say it, as after a power cut
+// lie in a slave's memory isn't said there, so it is read from the slave's EEPROM. A slave whose EEPROM doesn't say it, as behind a power cut
 // in the midst of its words, or that refuses a step, stays in Pre-Operational, without process data, and the others are cycled.
 //
 // Meanwhile it lends the wire to a station that it starts (`sii_wire .. --beside --carry N`; docs/EMBEDDING.md says what both may do). The
@@ -158,7 +158,7 @@ static void must_write(unsigned slave, unsigned offset, const uint8_t *data, siz
     if (one(FPWR, FIRST_ADDRESS + slave, offset, copy, size) != 1) errx(1, "slave %u doesn't take register 0x%04x", slave, offset);
 }
 
-// Asks for a state, and says whether it is reached.
+// Asks for a state, and tells whether it is reached.
 static int change_state(unsigned slave, unsigned state) {
     uint8_t data[2] = { (uint8_t)state, 0 };
     must_write(slave, AL_CONTROL, data, 2);
@@ -289,7 +289,7 @@ static int is_harmless(const uint8_t *at, size_t size) {
     return (at[0] == FPRD || at[0] == FPWR) && offset >= SII_ACCESS && offset + size <= SII_END;
 }
 
-// Whether all datagrams of a message are complete and harmless.
+// Whether all datagrams of a message are whole and harmless.
 static int is_message(const struct ride *ride, size_t length) {
     if (length < ETHERNET + 2 || ride->bytes[12] != 0x88 || ride->bytes[13] != 0xa4 || ride->length > length) return 0;
     size_t at = ETHERNET + 2;

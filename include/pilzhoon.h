@@ -1,5 +1,5 @@
 /*
- * Pilzhoon: EtherCAT EEPROM images (SII), checked, read and changed.
+ * Pilzhoon: EtherCAT EEPROM images (SII), judged, read and changed.
  *
  * The library keeps no state, prints nothing, opens nothing and starts no thread. A call that works on images, but pz_set_alias, takes memory
  * by malloc while it runs, a few times what it is given, and gives all of it back before it returns. So it may be called from several
@@ -29,7 +29,7 @@ extern "C" {
 #define PZ_VERSION "0.2.0"
 
 /*
- * Why a call is refused. Numbers below 100 are those that the program sii_station prints, and `sii_station explain CODE` says more of each;
+ * Why a call is refused. Numbers below 100 are those that the program sii_station prints, and `sii_station explain CODE` tells more of each;
  * those of faults of a wire are from 100 to 199, and none of this library; from 200 on they are of this library alone.
  */
 typedef enum pz_code {
@@ -124,14 +124,14 @@ typedef struct {
 } pz_category_place;
 
 /*
- * Reads the head of an image of `length` bytes. Nothing is checked but the length.
+ * Reads the head of an image of `length` bytes. Nothing is judged but the length.
  *
  * Answers PZ_OK, PZ_ODD_LENGTH, PZ_BAD_SIZE (not 64 to 4,096 words) or PZ_MEMORY.
  */
 pz_code pz_read_head(const uint8_t *image, size_t length, pz_head *head);
 
 /*
- * Checks an image of `length` bytes: the check byte (ETG.1000.6, word 7), the chain of categories from word 0x40 on, and the contents of
+ * Judges an image of `length` bytes: the check byte (ETG.1000.6, word 7), the chain of categories from word 0x40 on, and the contents of
  * its STRINGS, TXPDO and RXPDO categories (ETG.2010).
  *
  * Answers PZ_OK for a good image, or the first that applies, with a number in *detail, which is 0 otherwise:
@@ -146,7 +146,7 @@ pz_code pz_judge(const uint8_t *image, size_t length, size_t *detail);
 
 /*
  * Finds category number `number` of the chain, counted from 0 (ETG.1000.6, from word 0x40 on). The chain ends with the type 0xFFFF or
- * with the image. All of it has to be readable; contents aren't checked.
+ * with the image. All of it has to be whole; contents aren't judged.
  *
  * Answers PZ_OK, PZ_ODD_LENGTH, PZ_BAD_SIZE (not 64 to 4,096 words), PZ_RUNS_OUT, PZ_NO_SUCH_CATEGORY (fewer categories) or PZ_MEMORY.
  */
@@ -201,7 +201,7 @@ pz_code pz_pdo_entry(const uint8_t *content, size_t length, size_t pdo, size_t n
 
 /*
  * Reads string `number` of a category STRINGS (type 10; ETG.1000.6), from 1, as names give it. Its bytes are in the first *size places of
- * `text`, without a 0 after them; `room` is how many places there are. A string may hold any bytes.
+ * `text`, without a 0 behind them; `room` is how many places there are. A string may hold any bytes.
  *
  * Answers PZ_NO_SUCH_ITEM for the number 0 too, and PZ_NO_SPACE where `room` is less than its length; 255 are always enough.
  */
@@ -217,8 +217,8 @@ pz_code pz_set_alias(uint8_t *image, size_t length, uint16_t alias);
 
 /*
  * Replaces the content of the one category of type `kind` of a device (ETG.1000.6, slave information interface categories), or adds the
- * category last if there is none. With `content_length` 0 it is removed (`content` may be NULL then). The categories after it move up or
- * down, the word after the last one becomes 0xFFFF, and all words after that stay.
+ * category last if there is none. With `content_length` 0 it is removed (`content` may be NULL then). The categories behind it move up or
+ * down, the word behind the last one becomes 0xFFFF, and all words behind that stay.
  *
  * `device` is the whole EEPROM: `length` bytes, 64 to 4,096 words, a multiple of 64. `content` is `content_length` bytes, and holds
  * words as the image does.
@@ -233,12 +233,12 @@ pz_code pz_set_alias(uint8_t *image, size_t length, uint16_t alias);
  *   PZ_NO_ROOM
  *   PZ_BAD_CHAIN
  *   PZ_IMAGE_OVER_LIMIT    the device alone would have no process image
- * or PZ_MEMORY. The check byte isn't looked at, since words 0 to 7 stay.
+ * or PZ_MEMORY. The check byte isn't judged, since words 0 to 7 stay.
  */
 pz_code pz_edit_category(uint8_t *device, size_t length, uint16_t kind, const uint8_t *content, size_t content_length);
 
 /*
- * Writes an image over the first words of a device (ETG.1000.6, slave information interface); the words after it stay.
+ * Writes an image over the first words of a device (ETG.1000.6, slave information interface); the words behind it stay.
  *
  * `device` is the whole EEPROM: `length` bytes, 64 to 4,096 words, a multiple of 64. `image` is `image_length` bytes, 64 to 4,096 words.
  *
@@ -278,7 +278,7 @@ typedef struct {
 
 /*
  * Places the process data of a line, as the categories of its slaves describe them. `devices` is the whole EEPROM of each slave, one
- * after the other in the order of the line, `length` bytes together; `lengths` is how many bytes each of the `slaves` slaves has.
+ * behind the other in the order of the line, `length` bytes together; `lengths` is how many bytes each of the `slaves` slaves has.
  *
  * Answers PZ_OK: the segments are in the first places of `segments`, outputs first, in both by slave and then by sync manager; the other
  * places stay. Or the first that applies:
@@ -299,7 +299,7 @@ pz_code pz_place_line(const uint8_t *devices, size_t length, const size_t *lengt
  *
  * Leave a pause between datagrams that read control and status (ado 0x0502) of one slave, as a cycle of the master: 10,000 of them in a
  * row that don't see the slave idle end an access. `word` is any number, since an access doesn't know the size of the EEPROM: of a word
- * after its end a slave may say anything.
+ * behind its end a slave may say anything.
  */
 typedef struct {
     uint32_t phase, more, tries; /* of the library */
@@ -311,7 +311,7 @@ typedef struct {
     uint8_t command;    /* 4, FPRD: read; or 5, FPWR: write. By the slave's place in the line it is 1, APRD, or 2, APWR */
     uint8_t length;     /* number of bytes of its content: 1, 2, 4, 6 or 8 */
     uint16_t ado;       /* address of the register: 0x0500, 0x0502 or 0x0508 */
-    uint8_t content[8]; /* its content; the bytes after `length` are 0 */
+    uint8_t content[8]; /* its content; the bytes behind `length` are 0 */
 } pz_datagram;
 
 /*

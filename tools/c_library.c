@@ -521,7 +521,7 @@ int main(int count, char **words) {
     static uint8_t image[MOST_BYTES];
     for (made = 0; made < images; made++) {
         size_t length = image_by_chance(image);
-        /* in a block of its own, so that the sanitizer sees a byte read after it */
+        /* in a block of its own, so that the sanitizer sees a byte read behind it */
         uint8_t *copy = malloc(length ? length : 1);
         if (!copy) return 2;
         memcpy(copy, image, length);

@@ -1,4 +1,4 @@
-/* check_image FILE..: checks EEPROM image files, and lists their categories with strings, sync managers and PDOs. */
+/* check_image FILE..: judges EEPROM image files, and lists their categories with strings, sync managers and PDOs. */
 #include "pilzhoon.h"
 #include <stdio.h>
 

@@ -13,7 +13,7 @@ use std::time::Duration;
 
 /// What runs are tried with, and what the last one printed.
 #[derive(Drop)]
-pub struct Bench {
+pub(crate) struct Bench {
     pub alloc: Global,
     pub printed: Printed,
 }
@@ -62,7 +62,7 @@ impl Bench {
 }
 
 /// Runs the program on these arguments, its name first. What it prints stands on the bench in place of what the last run printed.
-pub fn run_on(
+pub(crate) fn run_on(
     rt: &(impl Wait + Threads + Sync),
     bench: &mut Bench,
     args: &[String],

@@ -10,7 +10,7 @@ use std::thread::Threads;
 
 /// What goes wrong in a call.
 #[derive(Clone, Copy)]
-pub enum Mishap {
+pub(crate) enum Mishap {
     /// The power is cut.
     Cut,
     /// The call fails.
@@ -66,7 +66,7 @@ const CALLS: u64 = 1000;
 /// # Errors
 ///
 /// The run is malformed, or memory was refused.
-pub fn try_calls<'a>(
+pub(crate) fn try_calls<'a>(
     rt: &(impl Wait + Threads + Sync),
     bench: &mut Bench,
     run: &Run<'a>,

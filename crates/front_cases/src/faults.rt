@@ -53,7 +53,7 @@ fn note(rt: &impl Print, is_right: bool, text: &str, tally: &mut Tally) -> io::R
 }
 
 /// Tries what is printed of each fault.
-pub fn try_faults(rt: &impl Print, alloc: Global, tally: &mut Tally) -> io::Result<()> {
+pub(crate) fn try_faults(rt: &impl Print, alloc: Global, tally: &mut Tally) -> io::Result<()> {
     for (fault, text, status) in FAULTS {
         let mut faults = Vec::new(alloc);
         let ended = report_fault(*fault, &mut faults) as u8;
@@ -64,7 +64,7 @@ pub fn try_faults(rt: &impl Print, alloc: Global, tally: &mut Tally) -> io::Resu
 }
 
 /// Tries what is printed of arguments that can't be read.
-pub fn try_refusals(rt: &impl Print, alloc: Global, tally: &mut Tally) -> io::Result<()> {
+pub(crate) fn try_refusals(rt: &impl Print, alloc: Global, tally: &mut Tally) -> io::Result<()> {
     for (kind, text, status) in REFUSALS {
         let mut faults = Vec::new(alloc);
         let ended = refuse_words(&io::Error::from(*kind), &mut faults);

@@ -12,7 +12,7 @@ use toml::{Table, Value};
 
 /// How many runs were tried, and how many didn't go as expected.
 #[derive(Drop)]
-pub struct Tally {
+pub(crate) struct Tally {
     pub runs: u64,
     pub wrong: u64,
 }
@@ -22,7 +22,7 @@ pub struct Tally {
 /// # Errors
 ///
 /// The case is malformed, memory was refused, or nothing can be printed.
-pub fn try_case(
+pub(crate) fn try_case(
     rt: &(impl Print + Wait + Threads + Sync),
     bench: &mut Bench,
     named: &Table,
@@ -127,7 +127,7 @@ fn try_plainly<'a>(
 }
 
 /// The name of a case.
-pub fn name_of(case: &Value) -> &str {
+pub(crate) fn name_of(case: &Value) -> &str {
     match case.get("name") {
         Some(Value::String(name)) => name.as_str(),
         _ => "",

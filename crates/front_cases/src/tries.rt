@@ -14,7 +14,7 @@ use std::{io, mem};
 /// # Errors
 ///
 /// The run is malformed, or memory was refused.
-pub fn try_once<'a>(
+pub(crate) fn try_once<'a>(
     rt: &(impl Wait + Threads + Sync),
     bench: &mut Bench,
     run: &Run<'a>,
@@ -43,7 +43,7 @@ fn try_with<'a>(
 /// # Errors
 ///
 /// The run is malformed, or memory was refused.
-pub fn try_inputs<'a>(
+pub(crate) fn try_inputs<'a>(
     rt: &(impl Wait + Threads + Sync),
     bench: &mut Bench,
     run: &Run<'a>,
@@ -64,7 +64,7 @@ pub fn try_inputs<'a>(
 /// # Errors
 ///
 /// The run is malformed, or memory was refused.
-pub fn try_outputs<'a>(
+pub(crate) fn try_outputs<'a>(
     rt: &(impl Wait + Threads + Sync),
     bench: &mut Bench,
     run: &Run<'a>,
@@ -123,7 +123,7 @@ fn print_into(
 /// # Errors
 ///
 /// The run is malformed, or memory was refused.
-pub fn try_after<'a>(
+pub(crate) fn try_after<'a>(
     rt: &(impl Wait + Threads + Sync),
     bench: &mut Bench,
     run: &Run<'a>,
@@ -150,7 +150,7 @@ pub fn try_after<'a>(
 /// # Errors
 ///
 /// Memory was refused.
-pub fn print_words(
+pub(crate) fn print_words(
     rt: &(impl Wait + Threads + Sync),
     bench: &mut Bench,
     run: &Run,
@@ -167,7 +167,7 @@ pub fn print_words(
 /// # Errors
 ///
 /// The run is malformed, or memory was refused.
-pub fn try_page<'a>(
+pub(crate) fn try_page<'a>(
     rt: &(impl Wait + Threads + Sync),
     bench: &mut Bench,
     run: &Run<'a>,
@@ -189,7 +189,7 @@ pub fn try_page<'a>(
 /// # Errors
 ///
 /// The run is malformed, or memory was refused.
-pub fn try_plan<'a>(
+pub(crate) fn try_plan<'a>(
     rt: &(impl Wait + Threads + Sync),
     bench: &mut Bench,
     run: &Run<'a>,

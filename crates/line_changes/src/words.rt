@@ -21,7 +21,11 @@ pub struct WordChanges {
 /// # Errors
 ///
 /// Memory was refused.
-pub fn compare_words(alloc: Global, old: &[u16], new: &[u16]) -> Result<WordChanges, AllocError>
+pub(crate) fn compare_words(
+    alloc: Global,
+    old: &[u16],
+    new: &[u16],
+) -> Result<WordChanges, AllocError>
     requires { length old.now ≤ 4096 }
     ensures { IfOk result (AreChanges old.now new.now) }
 {

@@ -40,7 +40,9 @@ fn commands_in(bytes: &[u8]) -> Option<u16>
 
 impl<'p, D, T: Write, R: Clock> Watched<'p, D, T, R> {
     /// Makes the device whose work counts for this progress.
-    pub fn new(device: D, progress: Option<&'p Progress<T>>, rt: &'p R) -> Watched<'p, D, T, R> {
+    pub fn new(device: D, progress: Option<&'p Progress<T>>, rt: &'p R) -> Watched<'p, D, T, R>
+        ensures { result.device ≡ device }
+    {
         Watched {
             device,
             progress,
@@ -95,6 +97,10 @@ impl<'p, D: Device, T: Write, R: Clock> Device for Watched<'p, D, T, R> {
     ghost follows = { λ watched. D.follows watched.device };
 
     ghost well = { λ watched. D.well watched.device };
+
+    ghost is_ready = { λ watched. D.is_ready watched.device };
+
+    ghost fits = { λ watched. D.fits watched.device };
 
     fn begin(&mut self, is_new: bool) {
         self.device.begin(is_new)
@@ -171,6 +177,10 @@ impl<'p, D: Lends, T: Write, R: Clock> Lends for Watched<'p, D, T, R> {
 
     ghost tells = { λ watched. D.tells watched.device };
 
+    ghost is_of = { D.is_of };
+
+    ghost is_complete = { λ watched. D.is_complete watched.device };
+
     fn lend(&mut self, part: LinePart) -> Self {
         Watched::new(self.device.lend(part), self.progress, self.rt)
     }
@@ -183,4 +193,6 @@ impl<'p, D: Lends, T: Write, R: Clock> Lends for Watched<'p, D, T, R> {
     fn tell(&mut self) -> D::Logged {
         self.device.tell()
     }
+
+    ghost complete_ready = { λ watched. D.complete_ready watched.device };
 }

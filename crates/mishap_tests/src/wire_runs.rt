@@ -2,7 +2,7 @@
 //! power.
 
 ghost use Rattle.std.specs.Prelude.{IfSome};
-ghost use Rattle.site_shadow.specs.Parts.{AreComplete};
+ghost use Rattle.site_shadow.specs.Parts.{AreOfLine};
 
 use crate::wire_threads::reported_on;
 use crate::wires::{
@@ -129,7 +129,7 @@ fn parts_with(
     wire: &mut TestWire<'_>,
     trouble: &Trouble,
 ) -> Option<Parts>
-    ensures { IfSome result (λ parts. AreComplete parts) }
+    ensures { IfSome result (λ parts. AreOfLine parts) }
 {
     plan(wire, &NO_TROUBLE);
     let parts = parts_on(alloc, bench, wire)?;

@@ -115,7 +115,7 @@ pub(crate) fn reported_on<R: Wait + Threads + Sync, W: Wire + Send>(
     locked: &LockedLine<W>,
     parts: Parts,
 ) -> Option<Reported> {
-    if !parts.is_complete() {
+    if !parts.are_of_line() {
         return None;
     }
     let device = WireDevice::shared(locked.shared(rt), &bench.clock, journal_on(alloc, bench));

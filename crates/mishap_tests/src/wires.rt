@@ -1,7 +1,8 @@
 //! Lines on a wire in memory, with the journal in a file in memory.
 
 ghost use Rattle.std.specs.Prelude.{IfSome};
-ghost use Rattle.site_shadow.specs.Parts.{AreComplete};
+ghost use Rattle.site_file.specs.Fitting.{IsComplete};
+ghost use Rattle.site_shadow.specs.Parts.{AreOfLine};
 
 use runner_cases::line::{Line, disk, parts_with, plant_of};
 use site_file::{FileDevice, OpenFiles, RandomAccessFile};
@@ -108,7 +109,9 @@ pub(crate) fn bench_of(alloc: Global, line: &Line) -> Option<Bench> {
 }
 
 /// The device of the journal alone.
-pub(crate) fn journal_on<'f>(alloc: Global, bench: &'f Bench) -> FileDevice<OpenJournal<'f>> {
+pub(crate) fn journal_on<'f>(alloc: Global, bench: &'f Bench) -> FileDevice<OpenJournal<'f>>
+    ensures { IsComplete result }
+{
     FileDevice::new(OpenFiles {
         journal: OpenJournal {
             file: &bench.journal,
@@ -133,7 +136,7 @@ pub(crate) fn parts_on<W: Wire>(
     bench: &Bench,
     wire: &mut NumberedWire<W>,
 ) -> Option<Parts>
-    ensures { IfSome result (λ parts. AreComplete parts) }
+    ensures { IfSome result (λ parts. AreOfLine parts) }
 {
     let line = bring_up(alloc, wire, &bench.clock, &Sizes::unknown()).ok()?;
     let plant = line.into_words(alloc).ok()?;
@@ -143,7 +146,7 @@ pub(crate) fn parts_on<W: Wire>(
         .read_exact_at(&mut disk, 0)
         .ok()?;
     let parts = parts_with(alloc, &plant, disk)?;
-    if parts.is_complete() {
+    if parts.are_of_line() {
         Some(parts)
     } else {
         None

@@ -43,7 +43,9 @@ use Rattle.station_jobs.specs.Ends.{Stay}
 use Rattle.station_threads.specs.Parts.{IsEndOfSlave}
 use Rattle.station_threads.proofs.PlaceLaws.{placed-long}
 use Rattle.script_session.specs.Parts.{Sites, AreFollowed, AreSound, BeginsWith, EndsSynced, HasDiskOf, IsSeparate, IsDeskLeft, IsDeskReported, IsLineReported}
-use Rattle.script_session.specs.Parts.{IsServable, AreEndsOfParts}
+use Rattle.script_session.specs.Parts.{IsServable, AreEndsOfParts, AreOfParts, OwnsAtMost, OwnsNone}
+use Rattle.site_shadow.specs.Lending.{IsOf}
+use Rattle.site_shadow.specs.declared.lending.LinePart.TheVariants as part
 use Rattle.script_session.specs.AtDesk as at_desk
 use Rattle.script_session.specs.AtDesk.{seen_of, Closes, ClosesWith, DeskServes, IsUnservedReported, EndsSo, IsServedAtDesk, IsStopped}
 use Rattle.script_session.specs.Parts.{IsTogether, Telling}
@@ -52,7 +54,7 @@ use Rattle.script_session.proofs.AskLaws.{all-received}
 use Rattle.script_session.proofs.SlaveLaws.{contents-together}
 use Rattle.station_line.specs.Site.{IsFollowed}
 use Rattle.script_session.proofs.SoundLaws.{followed_ends, on_ok}
-use Rattle.script_session.proofs.LeftLaws.{kept-together, left-together}
+use Rattle.script_session.proofs.LeftLaws.{kept-together, left-together, placed-back}
 
 -- the result for a closed desk
 pub closes-now : (opened : Book) (calls : List Call) (shares : List ShareCounts) (receipts : List Numbered) (ends left : Ends SiteValue) (closed : Result (Unit {0}) CloseFault) (reported : Result (Unit {0}) Fault) → AreAnswered opened calls → is_served (replayed opened calls) ≡ true
@@ -205,17 +207,31 @@ module _ (opened : Book) (commands : List Command) (status : ExitStatus) (counts
 
 -- ---- the disk of a line that is taken apart
 
+are_of_parts : (sites : Sites) (halves : List SlaveHalf) → AllPlaced BeginsWith 0 halves sites.slaves.items → OwnsNone sites.disk
+    → IfSome sites.cycle (λ (site : SiteValue). IsOf (Some part.Process) site.line)
+    → OwnParts (λ (s : SiteValue). s.line) sites.disk sites.slaves.items sites.cycle → AreOfParts sites
+are_of_parts sites halves slaves none turning owned = record {
+  disk = record { disk = owned.of_disk; none = none };
+  slaves = λ slave site here.
+      let begun = placed-back BeginsWith 0 halves sites.slaves.items slave site slaves here in
+      let alone = subst (λ (n : ℕ). OwnsAtMost n site.line) (let at : 0 + slave ≡ slave = omega arith in at) begun.2.alone in
+      record { no_disk = alone.no_disk; owns = owned.of_slaves slave site here; only = alone.only };
+  turning = turning;
+}
+
 pub servable : {E : Type 0} (result : Result Sites E) (sites : Sites) (capacity : ℕ) (entire : State) (disk : Option (Vec ℕ)) (halves : List SlaveHalf) → IsSomeAnd disk (λ (b : Vec ℕ). 8 + capacity ≤ length b.items) → IfSome disk (λ (b : Vec ℕ). b.items ≡ entire.disk.bytes)
     → halves ≡ entire.halves → HasDiskOf disk sites.disk → sites.disk.seen.past ≡ [] → AllPlaced BeginsWith 0 halves sites.slaves.items
+    → OwnsNone sites.disk → IfSome sites.cycle (λ (site : SiteValue). IsOf (Some part.Process) site.line)
     → IfOk result (λ (same : Sites). (same ≡ sites) × OwnParts (λ (s : SiteValue). s.line) same.disk same.slaves.items same.cycle) → IfOk result (λ (same : Sites). IsServable capacity entire same)
-servable (Ok same) sites capacity entire (Some b) halves long bytes held disk new slaves is =
+servable (Ok same) sites capacity entire (Some b) halves long bytes held disk new slaves none turning is =
     let owned : OwnParts (λ (s : SiteValue). s.line) sites.disk sites.slaves.items sites.cycle = subst (λ (x : Sites). OwnParts (λ (s : SiteValue). s.line) x.disk x.slaves.items x.cycle) is.0 is.1 in
     subst (λ (x : Sites). IsServable capacity entire x) (sym is.0) (record {
       separate = record { disk = disk ∙ ap of_bytes bytes; new = new; slaves = subst (λ (l : List SlaveHalf). AllPlaced BeginsWith 0 l sites.slaves.items) held slaves };
       own = record { owned = owned; long = subst (λ (d : Disk). 8 + capacity ≤ length d.bytes) (sym disk) long };
+      parts = are_of_parts sites halves slaves none turning owned;
     })
-servable (Ok same) sites capacity entire None halves long bytes held disk new slaves is = absurd long
-servable (Err fault) sites capacity entire disk halves long bytes held of new slaves is = tt
+servable (Ok same) sites capacity entire None halves long bytes held disk new slaves none turning is = absurd long
+servable (Err fault) sites capacity entire disk halves long bytes held of new slaves none turning is = tt
 
 -- ---- a line that was served at a desk
 

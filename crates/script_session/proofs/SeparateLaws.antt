@@ -4,6 +4,9 @@ use Rattle.std.specs.List.{AllByRecursion, AllZip}
 use Rattle.site_core.specs.Passes.{LeavesOnly}
 use Rattle.site_core.specs.State.{Leaves, Pair, Seen, State}
 use Rattle.site_core.proofs.Runs.{Passes-none, Passes-stays}
+use Rattle.std.specs.Prelude.{slice_get, IfSome}
+use Rattle.site_shadow.specs.Lending.{IsOf}
+use Rattle.site_shadow.specs.declared.lending.LinePart.TheVariants as part
 use Rattle.site_shadow.specs.Site.{SiteValue}
 use Rattle.sii_edit.specs.declared.command.Command.{Command}
 use Rattle.station_alone.specs.Station.{Station}
@@ -21,6 +24,11 @@ use Rattle.script_session.specs.Parts.{AreSame, AreReportedOf, BeginsWith, IsSep
 use Rattle.script_session.specs.AtDesk as at_desk
 use Rattle.script_session.specs.AtDesk.{IsUnservedReported, PartsEnd}
 use Rattle.station_line.specs.Site.{IsFollowed}
+
+-- the item after the first ones
+pub here_next : {A : Type 0} (xs : List A) (x : A) (rest : List A) → slice_get (xs ++ x ∷ rest) (length xs) ≡ Some x
+here_next [] x rest = refl
+here_next (y ∷ xs) x rest = here_next xs x rest
 
 -- one item more in each list
 pub zip_more : {A B : Type 0} (R : A → B → Type 0) (xs : List A) (ys : List B) (x : A) (y : B) → AllZip R xs ys → R x y
@@ -46,6 +54,12 @@ same_servable capacity entire sites same are is = record {
       of_cycle = rw are.cycle is.own.owned.of_cycle;
     };
     long = rw are.disk is.own.long;
+  };
+  parts = record {
+    disk = subst (λ (s : SiteValue). IsOf (Some part.Disk) s.line) (sym are.disk) is.parts.disk;
+    slaves = λ slave site here.
+        is.parts.slaves slave site (ap (λ (l : List SiteValue). slice_get l slave) (sym are.slaves) ∙ here);
+    turning = subst (λ (c : Option SiteValue). IfSome c (λ (site : SiteValue). IsOf (Some part.Process) site.line)) (sym are.cycle) is.parts.turning;
   };
 }
 

@@ -1,10 +1,13 @@
 -- A line that is taken apart into sites, and put together again.
 use Rattle.std.specs.Prelude.{◌≡◌, ◌⊎◌, ◌≤◌, ◌+◌, ℕ, List, [], ◌∷◌, true, length, Ok, IfOk, Option, Some}
-use Rattle.std.specs.Prelude.{slice_get, IsTrue, None, false}
+use Rattle.std.specs.Prelude.{slice_get, IsTrue, None, false, IfSome}
 use Rattle.std.specs.List.{AllByRecursion}
 use Rattle.std.specs.Global.{Vec}
 use Rattle.esc_model.specs.SlaveHalf.{SlaveHalf}
 use Rattle.site_core.specs.Line as lines
+use Rattle.site_shadow.specs.Lending.{IsOf}
+use Rattle.site_shadow.specs.declared.lending.LinePart.{LinePart}
+use Rattle.site_shadow.specs.declared.lending.LinePart.TheVariants as part
 use Rattle.site_core.specs.State.{State, Seen}
 use Rattle.site_shadow.specs.Unsynced.{of_bytes}
 use Rattle.esc_rom.specs.Owned.{OwnsAll}
@@ -40,10 +43,20 @@ abbrev pub HasDiskOf : Option (Vec ℕ) → SiteValue → Type 0
 HasDiskOf (Some bytes) site = site.seen.state.disk ≡ of_bytes bytes.items
 HasDiskOf None site = site.line.has_disk ≡ false
 
--- the site holds this EEPROM half for this slave, and has seen no call
+-- A site with this line owns neither the disk nor the half of another slave.
+pub record OwnsAtMost (slave : ℕ) (line : lines.Line) : Type 0 where
+  pub no_disk : line.has_disk ≡ false
+  pub only : (other : ℕ) → lines.Owns line other → other ≡ slave
+
+-- The site owns no slave's half.
+abbrev pub OwnsNone : SiteValue → Type 0
+OwnsNone site = (slave : ℕ) → ¬ lines.Owns site.line slave
+
+-- The site holds this EEPROM half for this slave and no other, and has seen no call.
 pub record BeginsWith (slave : ℕ) (half : SlaveHalf) (site : SiteValue) : Type 0 where
   pub has : HasHalf slave half site
   pub new : site.seen.past ≡ []
+  pub alone : OwnsAtMost slave site.line
 
 -- The sites hold the bytes of the line's disk, all of them synced, and each slave's EEPROM half, and have seen no call.
 pub record IsSeparate (entire : State) (sites : Sites) : Type 0 where
@@ -56,10 +69,17 @@ pub record OwnUpTo (limit : ℕ) (sites : Sites) : Type 0 where
   pub owned : OwnParts (λ (s : SiteValue). s.line) sites.disk sites.slaves.items sites.cycle
   pub long : limit ≤ length sites.disk.seen.state.disk.bytes
 
--- The line is taken apart so, each site owns its part, and the disk reaches to the end of a journal's area of this capacity.
+-- Each site is that of its part of the line.
+pub record AreOfParts (sites : Sites) : Type 0 where
+  pub disk : IsOf (Some part.Disk) sites.disk.line
+  pub slaves : (slave : ℕ) (site : SiteValue) → slice_get sites.slaves.items slave ≡ Some site → IsOf (Some (part.Slave slave)) site.line
+  pub turning : IfSome sites.cycle (λ (site : SiteValue). IsOf (Some part.Process) site.line)
+
+-- The line is taken apart so, each site owns its part and nothing else, and the disk reaches to the end of a journal's area of this capacity.
 pub record IsServable (capacity : ℕ) (entire : State) (sites : Sites) : Type 0 where
   pub separate : IsSeparate entire sites
   pub own : OwnUpTo (8 + capacity) sites
+  pub parts : AreOfParts sites
 
 -- These sites are in the same states, whatever devices stand behind them.
 pub record AreSame (sites same : Sites) : Type 0 where
@@ -130,12 +150,30 @@ pub record AreSound {T : Type 0} (reported : DeskLog T) : Type 0 where
 abbrev pub EndsWith : ℕ → Stay SiteValue SlaveLog → SlaveHalf → Type 0
 EndsWith slave end half = HasHalf slave half end.site
 
+-- Each of these is told of the device of a part, if the site with which the end at its place began is that of this part.
+abbrev pub AreReportedAsOwn : {T : Type 0} → (of : LinePart → T → Type 0) → List (PartLog T) → List (Stay SiteValue SlaveLog) → Type 0
+AreReportedAsOwn of [] [] = Unit {0}
+AreReportedAsOwn of (reported ∷ rest) (end ∷ ends) =
+    ((own : LinePart) → IsOf (Some own) end.start.line → of own reported.reported) × AreReportedAsOwn of rest ends
+AreReportedAsOwn of tellings ends = ⊥
+
+-- The same of the disk's device and of each slave's.
+pub record IsReportedAsOwn {T : Type 0} (of : LinePart → T → Type 0) (reported : DeskLog T) (ends : Ends SiteValue) : Type 0 where
+  pub disk : (own : LinePart) → IsOf (Some own) ends.flusher.start.line → of own reported.disk.reported
+  pub slaves : AreReportedAsOwn of reported.slaves.items ends.workers.items
+
+-- This is told of the devices of the disk's part and of each slave's, each of its own.
+pub record IsReportedOfParts {T : Type 0} (of : LinePart → T → Type 0) (reported : DeskLog T) : Type 0 where
+  pub disk : of part.Disk reported.disk.reported
+  pub slaves : (slave : ℕ) (one : PartLog T) → slice_get reported.slaves.items slave ≡ Some one → of (part.Slave slave) one.reported
+
 -- The EEPROM halves of the slaves, where none is missing, are those at the ends of their workers, in order, and this is told of the devices behind
 -- these.
-pub record AreLeftBy {D T : Type 0} (follows : D → Seen → Type 0) (well : D → Type 0) (tells : D → T → Type 0)
+pub record AreLeftBy {D T : Type 0} (follows : D → Seen → Type 0) (well : D → Type 0) (tells : D → T → Type 0) (of : LinePart → T → Type 0)
     (workers : List (Stay SiteValue SlaveLog)) (left : OfSlaves T) : Type 0 where
   pub halves : IfOk left.halves (λ halves. AllPlaced EndsWith 0 workers (halves_of halves.items))
   pub reported : AreReportedOf follows well tells left.reported.items workers
+  pub own : AreReportedAsOwn of left.reported.items workers
 
 -- There is nothing in these lists yet.
 abbrev pub IsRoom : {T : Type 0} → OfSlaves T → Type 0

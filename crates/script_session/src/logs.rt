@@ -1,7 +1,10 @@
 //! What is told of the devices of a line that was served at a desk.
 
-ghost use Rattle.std.specs.Prelude.{◌≡◌};
+ghost use Rattle.std.specs.Prelude.{◌≡◌, Some, None};
+ghost use Rattle.site_core.specs.Line.{Line};
 ghost use Rattle.site_core.specs.State.{Seen};
+ghost use Rattle.site_shadow.specs.Lending.{IsOf};
+ghost use Rattle.site_shadow.specs.declared.lending.LinePart.{LinePart};
 ghost use Rattle.script_session.specs.Parts.{Telling};
 
 use site_shadow::{Device, Lends};
@@ -39,8 +42,9 @@ pub enum UnservedLog<T> {
 
 /// What this device tells, which was behind a site that had stopped or not. It is then as one that has asked nothing yet.
 pub fn reported_by<D: Lends>(device: &mut D, has_stopped: bool) -> PartLog<D::Logged>
-    ensures { (seen : Seen) → D.follows device.old seen → has_stopped ≡ seen.is_stopped
+    ensures telling { (line : Line) (seen : Seen) → D.fits device.old line → D.follows device.old seen → has_stopped ≡ seen.is_stopped
         → Telling D.follows D.well D.tells result device.old seen }
+    ensures entire { (line : Line) → D.fits device.old line → IsOf None line → D.is_complete device.new }
 {
     let is_sound = !has_stopped && device.is_well();
     PartLog {
@@ -51,7 +55,10 @@ pub fn reported_by<D: Lends>(device: &mut D, has_stopped: bool) -> PartLog<D::Lo
 
 /// What the device of the line tells of this one, which was after a part's site that had stopped or not, and is taken back.
 pub(crate) fn taken_back<D: Lends>(entire: &mut D, lent: D, has_stopped: bool) -> PartLog<D::Logged>
-    ensures { (seen : Seen) → D.follows lent seen → has_stopped ≡ seen.is_stopped → Telling D.follows D.well D.tells result lent seen }
+    ensures telling { (line : Line) (seen : Seen) → D.fits lent line → D.follows lent seen → has_stopped ≡ seen.is_stopped
+        → Telling D.follows D.well D.tells result lent seen }
+    ensures own { (line : Line) (part : LinePart) → D.fits lent line → IsOf (Some part) line → D.is_of part result.reported }
+    ensures entire { D.is_complete entire.old → D.is_complete entire.new }
 {
     let is_sound = !has_stopped && lent.is_well();
     PartLog {

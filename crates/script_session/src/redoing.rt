@@ -3,7 +3,7 @@
 ghost use Rattle.std.specs.Prelude.{◌≡◌, ◌≤◌, ◌+◌, ◌∷◌, [], vec_capacity, IfErr, IfOk};
 ghost use Rattle.script_session.specs.Asking.{no_counts};
 ghost use Rattle.script_session.specs.AtDesk.{Closes, IsServedReported, OpensDesk};
-ghost use Rattle.script_session.specs.Parts.{AreEndsOfParts, IsLineOf, OwnUpTo};
+ghost use Rattle.script_session.specs.Parts.{AreEndsOfParts, IsLineOf, IsReportedOfParts, OwnUpTo};
 ghost use Rattle.script_session.specs.Redoing.{
   IsCount,
   IsOpenedHere,
@@ -71,6 +71,7 @@ pub fn redo_by_threads<D: Lends + Send, W: Wait + Threads + Sync>(
     ensures line { IfOk result (λ redone. IsLineOf slaves redone.site.line) }
     ensures redone { IfOk result (λ redone. IsRedone alone redone.words redone.site) }
     ensures reported { IfOk result (λ redone. IsServedReported D.follows D.well D.tells alone redone.reported redone.site) }
+    ensures own { IfOk result (λ redone. IsReportedOfParts D.is_of redone.reported) }
 {
     let capacity = alone.core().capacity();
     let (core, site) = alone.into_parts();

@@ -1,21 +1,23 @@
 //! Takes a line apart into sites: one for the disk, one for each slave, and one for the process data. They are made in memory. Once nothing can fail
 //! any more, the line's device lends each its own.
 
-ghost use Rattle.std.specs.Prelude.{◌≡◌, ◌↔◌, ◌+◌, ◌<◌, ◌≤◌, [], true, length, slice_set, vec_len, vec_capacity, is_some};
-ghost use Rattle.std.specs.Prelude.{IfOk, IfSome};
-ghost use Rattle.std.specs.Prelude.{IsSomeAnd, IsTrue};
+ghost use Rattle.std.specs.Prelude.{ℕ, Some, slice_get, ◌≡◌, ◌↔◌, ◌+◌, ◌<◌, ◌≤◌, [], true, length, slice_set, vec_len, vec_capacity, is_some};
+ghost use Rattle.std.specs.Prelude.{IfOk, IfSome, IsSomeAnd, IsTrue, None, false};
+ghost use Rattle.std.specs.List.{AllByRecursion};
 ghost use Rattle.site_shadow.specs.Line.{half_of, halves_of};
 ghost use Rattle.site_shadow.specs.Parts.{site_of};
 ghost use Rattle.site_shadow.specs.Site.{SiteValue};
 ghost use Rattle.station_threads.specs.Places.{AllPlaced};
 ghost use Rattle.station_threads.specs.Sites.{OwnParts};
 ghost use Rattle.site_core.specs.State.{State};
-ghost use Rattle.script_session.specs.Parts.{AreSame, BeginsWith, HasDiskOf, IsServable};
+ghost use Rattle.site_shadow.specs.Lending.{IsOf};
+ghost use Rattle.site_shadow.specs.declared.lending.LinePart.TheVariants as part;
+ghost use Rattle.script_session.specs.Parts.{AreOfParts, AreSame, BeginsWith, HasDiskOf, IsServable, OwnsNone};
 
 use esc_model::{FIRST_STATION, ProcessHalf, RomHalf};
 use site_core::Site;
 use site_mem::FaultPlan;
-use site_shadow::{Device, Lends, LinePart, Parts, ShadowSite};
+use site_shadow::{Lends, LinePart, Parts, ShadowSite};
 use station_files::Fault;
 use station_threads::{PerDevice, Sites, own_parts};
 use std::alloc::{AllocError, Global};
@@ -24,7 +26,9 @@ use std::alloc::{AllocError, Global};
 pub(crate) type InMemory = ShadowSite<FaultPlan>;
 
 /// No EEPROM half, for each of `slaves` slaves.
-fn no_halves(alloc: Global, slaves: usize) -> Result<Vec<Option<RomHalf>>, AllocError> {
+fn no_halves(alloc: Global, slaves: usize) -> Result<Vec<Option<RomHalf>>, AllocError>
+    ensures { IfOk result (λ halves. AllByRecursion (λ half. half ≡ None) halves.items) }
+{
     let mut halves = Vec::with_capacity(alloc, slaves)?;
     for _slave in 0..slaves {
         halves.push(None)?;
@@ -33,7 +37,10 @@ fn no_halves(alloc: Global, slaves: usize) -> Result<Vec<Option<RomHalf>>, Alloc
 }
 
 /// The parts of a site that owns nothing of the line. `sizes` is the number of words of each slave.
-fn nothing(alloc: Global, sizes: &Vec<u16>) -> Result<Parts, AllocError> {
+fn nothing(alloc: Global, sizes: &Vec<u16>) -> Result<Parts, AllocError>
+    ensures halves { IfOk result (λ parts. AllByRecursion (λ half. half ≡ None) parts.halves.items) }
+    ensures disk { IfOk result (λ parts. is_some parts.disk ≡ false) }
+{
     let halves = no_halves(alloc, sizes.len())?;
     match sizes.clone() {
         Ok(sizes) => Ok(Parts {
@@ -49,32 +56,28 @@ fn nothing(alloc: Global, sizes: &Vec<u16>) -> Result<Parts, AllocError> {
     }
 }
 
-/// The site with these parts and this device.
+/// The site with these parts in memory.
 ///
 /// # Errors
 ///
 /// `Unserved` where the parts are not whole (`Parts::is_complete`).
-pub(crate) fn site_of<D: Device + Drop>(
-    alloc: Global,
-    parts: Parts,
-    device: D,
-) -> Result<ShadowSite<D>, Fault>
+pub(crate) fn site_of(alloc: Global, parts: Parts) -> Result<InMemory, Fault>
     ensures made { IfOk result (λ site. site ≡ site_of parts) }
     ensures disk { IfOk result (λ site. HasDiskOf parts.disk site) }
     ensures new { IfOk result (λ site. site.seen.past ≡ []) }
 {
     if !parts.is_complete() {
         drop(parts);
-        drop(device);
         return Err(Fault::Unserved);
     }
-    Ok(ShadowSite::of_parts(alloc, parts, device))
+    Ok(ShadowSite::of_parts(alloc, parts, FaultPlan::none()))
 }
 
 /// These parts, with `half` as the EEPROM half of this slave.
 fn with_half(parts: Parts, slave: usize, half: Option<RomHalf>) -> Parts
     requires { slave < vec_len parts.halves }
-    ensures { result.halves.items ≡ slice_set parts.halves.items slave half }
+    ensures halves { result.halves.items ≡ slice_set parts.halves.items slave half }
+    ensures disk { result.disk ≡ parts.disk }
 {
     let mut parts = parts;
     parts.halves[slave] = half;
@@ -100,7 +103,7 @@ fn slave_site(
         return Err(Fault::Unserved);
     }
     let parts = with_half(parts, slave, half);
-    site_of(alloc, parts, FaultPlan::none())
+    site_of(alloc, parts)
 }
 
 /// A site for each slave, which owns its EEPROM half alone.
@@ -145,10 +148,11 @@ fn processes(alloc: Global, halves: &[Option<RomHalf>]) -> Result<Vec<ProcessHal
 fn disk_site(alloc: Global, sizes: &Vec<u16>, disk: Option<Vec<u8>>) -> Result<InMemory, Fault>
     ensures disk { IfOk result (λ site. HasDiskOf disk site) }
     ensures new { IfOk result (λ site. site.seen.past ≡ []) }
+    ensures none { IfOk result OwnsNone }
 {
     let mut parts = nothing(alloc, sizes)?;
     parts.disk = disk;
-    site_of(alloc, parts, FaultPlan::none())
+    site_of(alloc, parts)
 }
 
 /// A site that owns the process halves of these slaves, just switched on, and nothing else, if process data are exchanged.
@@ -158,7 +162,8 @@ fn cycle_site(
     halves: &[Option<RomHalf>],
     turns: bool,
 ) -> Result<Option<InMemory>, Fault>
-    ensures { IfOk result (λ site. is_some site ≡ turns) }
+    ensures turning { IfOk result (λ site. is_some site ≡ turns) }
+    ensures alone { IfOk result (λ cycle. IfSome cycle (λ site. IsOf (Some part.Process) site.line)) }
 {
     if !turns {
         return Ok(None);
@@ -167,7 +172,7 @@ fn cycle_site(
     match nothing(alloc, sizes) {
         Ok(mut parts) => {
             parts.process = Some(processes);
-            let site = site_of(alloc, parts, FaultPlan::none())?;
+            let site = site_of(alloc, parts)?;
             Ok(Some(site))
         }
         Err(AllocError) => {
@@ -187,7 +192,9 @@ fn disk_and_cycle(
 ) -> Result<(InMemory, Option<InMemory>), Fault>
     ensures disk { IfOk result (λ sites. HasDiskOf disk sites.0) }
     ensures new { IfOk result (λ sites. sites.0.seen.past ≡ []) }
+    ensures none { IfOk result (λ sites. OwnsNone sites.0) }
     ensures turning { IfOk result (λ sites. is_some sites.1 ≡ turns) }
+    ensures alone { IfOk result (λ sites. IfSome sites.1 (λ site. IsOf (Some part.Process) site.line)) }
 {
     let cycle = cycle_site(alloc, sizes, halves, turns)?;
     match disk_site(alloc, sizes, disk) {
@@ -204,7 +211,9 @@ fn sites_of(alloc: Global, line: Parts, turns: bool) -> Result<Sites<InMemory>, 
     ensures disk { IfOk result (λ sites. HasDiskOf line.disk sites.disk) }
     ensures new { IfOk result (λ sites. sites.disk.seen.past ≡ []) }
     ensures slaves { IfOk result (λ sites. AllPlaced BeginsWith 0 (halves_of line.halves.items) sites.slaves.items) }
+    ensures none { IfOk result (λ sites. OwnsNone sites.disk) }
     ensures turning { IfOk result (λ sites. is_some sites.cycle ≡ turns) }
+    ensures alone { IfOk result (λ sites. IfSome sites.cycle (λ site. IsOf (Some part.Process) site.line)) }
 {
     let Parts {
         sizes,
@@ -280,9 +289,12 @@ pub(crate) fn lent_sites<D: Lends>(
     sites: Sites<InMemory>,
     room: Vec<ShadowSite<D>>,
 ) -> Sites<ShadowSite<D>>
+    requires entire { D.is_complete entire.old }
+    requires parts { AreOfParts sites }
     requires empty { room.items ≡ [] }
     requires room { length sites.slaves.items ≤ vec_capacity room }
-    ensures { AreSame sites result }
+    ensures same { AreSame sites result }
+    ensures entire { D.is_complete entire.new }
 {
     let PerDevice {
         disk,
@@ -311,9 +323,12 @@ fn lent_slaves<D: Lends>(
     sites: Vec<InMemory>,
     room: Vec<ShadowSite<D>>,
 ) -> Vec<ShadowSite<D>>
+    requires entire { D.is_complete entire.old }
+    requires parts { (slave : ℕ) (site : SiteValue) → slice_get sites.items slave ≡ Some site → IsOf (Some (part.Slave slave)) site.line }
     requires empty { room.items ≡ [] }
     requires room { length sites.items ≤ vec_capacity room }
-    ensures { result.items ≡ sites.items }
+    ensures same { result.items ≡ sites.items }
+    ensures entire { D.is_complete entire.new }
 {
     let mut lent = room;
     for site in sites {

@@ -1,7 +1,8 @@
 //! Serves a line by threads.
 
-ghost use Rattle.std.specs.Prelude.{◌≡◌, ◌+◌, ◌≤◌, [], true, false, is_some, length, vec_capacity, IfErr, IfOk, IfSome, IsTrue, OnOk};
+ghost use Rattle.std.specs.Prelude.{◌≡◌, ◌+◌, ◌≤◌, [], None, true, false, is_some, length, vec_capacity, IfErr, IfOk, IfSome, IsTrue, OnOk};
 ghost use Rattle.site_core.specs.State.{Seen, State};
+ghost use Rattle.site_shadow.specs.Lending.{IsOf};
 ghost use Rattle.site_shadow.specs.Line.{halves_of};
 ghost use Rattle.script_session.specs.Asking.{no_counts};
 ghost use Rattle.script_session.specs.AtDesk.{IsUnservedReported, LeavesSo, OpensDesk, ServesFollowed, ServesSites};
@@ -17,6 +18,8 @@ ghost use Rattle.script_session.specs.Parts.{
   IsLineReported,
   IsRoom,
   IsServable,
+  IsReportedAsOwn,
+  IsReportedOfParts,
   IsTogether,
   OwnUpTo,
   Telling,
@@ -118,6 +121,7 @@ pub fn serve_by_threads<D: Lends + Send, O: Write, W: Wait + Threads + Sync>(
     ensures line { IfOk result (λ left. IsLineOf slaves left.site.line) }
     ensures left { IfOk result (λ left. LeavesSo alone work.commands.items left.ending left.site) }
     ensures parts { IfOk result (λ left. ServesFollowed D.follows D.well D.tells true alone work.commands.items left) }
+    ensures own { IfOk result (λ left. IsReportedOfParts D.is_of left.reported) }
     ensures before { IsFollowed D.follows alone.seen }
     ensures failed { IfErr result (λ why. IsUnservedReported D.follows D.well D.tells alone work.commands.items why.reported) }
     ensures unserved { IfOk result (λ left. left.ending.is_driven ≡ false → left.unserved.items ≡ work.commands.items) }
@@ -143,6 +147,7 @@ pub fn serve_task<D: Lends + Send, O: Write, W: Wait + Threads + Sync>(
     ensures line { IfOk result (λ left. IsLineOf slaves left.site.line) }
     ensures left { IfOk result (λ left. LeavesSo alone task.work.commands.items left.ending left.site) }
     ensures parts { IfOk result (λ left. ServesFollowed D.follows D.well D.tells task.turns alone task.work.commands.items left) }
+    ensures own { IfOk result (λ left. IsReportedOfParts D.is_of left.reported) }
     ensures before { IsFollowed D.follows alone.seen }
     ensures failed { IfErr result (λ why. IsUnservedReported D.follows D.well D.tells alone task.work.commands.items why.reported) }
     ensures unserved { IfOk result (λ left. left.ending.is_driven ≡ false → left.unserved.items ≡ task.work.commands.items) }
@@ -218,6 +223,16 @@ fn room_for<D: Device + Drop, T: Drop>(
     Ok((lent, room))
 }
 
+/// Whether the site owns the disk and a slave, as that of a whole line does.
+fn is_complete<D: Device>(site: &ShadowSite<D>) -> bool
+    ensures { IsTrue result → IsOf None site.now.line }
+{
+    if !site.has_disk() {
+        return false;
+    }
+    site.owns(0)
+}
+
 /// Takes a line apart, with a part for process data only if `turns` says so, and makes room to put it together again. The line's device lends
 /// each part its own once nothing can fail any more.
 ///
@@ -236,15 +251,22 @@ pub(crate) fn prepare<D: Lends>(
     ensures room { IfOk result (λ prepared. IsRoom prepared.entire.room) }
     ensures reserved { IfOk result (λ prepared. length prepared.sites.slaves.items ≤ vec_capacity prepared.entire.room.reported) }
     ensures reported { IfOk result (λ prepared. IsFollowed (Telling D.follows D.well D.tells prepared.entire.reported) site.seen) }
+    ensures entire { IfOk result (λ prepared. D.is_complete prepared.entire.device) }
     ensures failed { IfErr result (λ why. IsLineReported D.follows D.well D.tells site.seen why.reported) }
     ensures followed { IsFollowed D.follows site.seen }
     ensures count { length site.line.sizes ≡ length site.seen.state.halves }
 {
     // Its contract says that there is a half for each slave.
     let _slaves = site.slaves();
+    let is_line = is_complete(&site);
     let has_stopped = site.has_stopped();
     let (parts, mut device) = site.into_parts();
     let reported = reported_by(&mut device, has_stopped);
+    if !is_line {
+        drop(parts);
+        drop(device);
+        return Err(NotServed::unbegun(Fault::Unserved, reported));
+    }
     match taken_apart(alloc, parts, capacity, turns) {
         Ok(Separate { sites, lent, room }) => {
             let sites = lent_sites(&mut device, sites, lent);
@@ -273,12 +295,14 @@ fn put_back<D: Lends>(
 ) -> Result<Left<ShadowSite<D>, D::Logged>, NotServed<D::Logged>>
     requires room { IsRoom entire.room }
     requires reserved { length at.ends.workers.items ≤ vec_capacity entire.room.reported }
+    requires entire { D.is_complete entire.device }
     ensures line { IfOk result (λ left. IsLineOf slaves left.site.line) }
     ensures left { IfOk result (λ left. IsTogether at.ends left.site × (left.ending ≡ at.ending)) }
     ensures followed { AreFollowed D.follows at.ends }
     ensures unserved { IfOk result (λ left. left.unserved ≡ at.unserved) }
     ensures reported { IfOk result (λ left. (opened : Seen) → IsFollowed (Telling D.follows D.well D.tells entire.reported) opened
         → IsDeskReported D.follows D.well D.tells opened left.reported at.ends) }
+    ensures own { IfOk result (λ left. IsReportedAsOwn D.is_of left.reported at.ends) }
     ensures sound { IfOk result (λ left. OnOk left.sound (AreSound left.reported × EndsSynced at.ends.flusher.log)) }
     ensures failed { IfErr result (λ why. IsDeskLeft D.follows D.well D.tells entire.reported at.ends why.reported) }
 {

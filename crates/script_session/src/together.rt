@@ -1,11 +1,13 @@
 //! Puts a line together again from the ends of its threads, and tells of the devices of its parts.
 
 ghost use Rattle.std.specs.Prelude.{◌≡◌, ◌<◌, ◌≤◌, ◌+◌, ◌∷◌, ◌++◌, [], List, length, vec_capacity, IfOk, IfSome};
-ghost use Rattle.std.specs.Prelude.{IsOkAnd, IsTrue};
+ghost use Rattle.std.specs.Prelude.{IsOkAnd, IsTrue, Some};
 ghost use Rattle.std.specs.List.{AllByRecursion, AllZip};
 ghost use Rattle.site_core.specs.State.{Seen};
 ghost use Rattle.site_shadow.specs.Line.{half_of, halves_of};
+ghost use Rattle.site_shadow.specs.Lending.{IsOf};
 ghost use Rattle.site_shadow.specs.Site.{SiteValue};
+ghost use Rattle.site_shadow.specs.declared.lending.LinePart.{LinePart};
 ghost use Rattle.station_jobs.specs.Ends.{Stay};
 ghost use Rattle.station_threads.specs.declared.closing.Ends.{Ends};
 ghost use Rattle.station_jobs.specs.Flushing.{IsFlushed};
@@ -19,6 +21,7 @@ ghost use Rattle.script_session.specs.Parts.{
   IsDeskReported,
   IsLineOf,
   IsRoom,
+  IsReportedAsOwn,
   IsTogether,
   IsWorkFollowed,
   Telling,
@@ -26,11 +29,11 @@ ghost use Rattle.script_session.specs.Parts.{
 ghost use Rattle.station_line.specs.Site.{IsFollowed};
 
 use crate::logs::{DeskLog, PartLog, taken_back};
-use crate::separate::site_of;
+use crate::separate::{InMemory, site_of};
 use esc_model::RomHalf;
 use esc_rom::owns_all;
 use site_core::Site;
-use site_shadow::{Device, Lends, Parts, ShadowSite};
+use site_shadow::{Lends, Parts, ShadowSite};
 use station_files::Fault;
 use station_jobs::{CycleLog, End, Leads, SlaveLog};
 use station_threads::{Ends, PerDevice, Sites};
@@ -97,6 +100,8 @@ fn parts_of<D: Lends>(site: ShadowSite<D>, entire: &mut D) -> (Parts, PartLog<D:
     ensures disk { IfSome result.0.disk (λ bytes. bytes.items ≡ site.seen.state.disk.bytes) }
     ensures halves { halves_of result.0.halves.items ≡ site.seen.state.halves }
     ensures reported { IsFollowed (Telling D.follows D.well D.tells result.1) site.seen }
+    ensures own { (part : LinePart) → IsOf (Some part) site.line → D.is_of part result.1.reported }
+    ensures entire { D.is_complete entire.old → D.is_complete entire.new }
 {
     let has_stopped = site.has_stopped();
     let (parts, device) = site.into_parts();
@@ -112,6 +117,8 @@ fn parts_at<D: Lends, L: Leads + Drop>(
     ensures halves { halves_of result.0.halves.items ≡ end.site.seen.state.halves }
     ensures led { L.leads end.log end.start.seen end.site.seen }
     ensures reported { IsFollowed (Telling D.follows D.well D.tells result.1) end.site.seen }
+    ensures own { (part : LinePart) → IsOf (Some part) end.start.line → D.is_of part result.1.reported }
+    ensures entire { D.is_complete entire.old → D.is_complete entire.new }
 {
     let (site, _log) = end.into_parts();
     parts_of(site, entire)
@@ -188,7 +195,9 @@ fn half_at<D: Lends>(
 ) -> (Result<Option<RomHalf>, Fault>, PartLog<D::Logged>)
     ensures half { IfOk result.0 (λ half. EndsWith slave end (half_of half)) }
     ensures reported { IsWorkFollowed (Telling D.follows D.well D.tells result.1) end }
+    ensures own { (part : LinePart) → IsOf (Some part) end.start.line → D.is_of part result.1.reported }
     ensures followed { IsWorkFollowed D.follows end }
+    ensures entire { D.is_complete entire.old → D.is_complete entire.new }
 {
     let (mut parts, reported) = parts_at(end, entire);
     if slave >= parts.halves.len() {
@@ -207,9 +216,10 @@ fn with_slave<D: Lends>(
     entire: &mut D,
 ) -> OfSlaves<D::Logged>
     requires { length left.reported.items < vec_capacity left.reported }
-    ensures left { (workers : List (Stay SiteValue SlaveLog)) → AreLeftBy D.follows D.well D.tells workers left
-        → AreLeftBy D.follows D.well D.tells (workers ++ end ∷ []) result }
+    ensures left { (workers : List (Stay SiteValue SlaveLog)) → AreLeftBy D.follows D.well D.tells D.is_of workers left
+        → AreLeftBy D.follows D.well D.tells D.is_of (workers ++ end ∷ []) result }
     ensures followed { IsWorkFollowed D.follows end }
+    ensures entire { D.is_complete entire.old → D.is_complete entire.new }
     ensures count { length result.reported.items ≡ length left.reported.items + 1 }
     ensures reserved { vec_capacity result.reported ≡ vec_capacity left.reported }
 {
@@ -233,8 +243,9 @@ fn slaves_at<D: Lends>(
 ) -> OfSlaves<D::Logged>
     requires room { IsRoom room }
     requires reserved { length workers.items ≤ vec_capacity room.reported }
-    ensures left { AreLeftBy D.follows D.well D.tells workers.items result }
+    ensures left { AreLeftBy D.follows D.well D.tells D.is_of workers.items result }
     ensures followed { AllByRecursion (IsWorkFollowed D.follows) workers.items }
+    ensures entire { D.is_complete entire.old → D.is_complete entire.new }
 {
     let mut left = room;
     for end in workers {
@@ -244,18 +255,23 @@ fn slaves_at<D: Lends>(
 }
 
 /// Whether the site is a line of `slaves` slaves, all of them owned, with its disk.
-fn is_line_of<D: Device>(site: &ShadowSite<D>, slaves: usize) -> bool
-    ensures { IsTrue result → IsLineOf slaves site.now.line }
+fn is_line_of(site: &InMemory, slaves: usize) -> bool
+    ensures line { IsTrue result → IsLineOf slaves site.now.line }
+    ensures some { 1 ≤ length site.now.line.sizes }
 {
-    site.has_disk() && usize::from(site.slaves()) == slaves && owns_all(site)
+    let count = usize::from(site.slaves());
+    site.has_disk() && count == slaves && owns_all(site)
 }
 
 /// The device of the line takes back that of the process data, if a thread exchanged them.
-fn end_cycle<D: Lends>(cycle: Option<End<ShadowSite<D>, CycleLog>>, entire: &mut D) {
+fn end_cycle<D: Lends>(cycle: Option<End<ShadowSite<D>, CycleLog>>, entire: &mut D)
+    ensures { D.is_complete entire.old → D.is_complete entire.new }
+{
     if let Some(end) = cycle {
         let (parts, reported) = parts_at(end, entire);
         drop(parts);
         drop(reported);
+        return;
     }
 }
 
@@ -268,7 +284,9 @@ fn split<D: Lends>(
     ensures disk { IfSome result.0.disk (λ bytes. bytes.items ≡ ends.flusher.site.seen.state.disk.bytes) }
     ensures flushed { IsFlushed ends.flusher.log ends.flusher.start.seen ends.flusher.site.seen }
     ensures reported { IsFollowed (Telling D.follows D.well D.tells result.1) ends.flusher.site.seen }
+    ensures own { (part : LinePart) → IsOf (Some part) ends.flusher.start.line → D.is_of part result.1.reported }
     ensures workers { result.2 ≡ ends.workers }
+    ensures entire { D.is_complete entire.old → D.is_complete entire.new }
 {
     let Ends {
         flusher,
@@ -280,13 +298,8 @@ fn split<D: Lends>(
     (parts, reported, workers)
 }
 
-/// The line with the disk of these parts and these EEPROM halves.
-fn line_of<D: Device + Drop>(
-    alloc: Global,
-    line: Parts,
-    device: D,
-    halves: Vec<Option<RomHalf>>,
-) -> Result<ShadowSite<D>, Fault>
+/// The line in memory with the disk of these parts and these EEPROM halves.
+fn line_of(alloc: Global, line: Parts, halves: Vec<Option<RomHalf>>) -> Result<InMemory, Fault>
     ensures new { IfOk result (λ site. site.seen.past ≡ []) }
     ensures disk { IfOk result (λ site. HasDiskOf line.disk site) }
     ensures halves { IfOk result (λ site. site.seen.state.halves ≡ halves_of halves.items) }
@@ -305,12 +318,13 @@ fn line_of<D: Device + Drop>(
         halves,
         process: None,
     };
-    site_of(alloc, parts, device)
+    site_of(alloc, parts)
 }
 
 /// The site, if it is a line of `slaves` slaves with its disk; otherwise `Unserved`.
-fn entire_line<D: Device + Drop>(site: ShadowSite<D>, slaves: usize) -> Result<ShadowSite<D>, Fault>
-    ensures { IfOk result (λ entire. (entire ≡ site) × IsLineOf slaves entire.line) }
+fn entire_line(site: InMemory, slaves: usize) -> Result<InMemory, Fault>
+    ensures line { IfOk result (λ entire. (entire ≡ site) × IsLineOf slaves entire.line) }
+    ensures some { IfOk result (λ entire. 1 ≤ length entire.line.sizes) }
 {
     if is_line_of(&site, slaves) {
         Ok(site)
@@ -320,22 +334,24 @@ fn entire_line<D: Device + Drop>(site: ShadowSite<D>, slaves: usize) -> Result<S
     }
 }
 
-/// The line with the disk of these parts and these EEPROM halves, if it is one of `slaves` slaves.
-fn joined<D: Device + Drop>(
+/// The line with the disk of these parts and these EEPROM halves, if it is one of `slaves` slaves. Its own device is put behind it.
+fn joined<D: Lends>(
     alloc: Global,
     line: Parts,
     device: D,
     halves: Result<Vec<Option<RomHalf>>, Fault>,
     slaves: usize,
 ) -> Result<ShadowSite<D>, Fault>
+    requires { D.is_complete device }
     ensures { (ends : Ends SiteValue) → IfSome line.disk (λ bytes. bytes.items ≡ ends.flusher.site.seen.state.disk.bytes)
         → IfOk halves (λ found. AllPlaced EndsWith 0 ends.workers.items (halves_of found.items))
         → IfOk result (λ site. IsTogether ends site × IsLineOf slaves site.line) }
 {
     match halves {
         Ok(halves) => {
-            let made = line_of(alloc, line, device, halves)?;
-            entire_line(made, slaves)
+            let made = line_of(alloc, line, halves)?;
+            let entire = entire_line(made, slaves)?;
+            Ok(entire.with_device(device))
         }
         Err(fault) => {
             drop(line);
@@ -359,9 +375,11 @@ pub(crate) fn put_together<D: Lends>(
 ) -> (Result<ShadowSite<D>, Fault>, DeskLog<D::Logged>)
     requires room { IsRoom entire.room }
     requires reserved { length ends.workers.items ≤ vec_capacity entire.room.reported }
+    requires entire { D.is_complete entire.device }
     ensures together { IfOk result.0 (λ site. IsTogether ends site × IsLineOf slaves site.line) }
     ensures reported { (opened : Seen) → IsFollowed (Telling D.follows D.well D.tells entire.reported) opened
         → IsDeskReported D.follows D.well D.tells opened result.1 ends }
+    ensures own { IsReportedAsOwn D.is_of result.1 ends }
     ensures followed { AreFollowed D.follows ends }
 {
     let Complete {

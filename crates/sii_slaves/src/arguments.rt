@@ -10,7 +10,7 @@ use std::time::Duration;
 
 /// A command line: the slaves, and where their text and their frames go.
 #[derive(Clone, Copy)]
-pub struct Arguments<'a> {
+pub(crate) struct Arguments<'a> {
     /// The name of the file that the text goes to; `None` for standard error.
     pub text: Option<&'a str>,
     /// How long a frame is waited for, if that is said.
@@ -108,7 +108,10 @@ fn slaves_program() -> Program<'static> {
 /// # Errors
 ///
 /// What is wrong with the words; or the text of the help or the version, where that is asked for; or memory was refused.
-pub fn read_arguments<'a>(alloc: Global, words: &'a [String]) -> Result<Arguments<'a>, Unread> {
+pub(crate) fn read_arguments<'a>(
+    alloc: Global,
+    words: &'a [String],
+) -> Result<Arguments<'a>, Unread> {
     let program = slaves_program();
     let given = read_words(alloc, program, words)?;
     match practice_of(&given) {

@@ -5,7 +5,7 @@ use wire_practice::{Cable, NO_QUIRKS, PowerLoss, Quirks};
 
 /// The quirks of a line of slaves: items that are separated by commas.
 #[derive(Clone, Copy)]
-pub struct QuirkList<'a> {
+pub(crate) struct QuirkList<'a> {
     text: &'a str,
 }
 

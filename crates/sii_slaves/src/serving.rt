@@ -25,7 +25,7 @@ const EMPTY_READS: u32 = 1_000;
 
 /// A planned power cut of the slaves.
 #[derive(Clone, Copy)]
-pub struct PowerCut {
+pub(crate) struct PowerCut {
     /// The number of the word in whose midst the power is cut, from 1, as the slaves begin to write them.
     pub word: u32,
     /// The value of the torn word.
@@ -34,7 +34,7 @@ pub struct PowerCut {
 
 /// A line of slaves to practise on.
 #[derive(Clone, Copy)]
-pub struct Practice<'a> {
+pub(crate) struct Practice<'a> {
     /// The name of the line file.
     pub line: &'a str,
     /// A planned power cut, if there is one.
@@ -60,7 +60,7 @@ enum Heard {
 ///
 /// As for `load_line`; `File` where an image file is absent or can't be read, `OddLength` and `BadSize` where it hasn't 1 to 65,536 words;
 /// `File` where one can't be opened, written or synced, or the wire is closed; `Memory`.
-pub fn serve_slaves<R: Clock + AllocGlobal, W: Wire, S: Store, O: Write>(
+pub(crate) fn serve_slaves<R: Clock + AllocGlobal, W: Wire, S: Store, O: Write>(
     rt: &R,
     practice: Practice<'_>,
     wire: &mut W,

@@ -1,5 +1,5 @@
 -- What a device has asked of the files of a line.
-use Rattle.std.specs.Prelude.{◌≡◌, ℕ, Bool, true, false, List, [], ◌∷◌, ◌++◌, Option, IfSome}
+use Rattle.std.specs.Prelude.{◌≡◌, ℕ, Bool, true, false, List, [], ◌∷◌, ◌++◌}
 use Rattle.site_file.specs.declared.asking.LineFile.{LineFile}
 use Rattle.site_file.specs.declared.asking.Log.{Log}
 use Rattle.site_file.specs.declared.asking.Asking.{Asking}
@@ -10,13 +10,9 @@ use Rattle.site_file.specs.Calls.{Asked, asked, reads, writes_word, syncs}
 abbrev pub HasLog : Log → List Asked → Type 0
 HasLog calls log = calls.all ≡ calls.begun.value ++ log
 
--- This is told of what a device has asked: all since its log began, or nothing.
-abbrev pub TellsLog : Log → Option (List Asked) → Type 0
-TellsLog calls reported = IfSome reported (HasLog calls)
-
--- The same, and of which part the files are.
+-- This is told of a device: all that it has asked since its log began, and of which part the files are.
 pub record TellsFiles (asking : Asking) (reported : FileLog) : Type 0 where
-  pub calls : TellsLog asking.calls reported.calls
+  pub calls : HasLog asking.calls reported.calls
   pub part : reported.part ≡ asking.part
 
 -- Then it asks its files this, in this order, and nothing else.

@@ -1,5 +1,6 @@
 pub mod Calls
 pub mod Parts
+pub mod Fitting
 pub mod Asking
 pub mod Owned
 pub mod Device

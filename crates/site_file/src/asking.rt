@@ -1,7 +1,6 @@
 // The calls on the open files of a line. Each is noted: the contracts of `Asking` say what was asked of which file, and in which order. That a
 // call which is noted is the one that is made is read from the four functions that make them.
-ghost use Rattle.std.specs.Prelude.{◌≡◌, false, true, length, IfSome};
-ghost use Rattle.std.specs.Option.{ForSome};
+ghost use Rattle.std.specs.Prelude.{◌≡◌, true, length};
 ghost use Rattle.site_file.specs.Parts.{AreOf, is_of};
 
 use crate::access::RandomAccessFile;
@@ -64,22 +63,6 @@ pub struct NamedFile<'f, F> {
     file: &'f F,
 }
 
-impl FileLog {
-    ghost use Rattle.std.specs.Prelude.{◌↔◌, Some, IsTrue};
-
-    /// Whether it was the device of this part.
-    pub fn is_of(&self, part: LinePart) -> bool
-        ensures { IsTrue result ↔ self.now.part ≡ Some part }
-    {
-        match (self.part, part) {
-            (Some(LinePart::Disk), LinePart::Disk) | (Some(LinePart::Process), LinePart::Process) =>
-                true,
-            (Some(LinePart::Slave(own)), LinePart::Slave(slave)) => own == slave,
-            _ => false,
-        }
-    }
-}
-
 impl<'f, F> NamedFile<'f, F> {
     /// The file with this name.
     pub fn new(name: LineFile, file: &'f F) -> NamedFile<'f, F>
@@ -106,45 +89,35 @@ impl<'f, F> Clone for NamedFile<'f, F> {
 #[derive(Drop)]
 pub struct Asking {
     calls: Log,
-    /// Whether a call was made.
-    has_asked: bool,
-    /// Whether no call was made before the log began.
-    is_first: bool,
     /// The part of the line whose files may be asked. None: each file of the line may be.
     part: Option<LinePart>,
-    ghost reported: { has_asked ≡ false → length calls.all ≡ 0 },
-    ghost first: { is_first ≡ true → length calls.begun.value ≡ 0 },
     ghost own: { AreOf part calls.all },
 }
 
 /// What a device tells of the calls on its files.
 #[derive(Drop)]
 pub struct FileLog {
-    /// All that it asked, in order. None where it stood behind two sites: then its log is not all.
-    pub calls: Option<History<Asked>>,
+    /// All that it asked, in order.
+    pub calls: History<Asked>,
     /// The part of the line whose device it was: it has asked the files of that part alone. None: the line's.
     pub part: Option<LinePart>,
-    ghost own: { ForSome calls (AreOf part) },
+    ghost own: { AreOf part calls },
 }
 
 impl Asking {
-    ghost use Rattle.std.specs.Prelude.{[], ◌∷◌, is_ok, is_some, not};
+    ghost use Rattle.std.specs.Prelude.{[], ◌∷◌, is_ok};
     ghost use Rattle.site_file.specs.Calls.{asked, tells_length, reads, writes, syncs};
-    ghost use Rattle.site_file.specs.Asking.{HasLog, TellsFiles, Asks, Begins};
+    ghost use Rattle.site_file.specs.Asking.{Asks, Begins};
 
     /// No call has been made yet. The files of this part may be asked; for None, each file of the line.
     pub fn new(part: Option<LinePart>) -> Asking
-        ensures log { HasLog result.calls [] }
-        ensures nothing { result.calls.all ≡ [] }
-        ensures first { (result.is_first ≡ true) × (result.has_asked ≡ false) }
+        ensures nothing { (result.calls.all ≡ []) × (result.calls.begun.value ≡ []) }
         ensures part { result.part ≡ part }
     {
         let all = History::new();
         let begun = Snapshot::of(&all);
         Asking {
             calls: Log { all, begun },
-            has_asked: false,
-            is_first: true,
             part,
         }
     }
@@ -170,49 +143,27 @@ impl Asking {
     /// The log begins here. What was asked before is remembered.
     pub fn begin(&mut self)
         ensures begins { Begins self.old.calls self.new.calls }
-        ensures first { self.new.is_first ≡ not self.old.has_asked }
         ensures part { self.new.part ≡ self.old.part }
     {
-        self.is_first = !self.has_asked;
         self.calls.begun = Snapshot::of(&self.calls.all);
     }
 
-    /// All that was asked, unless a call was made before the log began: then that is not all in it.
+    /// All that was asked.
     pub fn reported(self) -> FileLog
-        ensures tells { TellsFiles self result }
-        ensures some { is_some result.calls ≡ self.is_first }
-        ensures all { IfSome result.calls (λ log. log ≡ self.calls.all) }
+        ensures all { result.calls ≡ self.calls.all }
+        ensures part { result.part ≡ self.part }
     {
-        let part = self.part;
-        if self.is_first {
-            FileLog {
-                calls: Some(self.into_all()),
-                part,
-            }
-        } else {
-            drop(self);
-            FileLog { calls: None, part }
-        }
-    }
-
-    /// Everything that was asked, also before the log began.
-    fn into_all(self) -> History<Asked>
-        ensures all { result ≡ self.calls.all }
-        ensures first { self.is_first ≡ true → HasLog self.calls result }
-    {
-        let Asking { calls, .. } = self;
+        let Asking { calls, part } = self;
         let Log { all, begun: _ } = calls;
-        all
+        FileLog { calls: all, part }
     }
 
     /// A call was made, and succeeded or failed.
     fn note(&mut self, file: LineFile, call: Call, succeeded: bool)
         requires { is_of self.old.part file ≡ true }
         ensures asks { Asks self.old.calls self.new.calls (asked file call succeeded ∷ []) }
-        ensures first { (self.new.is_first ≡ self.old.is_first) × (self.new.has_asked ≡ true) }
         ensures part { self.new.part ≡ self.old.part }
     {
-        self.has_asked = true;
         let made = Asked {
             file,
             call,

@@ -8,6 +8,7 @@ ghost use Rattle.site_shadow.specs.declared.pattern.Pattern.TheVariants as patte
 ghost use Rattle.site_file.specs.declared.asking.LineFile.TheVariants as line_file;
 ghost use Rattle.site_file.specs.Calls.{writes, syncs};
 ghost use Rattle.site_file.specs.Asking.{HasLog, Begins, AsksToRead, WritesWord};
+ghost use Rattle.site_file.specs.Fitting.{IsComplete};
 ghost use Rattle.site_file.specs.Owned.{Lacks, LacksJournal, image_in};
 ghost use Rattle.site_file.specs.Parts.{is_of};
 
@@ -52,11 +53,12 @@ pub struct Finished<F> {
 impl<F: RandomAccessFile> FileDevice<F> {
     /// Makes the device of these files. They must hold what the shadow holds, synced.
     pub fn new(files: OpenFiles<F>) -> FileDevice<F>
-        ensures nothing { HasLog result.asking.calls [] }
+        ensures nothing { (result.asking.calls.all ≡ []) × HasLog result.asking.calls [] }
         ensures begins { result.has_failed ≡ false }
         ensures journal { result.held.journal ≡ Some files.journal }
         ensures images { result.held.images ≡ files.images }
         ensures part { result.asking.part ≡ None }
+        ensures entire { IsComplete result }
     {
         FileDevice {
             held: OwnedFiles::of(files),
@@ -120,25 +122,19 @@ impl<F: RandomAccessFile> FileDevice<F> {
 }
 
 impl<F: Drop> FileDevice<F> {
-    /// The files, and all that was asked of them. None where the device was put behind a second shadow: then its log is not all.
-    pub fn finish(self) -> Option<Finished<F>>
-        ensures some { is_some result ≡ self.asking.is_first }
-        ensures files { IfSome result (λ finished. finished.files ≡ self.held) }
-        ensures log { IfSome result (λ finished. HasLog self.asking.calls finished.log) }
-        ensures all { IfSome result (λ finished. finished.log ≡ self.asking.calls.all) }
+    /// The files, and all that was asked of them.
+    pub fn finish(self) -> Finished<F>
+        ensures files { result.files ≡ self.held }
+        ensures all { result.log ≡ self.asking.calls.all }
     {
         let FileDevice {
             held,
             asking,
             has_failed: _,
         } = self;
-        let FileLog { calls, part: _ } = asking.reported();
-        match calls {
-            Some(log) => Some(Finished { files: held, log }),
-            None => {
-                drop(held);
-                None
-            }
+        Finished {
+            files: held,
+            log: asking.reported().calls,
         }
     }
 }
@@ -320,14 +316,20 @@ impl<F: RandomAccessFile> FileDevice<F> {
 
 impl<F: RandomAccessFile> Device for FileDevice<F> {
     ghost use Rattle.std.specs.Prelude.{[], ◌↔◌, ◌||◌, not};
+    ghost use Rattle.site_core.specs.Line.{Line};
     ghost use Rattle.site_core.specs.State.{Seen};
-    ghost use Rattle.site_shadow.specs.Following.{AskKeeps, WriteKeeps, SyncKeeps, ExchangeKeeps, RestKeeps, TakenKeeps};
+    ghost use Rattle.site_file.specs.Fitting.{IsReady, Fits};
+    ghost use Rattle.site_shadow.specs.Following.{KeepsFit, AskKeeps, WriteKeeps, SyncKeeps, ExchangeKeeps, RestKeeps, TakenKeeps};
     ghost use Rattle.site_file.specs.Device.{CallsJournal, AsksLength, ReadsJournal, Rests};
     ghost use Rattle.site_file.specs.Following.{Follows};
 
     ghost follows = { Follows };
 
     ghost well = { λ device. device.has_failed ≡ false };
+
+    ghost is_ready = { IsReady };
+
+    ghost fits = { Fits };
 
     /// The log begins here. Behind a shadow that has seen a call it would not know what the files hold: there each call fails.
     fn begin(&mut self, is_new: bool)
@@ -336,6 +338,7 @@ impl<F: RandomAccessFile> Device for FileDevice<F> {
         ensures part { self.new.asking.part ≡ self.old.asking.part }
         ensures sound { self.new.has_failed ≡ (self.old.has_failed || not is_new) }
         ensures follows { (seen : Seen) → (IsTrue is_new ↔ seen.past ≡ []) → Follows self.new seen }
+        ensures fits { (line : Line) → IsReady self.old line → Fits self.new line }
     {
         self.asking.begin();
         self.has_failed = self.must_refuse(is_new);
@@ -346,6 +349,7 @@ impl<F: RandomAccessFile> Device for FileDevice<F> {
         ensures part { self.new.asking.part ≡ self.old.asking.part }
         ensures asks { AsksLength self.old result self.new }
         ensures follows { AskKeeps Follows self.old result self.new }
+        ensures fits { KeepsFit Fits self.old self.new }
     {
         self.ask_length(length)
     }
@@ -355,6 +359,7 @@ impl<F: RandomAccessFile> Device for FileDevice<F> {
         ensures part { self.new.asking.part ≡ self.old.asking.part }
         ensures asks { ReadsJournal self.old result self.new }
         ensures follows { AskKeeps Follows self.old result self.new }
+        ensures fits { KeepsFit Fits self.old self.new }
     {
         self.compare(at, held)
     }
@@ -364,6 +369,7 @@ impl<F: RandomAccessFile> Device for FileDevice<F> {
         ensures part { self.new.asking.part ≡ self.old.asking.part }
         ensures asks { CallsJournal (writes at bytes.now) self.old result self.new }
         ensures follows { WriteKeeps Follows at bytes.now self.old result self.new }
+        ensures fits { KeepsFit Fits self.old self.new }
     {
         self.write_journal(at, bytes)
     }
@@ -373,6 +379,7 @@ impl<F: RandomAccessFile> Device for FileDevice<F> {
         ensures part { self.new.asking.part ≡ self.old.asking.part }
         ensures asks { CallsJournal syncs self.old result self.new }
         ensures follows { SyncKeeps Follows self.old result self.new }
+        ensures fits { KeepsFit Fits self.old self.new }
     {
         self.sync_journal()
     }
@@ -382,6 +389,7 @@ impl<F: RandomAccessFile> Device for FileDevice<F> {
         ensures passes { result ≡ (if self.old.has_failed then Stops patterns.Old else Passes) }
         ensures same { self.new ≡ self.old }
         ensures follows { ExchangeKeeps Follows self.old result self.new }
+        ensures fits { KeepsFit Fits self.old self.new }
     {
         if self.has_failed {
             return Passing::Stops(Pattern::Old);
@@ -396,6 +404,7 @@ impl<F: RandomAccessFile> Device for FileDevice<F> {
         ensures part { self.new.asking.part ≡ self.old.asking.part }
         ensures asks { Rests slave (in_flight half.now.activity) self.old result self.new }
         ensures follows { RestKeeps Follows slave half.now frame.now k self.old result self.new }
+        ensures fits { KeepsFit Fits self.old self.new }
     {
         self.rest_word(slave, half)
     }
@@ -412,6 +421,7 @@ impl<F: RandomAccessFile> Device for FileDevice<F> {
         ensures stops { result ≡ (if self.old.has_failed then Some patterns.Old else None) }
         ensures same { self.new ≡ self.old }
         ensures follows { TakenKeeps Follows self.old result self.new }
+        ensures fits { KeepsFit Fits self.old self.new }
     {
         if self.has_failed {
             return Some(Pattern::Old);
@@ -423,6 +433,7 @@ impl<F: RandomAccessFile> Device for FileDevice<F> {
         ensures passes { result ≡ (if self.old.has_failed then Stops patterns.Old else Passes) }
         ensures same { self.new ≡ self.old }
         ensures follows { AskKeeps Follows self.old result self.new }
+        ensures fits { KeepsFit Fits self.old self.new }
     {
         if self.has_failed {
             return Passing::Stops(Pattern::Old);
@@ -440,19 +451,30 @@ impl<F: RandomAccessFile> Device for FileDevice<F> {
 }
 
 impl<F: RandomAccessFile + Drop> Lends for FileDevice<F> {
+    ghost use Rattle.site_core.specs.Line.{Line};
+    ghost use Rattle.site_shadow.specs.Lending.{IsOf};
+    ghost use Rattle.site_shadow.specs.declared.lending.LinePart.{LinePart};
     ghost use Rattle.site_file.specs.Asking.{TellsFiles};
+    ghost use Rattle.site_file.specs.Fitting.{IsReady, Fits, IsComplete, complete_ready};
     ghost use Rattle.site_file.specs.Owned.{PutsBack, Takes};
 
     type Logged = FileLog;
 
     ghost tells = { λ device reported. TellsFiles device.asking reported };
 
+    ghost is_of = { λ part reported. reported.part ≡ Some part };
+
+    ghost is_complete = { IsComplete };
+
+    #[tactic(auto, using(crate::proofs::Fitting::ready_by, crate::proofs::Fitting::complete_on))]
     fn lend(&mut self, part: LinePart) -> FileDevice<F>
         ensures files { Takes part self.old.held result.held self.new.held }
         ensures nothing { (result.asking.calls.all ≡ []) × HasLog result.asking.calls [] }
         ensures part { result.asking.part ≡ Some part }
         ensures failed { result.has_failed ≡ self.old.has_failed }
         ensures same { (self.new.asking ≡ self.old.asking) × (self.new.has_failed ≡ self.old.has_failed) }
+        ensures lent { (line : Line) → IsOf (Some part) line → IsReady result line }
+        ensures entire { IsComplete self.old → IsComplete self.new }
     {
         FileDevice {
             held: self.held.take(part),
@@ -461,11 +483,15 @@ impl<F: RandomAccessFile + Drop> Lends for FileDevice<F> {
         }
     }
 
+    #[tactic(auto, using(crate::proofs::Fitting::tells_all, crate::proofs::Fitting::reported_of, crate::proofs::Fitting::complete_on))]
     fn take_back(&mut self, lent: FileDevice<F>) -> FileLog
-        ensures tells { TellsFiles lent.asking result }
+        ensures all { (result.calls ≡ lent.asking.calls.all) × (result.part ≡ lent.asking.part) }
         ensures files { PutsBack self.old.held lent.held self.new.held }
         ensures failed { self.new.has_failed ≡ (self.old.has_failed || lent.has_failed) }
         ensures same { self.new.asking ≡ self.old.asking }
+        ensures tells { (line : Line) → Fits lent line → TellsFiles lent.asking result }
+        ensures own { (line : Line) (part : LinePart) → Fits lent line → IsOf (Some part) line → result.part ≡ Some part }
+        ensures entire { IsComplete self.old → IsComplete self.new }
     {
         let FileDevice {
             held,
@@ -477,15 +503,20 @@ impl<F: RandomAccessFile + Drop> Lends for FileDevice<F> {
         asking.reported()
     }
 
+    #[tactic(auto, using(crate::proofs::Fitting::tells_all, crate::proofs::Fitting::complete_by))]
     fn tell(&mut self) -> FileLog
-        ensures tells { TellsFiles self.old.asking result }
+        ensures all { (result.calls ≡ self.old.asking.calls.all) × (result.part ≡ self.old.asking.part) }
         ensures files { self.new.held ≡ self.old.held }
         ensures nothing { (self.new.asking.calls.all ≡ []) × HasLog self.new.asking.calls [] }
         ensures failed { self.new.has_failed ≡ self.old.has_failed }
         ensures part { self.new.asking.part ≡ self.old.asking.part }
+        ensures tells { (line : Line) → Fits self.old line → TellsFiles self.old.asking result }
+        ensures entire { (line : Line) → Fits self.old line → IsOf None line → IsComplete self.new }
     {
         let part = self.asking.part();
         let asking = mem::replace(&mut self.asking, Asking::new(part));
         asking.reported()
     }
+
+    ghost complete_ready = { complete_ready };
 }

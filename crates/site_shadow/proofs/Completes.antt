@@ -1,11 +1,16 @@
 -- Parts that fit together to make a site.
-use Rattle.std.proofs.Common.{◌≡◌, ℕ, zero, suc, ◌+◌, ◌<◌, ◌≤◌, List, [], ◌∷◌, length, Option, Some, IfSome, slice_get, slice_index, refl, sym, ap, subst, ◌∙◌, arith}
+use Rattle.std.proofs.Common.{◌≡◌, ℕ, zero, suc, ◌+◌, ◌<◌, ◌≤◌, Bool, not, List, [], ◌∷◌, length, map, Option, Some, None, IfSome, slice_get, slice_index, refl, sym, ap, subst, ◌∙◌, arith}
 use Rattle.std.proofs.lemmas.Option.{slice_get_within}
 use borrow.Author.Count.{below_more}
+use Rattle.std.specs.Prelude.{◌==◌, is_some}
+use Rattle.std.specs.Global.{Vec}
+use Rattle.site_core.specs.Line.{Line}
 use Rattle.esc_model.specs.SlaveHalf.{SlaveHalf}
 use Rattle.esc_model.specs.ProcessHalf.{ProcessMemory}
 use Rattle.site_shadow.specs.Line.{half_of, halves_of, word_counts}
-use Rattle.site_shadow.specs.Site.{IsComplete, HasSize, SizesFit}
+use Rattle.site_shadow.specs.Following.{KeepsFit}
+use Rattle.site_shadow.specs.Process.{memories_of}
+use Rattle.site_shadow.specs.Site.{IsComplete, HasSize, SizesFit, line_of}
 
 pub length-counts : (halves : List (Option SlaveHalf)) → length (word_counts (halves_of halves)) ≡ length halves
 length-counts [] = refl
@@ -78,3 +83,18 @@ SizesFit-more halves sizes count half fit here has slave other below is =
     let last : HalfFits halves sizes count = λ h at. (let e : half ≡ h = cc in let P : Option SlaveHalf → Type 0 = λ x. HasSize x (slice_index sizes count) in subst P e has) in
     let all : (k : ℕ) → k < count + 1 → HalfFits halves sizes k = below_more (HalfFits halves sizes) count (λ k low h at. fit k h low at) last in
     all slave below other is
+
+-- ---- the device behind a site whose halves keep their numbers of words
+
+pub fits_on : {D : Type 0} (fits : D → Line → Type 0) (before after : D) (sizes : List ℕ) (has_disk has_process : Bool) (old new : List SlaveHalf)
+    → word_counts new ≡ word_counts old → KeepsFit fits before after → fits before (line_of sizes has_disk has_process old)
+    → fits after (line_of sizes has_disk has_process new)
+fits_on fits before after sizes has_disk has_process old new same keeps is =
+    let with_counts : List ℕ → Line = λ counts. record { sizes = sizes; owned = map (λ count. not (count == 0)) counts; has_disk = has_disk; has_process = has_process } in
+    subst (λ (counts : List ℕ). fits after (with_counts counts)) (sym same) (keeps (line_of sizes has_disk has_process old) is)
+
+pub some_both : (before after : Option (Vec ProcessMemory)) (halves laters : List ProcessMemory) → memories_of before ≡ Some halves
+    → memories_of after ≡ Some laters → is_some before ≡ is_some after
+some_both (Some one) (Some other) halves laters here there = refl
+some_both None after halves laters here there = absurd (let e : None ≡ Some halves = here in cc)
+some_both (Some one) None halves laters here there = absurd (let e : None ≡ Some laters = there in cc)

@@ -7,6 +7,7 @@ use Rattle.esc_model.specs.Datagrams.{served_datagram}
 use Rattle.site_core.specs.declared.fault.DeviceFault.{DeviceFault}
 use Rattle.site_core.specs.declared.fault.DeviceFault.TheVariants as faults
 use Rattle.site_core.specs.Disk.{IsSynced}
+use Rattle.site_core.specs.Line.{Line}
 use Rattle.site_core.specs.State.{State, Seen, Pair, Moment, Leaves, LeftAt, with_half, last_of}
 use Rattle.site_core.specs.Calls.{Calls, WritesDisk, SyncsDisk}
 use Rattle.site_shadow.specs.declared.device.Passing.{Passing}
@@ -79,6 +80,10 @@ pub record IsUnasked (old new : Seen) : Type 0 where
 -- A device keeps this of the site, and nothing that it was asked has failed.
 abbrev pub IsFollowedBy : {D : Type 0} → (D → Seen → Type 0) → (D → Type 0) → Seen → Type 0
 IsFollowedBy {D} follows well seen = (device : D) × follows device seen × well device
+
+-- The device stays behind the site for whose line it was made.
+abbrev pub KeepsFit : {D : Type 0} → (D → Line → Type 0) → D → D → Type 0
+KeepsFit fits before after = (line : Line) → fits before line → fits after line
 
 -- WHAT A CALL OF A DEVICE KEEPS, by what it keeps of a shadow
 

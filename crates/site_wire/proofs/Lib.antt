@@ -22,5 +22,6 @@ mod FollowingUp
 mod Journal
 mod JournalFile
 mod Following
+mod Fitting
 mod DueTo
 pub mod Sent

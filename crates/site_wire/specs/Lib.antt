@@ -11,6 +11,7 @@ pub mod Orders
 pub mod Sent
 pub mod Parts
 pub mod Logged
+pub mod Fitting
 pub mod RealSlaves
 pub mod Journal
 pub mod Following

@@ -4,8 +4,7 @@ use Rattle.site_file.specs.Asking.{TellsFiles}
 use Rattle.site_wire.specs.declared.device.WireDevice.{WireDevice}
 use Rattle.site_wire.specs.declared.device.WireLog.{WireLog}
 
--- This is told of a device: what its journal was asked since its log began, or nothing of that, with the part whose device it is; and all that it
--- has sent.
+-- This is told of a device: all that its journal was asked since its log began, with the part whose device it is; and all that it has sent.
 pub record TellsWire {L F C : Type 0} (device : WireDevice L F C) (reported : WireLog) : Type 0 where
   pub journal : TellsFiles device.journal.asking reported.journal
   pub sent : reported.sent ≡ device.sender.log.all

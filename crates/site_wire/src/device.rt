@@ -16,6 +16,8 @@ ghost use Rattle.std.specs.List.{All};
 ghost use Rattle.std.specs.Option.{option_map};
 ghost use Rattle.site_wire.specs.Sent.{exchanged, Sends};
 ghost use Rattle.site_wire.specs.Following.{SendsNothing, ReadsBack, rests_with, FollowsUp, SendsFor, IsDueTo, CarriesFrame};
+ghost use Rattle.site_file.specs.Fitting as files;
+ghost use Rattle.site_wire.specs.Fitting.{IsComplete};
 ghost use Rattle.site_wire.specs.Parts.{SendsAsPart, WorksOn};
 ghost use Rattle.esc_model.specs.Bytes.{station_of};
 ghost use Rattle.esc_model.specs.Orders.{station};
@@ -99,7 +101,9 @@ impl<'f, W: Wire, F: RandomAccessFile + Drop, C: Clock> WireDevice<'f, LiveLine<
         wire: NumberedWire<W>,
         clock: &'f C,
         journal: FileDevice<F>,
-    ) -> WireDevice<'f, LiveLine<W>, F, C> {
+    ) -> WireDevice<'f, LiveLine<W>, F, C>
+        ensures { files.IsComplete journal → IsComplete result }
+    {
         WireDevice::on(LiveLine::new(wire), clock, journal)
     }
 
@@ -126,7 +130,9 @@ impl<'f, R: Wait, W: Wire, F: RandomAccessFile, C: Clock> WireDevice<
         line: SharedLine<'f, R, W>,
         clock: &'f C,
         journal: FileDevice<F>,
-    ) -> WireDevice<'f, SharedLine<'f, R, W>, F, C> {
+    ) -> WireDevice<'f, SharedLine<'f, R, W>, F, C>
+        ensures { files.IsComplete journal → IsComplete result }
+    {
         WireDevice::on(line, clock, journal)
     }
 }
@@ -156,7 +162,9 @@ fn next_of(shown: AccessState, is_unconfirmed: bool) -> Reaction
 
 impl<'f, L: Reach, F: RandomAccessFile, C: Clock> WireDevice<'f, L, F, C> {
     /// The slaves on this line, and this journal.
-    fn on(line: L, clock: &'f C, journal: FileDevice<F>) -> WireDevice<'f, L, F, C> {
+    fn on(line: L, clock: &'f C, journal: FileDevice<F>) -> WireDevice<'f, L, F, C>
+        ensures { files.IsComplete journal → IsComplete result }
+    {
         WireDevice {
             sender: Sender::new(line),
             clock,
@@ -515,8 +523,10 @@ fn fit_datagram<'a>(slave: u16, half: &RomHalf, frame: &'a Frame) -> Option<Data
 
 impl<'f, L: Reach, F: RandomAccessFile, C: Clock> Device for WireDevice<'f, L, F, C> {
     ghost use Rattle.std.specs.Prelude.{[], ◌↔◌, ◌||◌, not};
+    ghost use Rattle.site_core.specs.Line.{Line};
     ghost use Rattle.site_core.specs.State.{Seen};
-    ghost use Rattle.site_shadow.specs.Following.{AskKeeps, WriteKeeps, SyncKeeps, ExchangeKeeps, RestKeeps, TakenKeeps};
+    ghost use Rattle.site_wire.specs.Fitting.{IsReady, Fits};
+    ghost use Rattle.site_shadow.specs.Following.{KeepsFit, AskKeeps, WriteKeeps, SyncKeeps, ExchangeKeeps, RestKeeps, TakenKeeps};
     ghost use Rattle.site_file.specs.declared.asking.Call.TheVariants.{Writes as writes, Syncs as syncs};
     ghost use Rattle.site_file.specs.Asking.{Begins};
     ghost use Rattle.site_file.specs.Device.{CallsJournal, AsksLength, ReadsJournal};
@@ -526,12 +536,17 @@ impl<'f, L: Reach, F: RandomAccessFile, C: Clock> Device for WireDevice<'f, L, F
 
     ghost well = { λ device. device.is_over ≡ false };
 
+    ghost is_ready = { IsReady };
+
+    ghost fits = { Fits };
+
     /// What the journal is asked is noted from here on, as is what is sent. Behind a shadow that has seen a call the device would not know what the
     /// slaves and the journal are: it sends and asks nothing. Nor does it where it has sent anything before.
     fn begin(&mut self, is_new: bool)
         ensures begins { Begins self.old.journal.asking.calls self.new.journal.asking.calls }
         ensures sound { self.new.journal.has_failed ≡ (self.old.journal.has_failed || not is_new) }
         ensures follows { (seen : Seen) → (IsTrue is_new ↔ seen.past ≡ []) → WireFollows self.new seen }
+        ensures fits { (line : Line) → IsReady self.old line → Fits self.new line }
     {
         self.journal.begin(is_new);
         self.is_over = self.must_refuse();
@@ -540,6 +555,7 @@ impl<'f, L: Reach, F: RandomAccessFile, C: Clock> Device for WireDevice<'f, L, F
     fn len(&mut self, length: usize) -> Passing
         ensures asks { AsksLength self.old.journal result self.new.journal }
         ensures follows { AskKeeps WireFollows self.old result self.new }
+        ensures fits { KeepsFit Fits self.old self.new }
     {
         let passing = self.journal.len(length);
         self.end_call(passing)
@@ -548,6 +564,7 @@ impl<'f, L: Reach, F: RandomAccessFile, C: Clock> Device for WireDevice<'f, L, F
     fn read(&mut self, at: usize, held: &[u8]) -> Passing
         ensures asks { ReadsJournal self.old.journal result self.new.journal }
         ensures follows { AskKeeps WireFollows self.old result self.new }
+        ensures fits { KeepsFit Fits self.old self.new }
     {
         let passing = self.journal.read(at, held);
         self.end_call(passing)
@@ -556,6 +573,7 @@ impl<'f, L: Reach, F: RandomAccessFile, C: Clock> Device for WireDevice<'f, L, F
     fn write(&mut self, at: usize, bytes: &[u8]) -> Passing
         ensures asks { CallsJournal (writes at bytes.now) self.old.journal result self.new.journal }
         ensures follows { WriteKeeps WireFollows at bytes.now self.old result self.new }
+        ensures fits { KeepsFit Fits self.old self.new }
     {
         let passing = self.journal.write(at, bytes);
         self.end_call(passing)
@@ -564,15 +582,18 @@ impl<'f, L: Reach, F: RandomAccessFile, C: Clock> Device for WireDevice<'f, L, F
     fn sync(&mut self) -> Passing
         ensures asks { CallsJournal syncs self.old.journal result self.new.journal }
         ensures follows { SyncKeeps WireFollows self.old result self.new }
+        ensures fits { KeepsFit Fits self.old self.new }
     {
         let passing = self.journal.sync();
         self.end_call(passing)
     }
 
     /// Lets the frame pass, which `rest` sends. One that isn't a datagram for the EEPROM of this slave, and fit for its half, stops the site.
+    #[tactic(auto, using(crate::proofs::Fitting::fits_same))]
     fn exchange(&mut self, slave: usize, half: &RomHalf, frame: &Frame) -> Passing
         ensures journal { self.new.journal ≡ self.old.journal }
         ensures follows { ExchangeKeeps WireFollows self.old result self.new }
+        ensures fits { KeepsFit Fits self.old self.new }
     {
         if self.is_over {
             return Passing::Stops(LEFT);
@@ -588,11 +609,13 @@ impl<'f, L: Reach, F: RandomAccessFile, C: Clock> Device for WireDevice<'f, L, F
 
     /// Sends the frame, unless its datagram tells nothing new, and the half rests and answers by itself; or the half is busy and takes nothing
     /// of it. A frame that doesn't come back may have been taken, so the half takes it before the site stops.
+    #[tactic(auto, using(crate::proofs::Fitting::fits_same))]
     fn rest(&mut self, slave: usize, half: &RomHalf, frame: &Frame, k: usize) -> Resting
         ensures known { (d : Pdu) → frame.now ≡ d ∷ [] → IsKnown half.now d → self.new.is_over ≡ false
             → self.new ≡ record self.old { returned = None; resting = resting.Well } }
         ensures journal { self.new.journal ≡ self.old.journal }
         ensures follows { RestKeeps WireFollows slave half.now frame.now k self.old result self.new }
+        ensures fits { KeepsFit Fits self.old self.new }
     {
         if self.is_over {
             return Resting::Stays;
@@ -604,6 +627,7 @@ impl<'f, L: Reach, F: RandomAccessFile, C: Clock> Device for WireDevice<'f, L, F
         self.resting
     }
 
+    #[tactic(auto, using(crate::proofs::Fitting::fits_same))]
     fn taken(
         &mut self,
         slave: usize,
@@ -616,6 +640,7 @@ impl<'f, L: Reach, F: RandomAccessFile, C: Clock> Device for WireDevice<'f, L, F
         ensures stops { IsTrue self.old.is_over → IsSome result }
         ensures journal { self.new.journal ≡ self.old.journal }
         ensures follows { TakenKeeps WireFollows self.old result self.new }
+        ensures fits { KeepsFit Fits self.old self.new }
     {
         if self.is_over {
             return Some(LEFT);
@@ -632,6 +657,7 @@ impl<'f, L: Reach, F: RandomAccessFile, C: Clock> Device for WireDevice<'f, L, F
         ensures lost { result ≡ Fails }
         ensures same { self.new ≡ self.old }
         ensures follows { AskKeeps WireFollows self.old result self.new }
+        ensures fits { KeepsFit Fits self.old self.new }
     {
         Passing::Fails
     }
@@ -656,12 +682,21 @@ pub struct WireLog {
 
 impl<'f, L: Reach + Copy + Drop, F: RandomAccessFile + Drop, C: Clock> Lends
     for WireDevice<'f, L, F, C> {
+    ghost use Rattle.site_core.specs.Line.{Line};
+    ghost use Rattle.site_shadow.specs.Lending.{IsOf};
+    ghost use Rattle.site_shadow.specs.declared.lending.LinePart.{LinePart};
     ghost use Rattle.site_file.specs.Owned.{PutsBack, Takes};
+    ghost use Rattle.site_wire.specs.Fitting.{IsReady, Fits, complete_ready};
+    ghost use Rattle.site_wire.specs.Fitting.{IsComplete};
     ghost use Rattle.site_wire.specs.Logged.{TellsWire};
 
     type Logged = WireLog;
 
     ghost tells = { TellsWire };
+
+    ghost is_of = { λ part reported. reported.journal.part ≡ Some part };
+
+    ghost is_complete = { IsComplete };
 
     /// The journal goes with the device of the disk.
     fn lend(&mut self, part: LinePart) -> WireDevice<'f, L, F, C>
@@ -671,6 +706,8 @@ impl<'f, L: Reach + Copy + Drop, F: RandomAccessFile + Drop, C: Clock> Lends
         ensures part { result.journal.asking.part ≡ Some part }
         ensures same { (self.new.writes ≡ self.old.writes) × (self.new.is_unconfirmed ≡ self.old.is_unconfirmed) }
         ensures lent { (result.writes ≡ self.old.writes) × (result.is_unconfirmed ≡ self.old.is_unconfirmed) }
+        ensures fresh { (line : Line) → IsOf (Some part) line → IsReady result line }
+        ensures entire { IsComplete self.old → IsComplete self.new }
     {
         WireDevice {
             sender: Sender::new(self.sender.line),
@@ -684,11 +721,14 @@ impl<'f, L: Reach + Copy + Drop, F: RandomAccessFile + Drop, C: Clock> Lends
         }
     }
 
+    #[tactic(auto, using(crate::proofs::Fitting::tells_wire))]
     fn take_back(&mut self, lent: WireDevice<'f, L, F, C>) -> WireLog
-        ensures tells { TellsWire lent.entry result }
         ensures files { PutsBack self.old.journal.held lent.entry.journal.held self.new.journal.held }
         ensures over { self.new.is_over ≡ (self.old.is_over || lent.entry.is_over) }
         ensures sent { self.new.sender.log.all ≡ self.old.sender.log.all }
+        ensures tells { (line : Line) → Fits lent.entry line → TellsWire lent.entry result }
+        ensures own { (line : Line) (part : LinePart) → Fits lent.entry line → IsOf (Some part) line → result.journal.part ≡ Some part }
+        ensures entire { IsComplete self.old → IsComplete self.new }
     {
         let WireDevice {
             sender,
@@ -703,15 +743,19 @@ impl<'f, L: Reach + Copy + Drop, F: RandomAccessFile + Drop, C: Clock> Lends
         }
     }
 
+    #[tactic(auto, using(crate::proofs::Fitting::tells_wire))]
     fn tell(&mut self) -> WireLog
-        ensures tells { TellsWire self.old result }
         ensures files { self.new.journal.held ≡ self.old.journal.held }
         ensures over { self.new.is_over ≡ self.old.is_over }
         ensures sent { self.new.sender.log.all ≡ [] }
+        ensures tells { (line : Line) → Fits self.old line → TellsWire self.old result }
+        ensures entire { (line : Line) → Fits self.old line → IsOf None line → IsComplete self.new }
     {
         WireLog {
             journal: self.journal.tell(),
             sent: self.sender.tell(),
         }
     }
+
+    ghost complete_ready = { complete_ready };
 }

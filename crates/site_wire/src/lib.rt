@@ -11,7 +11,6 @@ mod joining;
 mod laws;
 mod order;
 mod ordering;
-mod parts;
 mod reach;
 mod sending;
 
@@ -21,6 +20,5 @@ pub use laws::{
     agreed_is_possible, amending_is_possible, defined_slave_serves, journal_follows,
     possible_leaves_no_more, stop_leaves_no_more,
 };
-pub use parts::TellsPart;
 pub use reach::{LiveLine, LockedLine, Reach, SharedLine};
 pub use sending::Exchange;

@@ -34,7 +34,7 @@ struct Cell {
 
 /// The bytes of an open file, and room after them in which it grows.
 #[derive(Drop)]
-pub struct Cells {
+pub(crate) struct Cells {
     cells: Vec<Cell>,
     /// How many bytes the file has.
     len: AtomicU64,

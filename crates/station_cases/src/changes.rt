@@ -12,7 +12,7 @@ struct Values<'a> {
 }
 
 /// The word at this address; `None` after the end.
-pub fn word_at(bytes: &[u8], at: usize) -> Option<u16> {
+pub(crate) fn word_at(bytes: &[u8], at: usize) -> Option<u16> {
     let low = *bytes.get(at.saturating_mul(2))?;
     let high = *bytes.get(at.saturating_mul(2).saturating_add(1))?;
     Some(u16::from_le_bytes([low, high]))

@@ -56,7 +56,7 @@ fn plain(alloc: Global, contents: &Value) -> io::Result<Vec<u8>> {
 }
 
 /// A number of bytes or of repetitions; 0 where there is none.
-pub fn number_of(value: Option<&Value>) -> usize {
+pub(crate) fn number_of(value: Option<&Value>) -> usize {
     match value {
         Some(Value::Integer(number)) => usize::try_from(*number).unwrap_or(0),
         _ => 0,

@@ -10,7 +10,12 @@ use toml::{Table, Value};
 /// # Errors
 ///
 /// What is expected is malformed, or memory was refused.
-pub fn fits(alloc: Global, named: &Table, expected: &Value, bytes: &[u8]) -> io::Result<bool> {
+pub(crate) fn fits(
+    alloc: Global,
+    named: &Table,
+    expected: &Value,
+    bytes: &[u8],
+) -> io::Result<bool> {
     match expected {
         Value::Boolean(true) => Ok(!bytes.is_empty()),
         Value::Table(parts) if is_pattern(parts) => fits_all(alloc, named, parts, bytes),

@@ -248,7 +248,7 @@ fn trouble_of(error_at: Option<u64>) -> Trouble {
 /// # Errors
 ///
 /// The contents of a file are malformed, or memory was refused.
-pub fn put_files(
+pub(crate) fn put_files(
     alloc: Global,
     named: &Table,
     files: Option<&Value>,

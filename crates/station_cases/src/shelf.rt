@@ -14,7 +14,7 @@ const ROOM: usize = 65536;
 
 /// The content of a file.
 #[derive(Drop)]
-pub enum Content {
+pub(crate) enum Content {
     Complete(Vec<u8>),
     /// The content of a file that was opened.
     Open(Arc<Cells>),
@@ -22,7 +22,7 @@ pub enum Content {
 
 /// A file: its name and its content.
 #[derive(Drop)]
-pub struct Held {
+pub(crate) struct Held {
     pub name: String,
     pub content: Content,
 }

@@ -8,7 +8,7 @@ use std::alloc::{AllocError, Global};
 /// # Errors
 ///
 /// Memory was refused.
-pub fn left_of(alloc: Global, bytes: &[u8]) -> Result<Vec<u8>, AllocError> {
+pub(crate) fn left_of(alloc: Global, bytes: &[u8]) -> Result<Vec<u8>, AllocError> {
     let mut left = Vec::new(alloc);
     let mut start = 0usize;
     let mut skipped = 0usize;

@@ -18,7 +18,7 @@ pub enum Trouble {
 
 /// How a call goes.
 #[derive(Clone, Copy, PartialEq, Eq)]
-pub enum Passing {
+pub(crate) enum Passing {
     Passes,
     /// The power is cut during the call: what it wrote isn't synced.
     Cut,

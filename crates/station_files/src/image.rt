@@ -99,7 +99,7 @@ fn spelt_image(alloc: Global, hex: bool, input: &[u8]) -> Result<ImageFile, Faul
 /// # Errors
 ///
 /// `Memory` before anything is written; then `File` or `Memory`, as the output answers, with part of the image written.
-pub fn write_image<W: Write>(
+pub(crate) fn write_image<W: Write>(
     alloc: Global,
     hex: bool,
     image: &ImageFile,

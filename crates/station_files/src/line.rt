@@ -107,7 +107,7 @@ pub fn load_slave<S: Store>(alloc: Global, name: &str, store: &mut S) -> Result<
 /// # Errors
 ///
 /// As for `load_line`, then as for `load_slaves`.
-pub fn load_plant<S: Store>(alloc: Global, name: &str, store: &mut S) -> Result<Plant, Fault>
+pub(crate) fn load_plant<S: Store>(alloc: Global, name: &str, store: &mut S) -> Result<Plant, Fault>
     ensures plant { IfOk result (SpellsPlant (S.files store.old) name.now) }
     ensures refused { IfErr result (RefusesPlant (S.files store.old) name.now) }
     ensures same { S.files store.new ≡ S.files store.old }

@@ -16,7 +16,7 @@ use std::alloc::{AllocError, Global};
 
 /// Two files of a list, by their places in it, of which one would be lost where the other is written or replaced.
 #[derive(Clone, Copy)]
-pub struct Clash {
+pub(crate) struct Clash {
     /// The place of the first, from 0. It may be written.
     pub one: usize,
     /// The place of the second.

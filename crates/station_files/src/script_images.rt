@@ -21,7 +21,7 @@ use std::alloc::Global;
 ///
 /// The fault of the first bad image: `File` where it is absent or can't be read; `NotAFile`; `OddLength`; `BadSize` where its words are not
 /// 64 to 4,096. `Memory` may come at any point.
-pub fn load_commands<S: Store>(
+pub(crate) fn load_commands<S: Store>(
     alloc: Global,
     script: &[ScriptCommand],
     store: &mut S,

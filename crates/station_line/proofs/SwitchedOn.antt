@@ -8,9 +8,12 @@ use Rattle.std.specs.List.{AllByRecursion}
 use Rattle.sii_words.specs.Words.{bytes_of, IsDeviceSize}
 use Rattle.esc_model.specs.SlaveHalf.{SlaveHalf, powered_up}
 use Rattle.site_core.specs.State.{Seen, word_counts}
+use Rattle.std.specs.Prelude.{IsTrue}
+use Rattle.site_core.specs.Line.{Line}
 use Rattle.esc_rom.specs.Owned.{OwnsAll}
+use Rattle.site_shadow.specs.Lending.{IsOf}
 use Rattle.site_shadow.specs.Line.{half_of, halves_of, owned}
-use Rattle.site_shadow.specs.Site.{IsComplete, SiteValue, value_of}
+use Rattle.site_shadow.specs.Site.{IsComplete, SiteValue, line_of, value_of}
 use Rattle.site_shadow.specs.Unsynced.{of_bytes}
 use Rattle.station_line.specs.Site.{powered_up_from, IsSiteOf}
 
@@ -85,6 +88,16 @@ pub is_all_owned : (sizes : List ℕ) (halves : List SlaveHalf) (has_disk has_pr
 is_all_owned sizes halves has_disk has_process most devices same = λ slave below.
     let P : List ℕ → Type 0 = λ counts. slice_get (map (λ count. not (count == 0)) counts) slave ≡ Some true in
     (below, omega arith, subst P (sym same) (owned-at sizes slave devices below))
+
+-- a line that owns its slaves, one at least, and the disk
+pub is_of_none : (line : Line) → 1 ≤ length line.sizes → IsTrue line.has_disk → OwnsAll line → IsOf None line
+is_of_none line some disk owned = record { disk = disk; slave = 0; owns = owned 0 (omega arith) }
+
+pub owns_first : (sizes : List ℕ) (slaves : List (List ℕ)) (halves : List SlaveHalf) (has_process : Bool) → sizes ≡ map length slaves → 1 ≤ length slaves
+    → length slaves ≤ 64 → AllByRecursion IsDeviceSize sizes → word_counts halves ≡ sizes → IsOf None (line_of sizes true has_process halves)
+owns_first sizes slaves halves has_process sized some most devices same =
+    let many : length sizes ≡ length slaves = ap length sized ∙ length-map slaves length in
+    is_of_none (line_of sizes true has_process halves) (omega arith) refl (is_all_owned sizes halves true has_process (omega arith) devices same)
 
 -- the line in memory that is made of them
 pub makes_site : (site : SiteValue) (slaves : List (List ℕ)) (bytes sizes : List ℕ) (halves : List SlaveHalf) → sizes ≡ map length slaves → AllByRecursion IsDeviceSize sizes → length slaves ≤ 64 → halves ≡ powered_up_from 4097 slaves

@@ -1,5 +1,7 @@
 //! Makes a line in memory of the words and bytes that its files hold, and saves a line to its files.
-ghost use Rattle.std.specs.Prelude.{◌≡◌, ◌∷◌, ◌≤◌, length, map, IfErr, IfOk, IsTrue, OnOk};
+ghost use Rattle.std.specs.Prelude.{◌≡◌, ◌∷◌, ◌≤◌, None, length, map, IfErr, IfOk, IsTrue, OnOk};
+ghost use Rattle.site_core.specs.Line.{Line};
+ghost use Rattle.site_shadow.specs.Lending.{IsOf};
 ghost use Rattle.std.specs.List.{AllByRecursion};
 ghost use Rattle.sii_words.specs.Words.{bytes_of, IsDeviceSize};
 ghost use Rattle.site_shadow.specs.Line.{half_of, halves_of};
@@ -19,7 +21,8 @@ use std::io;
 /// How many datagrams a slave stays busy with an EEPROM command.
 const DELAY: u32 = 1;
 
-/// Makes a line, just switched on, of slaves with these words and a disk with these bytes, and `device` behind it. Requires 1 to 64 slaves.
+/// Makes a line, just switched on, of slaves with these words and a disk with these bytes, and `device` behind it, which was made for a whole
+/// line. Requires 1 to 64 slaves.
 ///
 /// # Errors
 ///
@@ -32,6 +35,7 @@ pub fn site_of<D: Device + Drop>(
 ) -> Result<ShadowSite<D>, AllocError>
     requires some { 1 ≤ length slaves.now }
     requires most { length slaves.now ≤ 64 }
+    requires ready { (line : Line) → IsOf None line → D.is_ready device line }
     ensures { IfOk result (λ site. IsSiteOf slaves.now disk.items site) }
 {
     let sizes = sizes_of(alloc, slaves)?;

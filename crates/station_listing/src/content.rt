@@ -27,7 +27,7 @@ pub enum Content {
 /// # Errors
 ///
 /// Memory was refused.
-pub fn read_content(alloc: Global, kind: u16, words: &[u16]) -> Result<Content, AllocError>
+pub(crate) fn read_content(alloc: Global, kind: u16, words: &[u16]) -> Result<Content, AllocError>
     ensures { IfOk result (SaysContent kind words.now) }
 {
     let content = match read_items(alloc, kind, words)? {

@@ -21,7 +21,7 @@ use std::io::Write;
 
 /// What a recovery would do to a line.
 #[derive(Drop)]
-pub struct Restored {
+pub(crate) struct Restored {
     /// What it would find, and how many words it would write.
     pub recovered: Recovered,
     /// The words of the slaves that it would change.

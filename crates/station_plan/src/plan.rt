@@ -24,7 +24,7 @@ use std::io::Write;
 
 /// What a run would do to a line.
 #[derive(Drop)]
-pub struct Planned {
+pub(crate) struct Planned {
     /// The words of the slaves before the run.
     pub before: Plant,
     /// Their words after it.

@@ -7,7 +7,7 @@ use site_shadow::{Device, Passing, Resting};
 
 /// A device behind a line in memory, in whose calls nothing fails. It counts the writes. Contracts don't see it.
 #[derive(Clone, Copy, Drop)]
-pub struct Tally {
+pub(crate) struct Tally {
     /// The words that slaves have taken.
     pub words: u64,
     /// The bytes that were written to the journal.

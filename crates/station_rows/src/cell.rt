@@ -14,7 +14,7 @@ pub struct Cell<'a> {
 }
 
 /// What follows stands on a new line of the text.
-pub const BREAK: Cell<'static> = Cell {
+pub(crate) const BREAK: Cell<'static> = Cell {
     text: None,
     key: None,
     value: Value::Break,

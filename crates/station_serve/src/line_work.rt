@@ -13,7 +13,7 @@ use std::thread::Threads;
 
 /// What `run` is asked for.
 #[derive(Clone, Copy)]
-pub struct RunTask<'a> {
+pub(crate) struct RunTask<'a> {
     /// The names of the files.
     pub names: RunNames<'a>,
     /// A planned power cut, if there is one.

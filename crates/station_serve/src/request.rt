@@ -94,7 +94,7 @@ impl<'a> Task<'a> {
 
 /// A command line that was read.
 #[derive(Drop)]
-pub struct Request<'a> {
+pub(crate) struct Request<'a> {
     /// The subcommand with its arguments.
     pub task: Task<'a>,
     /// The text of the script `TYPED`, where commands are typed in place of a script file.

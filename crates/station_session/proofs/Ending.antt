@@ -121,47 +121,31 @@ pub saved-still : (new : Known) (line : LineFile) (saved : Result (Unit {0}) Fau
 saved-still new line saved state one held bad good = on-saved (HoldsSite new line state) saved one held bad good
 
 -- what the files keep through the calls of a station
-pub keeps-files : (before now : Seen) (is_sound : Bool) (asked : Option (List Asked)) → IfSome asked (λ calls. FilesOf calls now is_sound) → before.past ≡ [] → Follows before now → KeepsThroughout before now
-    → KeepsFiles before.state (unwrap_or asked [])
-keeps-files before now is_sound (Some calls) files new follows keeps = cut_leaves_kept before now is_sound calls files new (first_stays before now new follows) keeps
-keeps-files before now is_sound None files new follows keeps = keeps_unasked before.state
+pub keeps-files : (before now : Seen) (is_sound : Bool) (calls : List Asked) → FilesOf calls now is_sound → before.past ≡ [] → Follows before now → KeepsThroughout before now
+    → KeepsFiles before.state calls
+keeps-files before now is_sound calls files new follows keeps = cut_leaves_kept before now is_sound calls files new (first_stays before now new follows) keeps
 
--- the contents in them after a complete recovery
-recovered-contents : (s : Station) (is_sound : Bool) (asked : Option (List Asked)) → IfSome asked (λ calls. FilesOf calls s.seen is_sound) → HasRecovered s → IsTrue is_sound → IsTrue (is_some asked)
-    → BecomeOnly (HasContents s.book) (first_of s.seen) (unwrap_or asked [])
-recovered-contents s is_sound (Some calls) files recovered sound some = recovery_leaves_contents s is_sound calls files recovered sound
-recovered-contents s is_sound None files recovered sound some = absurd cc
-
-pub ends-recovered : (old new : Known) (line : LineFile) (before : Seen) (s : Station) (left : Seen) (asked : Option (List Asked)) (saved : Result (Unit {0}) Fault) (one other final : ExitStatus) → HasRecovered s → BeginsRecovered before s → left ≡ s.seen
-    → before.past ≡ [] → Follows before s.seen → KeepsThroughout before s.seen → SavedSoundly left saved asked
-    → OnOk saved (HoldsSite new line left.state) → ChangesAmong old new (files_of line) → OnErr saved (¬ IsFaultless one) → (final ≡ Done → (one ≡ Done) × (other ≡ Done)) → EndsRecovery old new line before final asked
-ends-recovered old new line before s left asked saved one other final is_recovered begins is none follows keeps known held others bad done_too =
-    let files : IfSome asked (λ calls. FilesOf calls s.seen known.is_sound) = subst (λ (x : Seen). IfSome asked (λ (calls : List Asked). FilesOf calls x known.is_sound)) is known.leave in
+pub ends-recovered : (old new : Known) (line : LineFile) (before : Seen) (s : Station) (left : Seen) (calls : List Asked) (saved : Result (Unit {0}) Fault) (one other final : ExitStatus) → HasRecovered s → BeginsRecovered before s → left ≡ s.seen
+    → before.past ≡ [] → Follows before s.seen → KeepsThroughout before s.seen → SavedSoundly left saved calls
+    → OnOk saved (HoldsSite new line left.state) → ChangesAmong old new (files_of line) → OnErr saved (¬ IsFaultless one) → (final ≡ Done → (one ≡ Done) × (other ≡ Done)) → EndsRecovery old new line before final (Some calls)
+ends-recovered old new line before s left calls saved one other final is_recovered begins is none follows keeps known held others bad done_too =
+    let files : FilesOf calls s.seen known.is_sound = subst (λ (x : Seen). FilesOf calls x known.is_sound) is known.leave in
     record {
       others = others;
-      keeps = keeps-files before s.seen known.is_sound asked files none follows keeps;
+      keeps = keeps-files before s.seen known.is_sound calls files none follows keeps;
       saved = λ done.
-          let good : IsFaultless one = done-faultless one (done_too done).0 in
-          let sound = on-saved (IsTrue known.is_sound × IsTrue (is_some asked)) saved one known.sound bad good in (
-            sound.1,
+          let good : IsFaultless one = done-faultless one (done_too done).0 in (
+            refl,
             record {
               s = s;
               recovered = is_recovered;
               begins = begins;
               held = subst (λ (x : Seen). HoldsSite new line x.state) is (on-saved (HoldsSite new line left.state) saved one held bad good);
-              contents = subst (λ (x : State). BecomeOnly (HasContents s.book) x (unwrap_or asked [])) (first_stays before s.seen none follows)
-                  (recovered-contents s known.is_sound asked files is_recovered sound.0 sound.1);
+              contents = subst (λ (x : State). BecomeOnly (HasContents s.book) x calls) (first_stays before s.seen none follows)
+                  (recovery_leaves_contents s known.is_sound calls files is_recovered (on-saved (IsTrue known.is_sound) saved one known.sound bad good));
             },
           );
     }
-
--- ---- a fault that is told after a run
-
--- it ends the run as a fault, or the status stays
-pub reported-too : (is_cut : Bool) (old new : Known) (line : LineFile) (site : SiteValue) (commands : List Command) (status final : ExitStatus) → EndsRun is_cut old new line site commands status → (final ≡ status) ⊎ (¬ IsFaultless final)
-    → EndsRun is_cut old new line site commands final
-reported-too is_cut old new line site commands status final ends (inl same) = subst (λ (s : ExitStatus). EndsRun is_cut old new line site commands s) (sym same) ends
-reported-too is_cut old new line site commands status final ends (inr bad) = record { others = ends.others; saved = λ good. absurd (bad good) }
 
 -- ---- the whole
 

@@ -1,12 +1,13 @@
 -- Whether the files hold what a site holds, and what is told of them.
-use Rattle.std.proofs.Common.{◌≡◌, Bool, true, false, not, ap, is_some, List, Result, Ok, Err, OnOk, IsTrue, refl, sym, ◌∙◌}
-use Rattle.std.specs.Prelude.{IfSome, Option, Some, None}
+use Rattle.std.proofs.Common.{◌≡◌, ◌++◌, Bool, true, false, not, ap, List, Result, Ok, Err, OnOk, IsTrue, refl, sym, ◌∙◌}
+use Rattle.std.specs.Prelude.{Option}
 use Rattle.std.specs.Option.{option_map}
 use Rattle.site_core.specs.State.{Seen}
 use Rattle.site_file.specs.declared.files.Finished.{Finished}
 use Rattle.site_file.specs.declared.asking.Asked.{Asked}
 use Rattle.site_file.specs.declared.files.FileDevice.{FileDevice}
-use Rattle.site_file.specs.Asking.{HasLog}
+use Rattle.site_core.specs.Line.{Line}
+use Rattle.site_file.specs.Fitting.{Fits}
 use Rattle.site_file.specs.Following.{Follows}
 use Rattle.kept_files.specs.KeptFiles.{FilesOf}
 use Rattle.kept_files.proofs.OnFiles.{site_has_files}
@@ -25,25 +26,12 @@ pub saved_so : {T E : Type 0} (saved : Result T E) (is_sound : Bool) → is_soun
 saved_so (Ok kept) is_sound is = is
 saved_so (Err fault) is_sound is = tt
 
--- all that was asked of files, if it is told
+-- all that was asked of the files of a site, by its device
+pub asked_files : (F : Type 0) (device : FileDevice F) (calls : List Asked) (line : Line) (now : Seen) (is_sound : Bool) → Follows device now → Fits device line
+    → (IsTrue is_sound → (device.has_failed ≡ false) × ¬ IsTrue now.is_stopped) → calls ≡ device.asking.calls.all → FilesOf calls now is_sound
+asked_files F device calls line now is_sound follows fits sound all =
+    site_has_files F device calls now is_sound follows (sym all ∙ ap (λ (l : List Asked). l ++ calls) (sym fits.nothing)) sound
+
+-- if it is told
 abbrev pub log_of : {F : Type 0} → Option (Finished F) → Option (List Asked)
 log_of files = option_map (λ done. done.log) files
-
-pub reported_of : {F : Type 0} (files : Option (Finished F)) (now : Seen) (is_sound : Bool) → IfSome files (λ done. FilesOf done.log now is_sound)
-    → IfSome (log_of files) (λ calls. FilesOf calls now is_sound)
-reported_of (Some done) now is_sound reported = reported
-reported_of None now is_sound reported = tt
-
--- what is told of the files of a site, by its device
-pub reported_files : (F : Type 0) (device : FileDevice F) (files : Option (Finished F)) (now : Seen) (is_sound : Bool) → Follows device now
-    → (IsTrue is_sound → (device.has_failed ≡ false) × ¬ IsTrue now.is_stopped) → IfSome files (λ done. HasLog device.asking.calls done.log)
-    → IfSome files (λ done. FilesOf done.log now is_sound)
-reported_files F device (Some done) now is_sound follows sound log = site_has_files F device done.log now is_sound follows log sound
-reported_files F device None now is_sound follows sound log = tt
-
--- where the line was saved, its files are told of
-pub saved_and_reported : {T E F : Type 0} (saved : Result T E) (files : Option (Finished F)) (is_sound is_none : Bool) → is_sound ≡ true
-    → is_some files ≡ not is_none → is_none ≡ false → OnOk saved (IsTrue is_sound × IsTrue (is_some (log_of files)))
-saved_and_reported (Ok kept) (Some done) is_sound is_none is some none = (is, refl)
-saved_and_reported (Ok kept) None is_sound is_none is some none = absurd (let e : false ≡ true = some ∙ ap not none in cc)
-saved_and_reported (Err fault) files is_sound is_none is some none = tt

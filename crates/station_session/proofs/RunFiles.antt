@@ -19,7 +19,7 @@ use Rattle.site_file.specs.declared.asking.LineFile.TheVariants.{Journal as Jour
 use Rattle.site_file.specs.declared.files.FileDevice.{FileDevice}
 use Rattle.site_file.specs.declared.asking.Asked.{Asked}
 use Rattle.site_file.specs.declared.asking.FileLog.{FileLog}
-use Rattle.site_file.specs.Asking.{HasLog, TellsLog}
+use Rattle.site_file.specs.Asking.{HasLog}
 use Rattle.site_file.specs.Following as files
 use Rattle.site_file.specs.Held.{is_same}
 use Rattle.site_file.specs.Files.{File, image_of}
@@ -211,16 +211,15 @@ sound-at : {T : Type 0} (reported : List (PartLog T)) (slave : ℕ) (part : Part
 sound-at reported slave part all here = at-place (λ one. IsTrue one.is_sound) reported slave part all here
 
 -- the calls of a device, by what is told of it
-reported-calls : (F : Type 0) (device kept : FileDevice F) (calls : List Asked) (reported : Option (List Asked)) → kept ≡ device → HasLog kept.asking.calls calls
-    → TellsLog device.asking.calls reported → IfSome reported (λ asked. asked ≡ calls)
-reported-calls F device kept calls None same log tells = tt
-reported-calls F device kept calls (Some asked) same log tells =
+reported-calls : (F : Type 0) (device kept : FileDevice F) (calls asked : List Asked) → kept ≡ device → HasLog kept.asking.calls calls
+    → HasLog device.asking.calls asked → asked ≡ calls
+reported-calls F device kept calls asked same log tells =
     append_cancel_left device.asking.calls.begun.value asked calls (sym tells ∙ subst (λ (d : FileDevice F). HasLog d.asking.calls calls) same log)
 
 -- what a device tells of its log, its device of files has asked
 abbrev pub TellsFile : (F : Type 0) → {D : Type 0} → (follows : D → Seen → Type 0) → HasFileDevice F follows → (D → FileLog → Type 0) → Type 0
 TellsFile F {D} follows to_file tells =
-    (device : D) (seen : Seen) (f : follows device seen) (reported : FileLog) → tells device reported → TellsLog (to_file device seen f).0.asking.calls reported.calls
+    (device : D) (seen : Seen) (f : follows device seen) (reported : FileLog) → tells device reported → HasLog (to_file device seen f).0.asking.calls reported.calls
 
 -- by devices that keep this and tell of it
 module _ (F : Type 0) {D : Type 0} (follows : D → Seen → Type 0) (to_file : HasFileDevice F follows) (tells : D → FileLog → Type 0) (tells_file : TellsFile F follows to_file tells) where
@@ -297,14 +296,14 @@ module _ (F : Type 0) {D : Type 0} (follows : D → Seen → Type 0) (well : D �
     have_asked : HaveAsked reported desk.ends keeps_reported.desk
     unfolding keeps_reported keeps_parts desk reported_disk reported_works
     have_asked = record {
-      journal = subst (λ (d : FileDevice F). TellsLog d.asking.calls reported.disk.reported.calls)
+      journal = subst (λ (d : FileDevice F). HasLog d.asking.calls reported.disk.reported.calls)
           (sym (journal_device F follows to_file station synced desk tellings.flushed reported_disk reported_works))
           (tells_file tellings.disk.0 desk.ends.flusher.site.seen tellings.disk.1.0 reported.disk.reported tellings.disk.1.1);
       images = λ slave end is.
           let w = reported-work follows well tells reported.slaves.items desk.ends.workers.items tellings.slaves slave end is in (
             w.0,
             w.1,
-            subst (λ (d : FileDevice F). TellsLog d.asking.calls w.0.reported.calls)
+            subst (λ (d : FileDevice F). HasLog d.asking.calls w.0.reported.calls)
                 (sym (image_device F follows to_file station synced desk tellings.flushed reported_disk reported_works slave end is))
                 (tells_file w.2.followed.0 end.site.seen w.2.followed.1.0 w.0.reported w.2.followed.1.1),
           );
@@ -518,23 +517,6 @@ unserved_line follows well tells reported station commands why same_desk same_op
     by (unserved.Line part) (at_desk.line _ followed) = (followed.0, (followed.1.0, followed.1.1))
     by (unserved.Separate devices) (at_desk.separate _ parts none tellings) = (tellings.before.0, (tellings.before.1.0, tellings.before.1.1))
     by (unserved.Desk devices) (at_desk.desk _ ending served_by tellings) = (tellings.before.0, (tellings.before.1.0, tellings.before.1.1))
-
-desk_reported : (F : Type 0) (reported : RunLog FileLog) (station : Station) (commands : List Command) (one final : ExitStatus) → ¬ IsFaultless final
-    → DeskGoes (OfFiles F reported) station commands one → DeskGoes (OfFiles F reported) station commands final
-desk_reported F reported station commands one final bad (unbegun was) = unbegun bad
-desk_reported F reported station commands one final bad (idle parts none keeps was) = idle parts none keeps bad
-desk_reported F reported station commands one final bad (separate ending desk keeps was) = separate ending desk keeps bad
-desk_reported F reported station commands one final bad (served ending site sound parts desk closes) =
-    served ending site sound parts desk (λ closed. after_reported (OfFiles F reported) ending.is_driven sound commands site.seen one final (λ was. bad)
-    (closes closed))
-
--- a fault that is told after a run ends it as a fault, or the status stays
-pub reported_as : (F : Type 0) (before : Seen) (commands : List Command) (one final : ExitStatus) (reported : RunLog FileLog) → (final ≡ one) ⊎ (¬ IsFaultless final)
-    → RunKeepsFiles F before commands one reported → RunKeepsFiles F before commands final reported
-reported_as F before commands one final reported (inl same) kept = subst (λ (s : ExitStatus). RunKeepsFiles F before commands s reported) (sym same) kept
-reported_as F before commands one final reported (inr bad) (unopened last stage was) = unopened last stage bad
-reported_as F before commands one final reported (inr bad) (opened station stage synced goes) = opened station stage synced
-    (desk_reported F reported station commands one final bad goes)
 
 pub runs_kept : (F : Type 0) (old : Known) (name script : List ℕ) (line : LineFile) (site : SiteValue) (commands : List Command) (status : ExitStatus) (reported : RunLog FileLog) → Loads old name line site
     → SpellsCommands old script commands → RunKeepsFiles F site.seen commands status reported → KeepsRunFiles F old name script status reported

@@ -14,8 +14,7 @@ use Rattle.site_file.specs.declared.asking.Asked.{Asked}
 use Rattle.site_file.specs.declared.asking.FileLog.{FileLog}
 use Rattle.site_file.specs.Parts.{AreOf}
 use Rattle.site_shadow.specs.declared.lending.LinePart.{LinePart}
-use Rattle.site_shadow.specs.declared.lending.LinePart.TheVariants as parts
-use Rattle.site_file.specs.Asking.{TellsLog}
+use Rattle.site_file.specs.Asking.{HasLog}
 use Rattle.site_file.specs.Files.{BecomesBy, File, IsBytes}
 use Rattle.site_file.specs.Held.{of_file}
 use Rattle.site_file.specs.AllFiles.{calls_of, Holds, Shows}
@@ -42,7 +41,7 @@ use Rattle.script_session.specs.declared.logs.DeskLog.{DeskLog}
 use Rattle.script_session.specs.declared.logs.UnservedLog.{UnservedLog}
 use Rattle.script_session.specs.declared.logs.UnservedLog.TheVariants as unserved
 use Rattle.script_session.specs.declared.logs.PartLog.{PartLog}
-use Rattle.script_session.specs.Parts.{AreSound, AreUnserved, IsDeskReported}
+use Rattle.script_session.specs.Parts.{AreSound, AreUnserved, IsDeskReported, IsReportedOfParts}
 use Rattle.station_session.specs.declared.logs.RunLog.{RunLog}
 use Rattle.station_line.specs.Rounds.{AreAmong}
 use Rattle.station_line.specs.Site.{IsFollowed}
@@ -189,7 +188,7 @@ pub record KeepsAtDesk (F : Type 0) (station : Station) (sound : Result (Unit {0
 
 -- What is told of the calls of a device, if something is.
 abbrev pub IsReported : Option FileLog → (List Asked → Type 0) → Type 0
-IsReported reported so = IfSome reported (λ file. IfSome file.calls so)
+IsReported reported so = IfSome reported (λ file. so file.calls)
 
 -- As `KeepsOn`, by the calls that are told.
 pub record KeepsAsReported (F : Type 0) (reported : Option FileLog) (before now : Seen) : Type 0 where
@@ -204,10 +203,10 @@ pub record ServesAsReported (F : Type 0) (reported : Option FileLog) (commands :
 -- The devices behind the parts of a desk have asked their files what is told of them.
 pub record HaveAsked {F : Type 0} (reported : DeskLog FileLog) (ends : Ends SiteValue)
     (desk : DeskOnFiles F seen_of ends.flusher ends.workers.items) : Type 0 where
-  pub journal : TellsLog desk.journal.device.asking.calls reported.disk.reported.calls
+  pub journal : HasLog desk.journal.device.asking.calls reported.disk.reported.calls
   pub images : (slave : ℕ) (end : Stay SiteValue SlaveLog) (is : slice_get ends.workers.items slave ≡ Some end)
       → (part : PartLog FileLog) × (slice_get reported.slaves.items slave ≡ Some part)
-      × TellsLog (desk.images slave end is).device.asking.calls part.reported.calls
+      × HasLog (desk.images slave end is).device.asking.calls part.reported.calls
 
 -- As `KeepsParts`, by the calls that are told.
 pub record KeepsPartsAsReported (F : Type 0) (reported : Option (DeskLog FileLog)) (station : Station) (ends : Ends SiteValue) : Type 0 where
@@ -245,25 +244,18 @@ pub record KeepsRunFiles (F : Type 0) (old : Known) (name script : List ℕ) (st
   pub spelt : SpellsCommands old script commands
   pub kept : RunKeepsFiles F site.seen commands status reported
 
--- All that a device asked of its files is told, and it was the device of this part: it asked no other file.
-pub record IsPartReported (part : LinePart) (reported : FileLog) : Type 0 where
-  pub log : IsTrue (is_some reported.calls)
-  pub own : IfSome reported.calls (AreOf (Some part))
+-- The device of this part is told of: it asked no other file.
+abbrev pub IsPartReported : LinePart → FileLog → Type 0
+IsPartReported part reported = AreOf (Some part) reported.calls
 
--- The same of the device behind the worker of each slave, in order.
-abbrev pub AreSlavesReported : List (PartLog FileLog) → Type 0
-AreSlavesReported reported = (slave : ℕ) (part : PartLog FileLog) → slice_get reported slave ≡ Some part → IsPartReported (parts.Slave slave) part.reported
+-- The devices of the line as the station was opened, at the desk, each of its own part, and of the line after it are told of.
+pub record TellsAll {T : Type 0} (of : LinePart → T → Type 0) (reported : RunLog T) : Type 0 where
+  pub desk : IsSomeAnd reported.desk (IsReportedOfParts of)
+  pub after : IsTrue (is_some reported.after)
 
--- The logs of the line's device before it was taken apart, and of the device of each part are told, each of its own part.
-pub record AreLogsReported (reported : DeskLog FileLog) : Type 0 where
-  pub line : IsTrue (is_some reported.line.reported.calls)
-  pub disk : IsPartReported parts.Disk reported.disk.reported
-  pub slaves : AreSlavesReported reported.slaves.items
-
--- The logs of the line's device as the station was opened, of the devices at the desk, and of the line's behind it are told.
-pub record IsAllReported (reported : RunLog FileLog) : Type 0 where
-  pub desk : IsSomeAnd reported.desk AreLogsReported
-  pub after : IsSomeAnd reported.after (λ file. IsTrue (is_some file.calls))
+-- All that was asked of the files is told.
+abbrev pub IsAllReported : RunLog FileLog → Type 0
+IsAllReported reported = TellsAll IsPartReported reported
 
 -- No device is told of: none has had a file of the line.
 pub record IsNoneReported {T : Type 0} (reported : RunLog T) : Type 0 where

@@ -1,5 +1,5 @@
 -- `run` and `recover`: what is read from the files of a line, how the station starts, and what the files hold in the end.
-use Rattle.std.specs.Prelude.{◌≡◌, Bool, List, [], Option, is_some, unwrap_or, ℕ, ⊤, Result, IfSome, OnOk, IsTrue}
+use Rattle.std.specs.Prelude.{◌≡◌, Bool, List, [], Option, is_some, unwrap_or, ℕ, ⊤, Result, OnOk, IsTrue}
 use Rattle.sii_edit.specs.declared.command.Command.{Command}
 use Rattle.site_core.specs.State.{Seen}
 use Rattle.site_shadow.specs.Site.{SiteValue}
@@ -42,11 +42,11 @@ pub record SavesRecovered (files : Known) (line : LineFile) (before : Seen) (cal
   pub contents : BecomeOnly (HasContents s.book) before.state calls
 
 -- What was asked of the files of a line since they held the state in which its site began: a power cut at any moment of it has left in them what it
--- may have left of the site. It is known where the line was saved, and then they hold its state.
-pub record SavedSoundly (now : Seen) (saved : Result (Unit {0}) Fault) (asked : Option (List Asked)) : Type 0 where
+-- may have left of the site. Where the line was saved they hold its state.
+pub record SavedSoundly (now : Seen) (saved : Result (Unit {0}) Fault) (calls : List Asked) : Type 0 where
   pub is_sound : Bool
-  pub leave : IfSome asked (λ calls. FilesOf calls now is_sound)
-  pub sound : OnOk saved (IsTrue is_sound × IsTrue (is_some asked))
+  pub leave : FilesOf calls now is_sound
+  pub sound : OnOk saved (IsTrue is_sound)
 
 -- No other files than the line's changed. Whatever the status is: by all that was asked of the open files, a power cut at any moment has left in
 -- them, all at once, only what is kept for each machine for which it was kept before. If the status is `Done`, they hold the recovered state.

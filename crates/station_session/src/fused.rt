@@ -59,28 +59,28 @@ pub(crate) fn run_fused<S: Store, W: Write>(
     }
 }
 
-/// Opens the station. A journal that isn't of version 2, as `is_old` says, is recovered and migrated first. Then `device` stands behind the site.
+/// Opens the station. A journal that isn't of version 2, as `is_old` says, is recovered and migrated first. Then `plan` stands behind the site.
 ///
 /// # Errors
 ///
 /// As for `migrated` and `Alone::open`, with the site as they hand it back.
-fn open_over<D: Device + Drop, E: Device>(
+fn open_over(
     alloc: Global,
-    site: ShadowSite<D>,
+    site: ShadowSite<FaultPlan>,
     is_old: bool,
-    device: E,
-) -> Result<Alone<ShadowSite<E>>, (ShadowSite<E>, OpenFault)>
+    plan: FaultPlan,
+) -> Result<Alone<ShadowSite<FaultPlan>>, (ShadowSite<FaultPlan>, OpenFault)>
     requires disk { IsTrue site.line.has_disk }
     requires owned { OwnsAll site.line }
     ensures line { MatchResult result (λ alone. alone.line ≡ site.line) (λ back. back.0.line ≡ site.line) }
     ensures starts { IfOk result (λ alone. StartsFrom is_old site alone) }
 {
     if !is_old {
-        return Alone::open(alloc, site.with_device(device));
+        return Alone::open(alloc, site.with_device(plan));
     }
     match migrated(alloc, site) {
-        Ok(left) => Alone::open(alloc, left.with_device(device)),
-        Err((back, fault)) => Err((back.with_device(device), fault)),
+        Ok(left) => Alone::open(alloc, left.with_device(plan)),
+        Err((back, fault)) => Err((back.with_device(plan), fault)),
     }
 }
 

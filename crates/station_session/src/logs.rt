@@ -1,12 +1,10 @@
 //! What a run tells of the devices of its line.
-ghost use Rattle.std.specs.Prelude.{◌≡◌, ◌⊎◌, Some, None, IsTrue};
-ghost use Rattle.station_files.specs.Faults.{IsFaultless};
-ghost use Rattle.station_session.specs.RunFiles.{desk_of, opening_of, AreLogsReported, AreSlavesReported, IsAllReported, IsNoneReported, IsPartReported};
+ghost use Rattle.std.specs.Prelude.{◌≡◌, Some, None};
+ghost use Rattle.station_session.specs.RunFiles.{desk_of, opening_of, IsNoneReported};
 
-use script_session::{DeskLog, PartLog, UnservedLog};
+use script_session::{DeskLog, UnservedLog};
 use site_file::FileLog;
-use site_shadow::LinePart;
-use station_files::{ExitStatus, Failures, Fault};
+use station_files::ExitStatus;
 
 /// What a run tells of the calls on the files of its line.
 pub type FilesLog = RunLog<FileLog>;
@@ -76,72 +74,4 @@ impl<T> RunLog<T> {
 pub(crate) struct Served<T> {
     pub(crate) status: ExitStatus,
     pub(crate) reported: RunLog<T>,
-}
-
-/// The same, or `Unserved` where no fault is told and a log is missing.
-pub(crate) fn with_all_reported(served: Served<FileLog>, failures: &mut Failures) -> Served<FileLog>
-    ensures reported { result.reported ≡ served.reported }
-    ensures status { (result.status ≡ served.status) ⊎ (¬ IsFaultless result.status) }
-    ensures all { IsFaultless result.status → IsAllReported result.reported }
-{
-    let is_enough = match served.status {
-        ExitStatus::Done | ExitStatus::Refused => is_all_reported(&served.reported),
-        _ => true,
-    };
-    if is_enough {
-        return served;
-    }
-    let Served {
-        status: _,
-        reported,
-    } = served;
-    Served {
-        status: failures.note(Fault::Unserved),
-        reported,
-    }
-}
-
-/// Whether the logs of all devices are told, those of a desk's each of its own part.
-fn is_all_reported(reported: &FilesLog) -> bool
-    ensures { IsTrue result → IsAllReported reported.now }
-{
-    match (&reported.desk, &reported.after) {
-        (Some(desk), Some(after)) => after.calls.is_some() && are_logs_reported(desk),
-        _ => false,
-    }
-}
-
-/// Whether the logs of the devices at a desk are told, each of its own part.
-fn are_logs_reported(reported: &DeskLog<FileLog>) -> bool
-    ensures { IsTrue result → AreLogsReported reported.now }
-{
-    if !is_part_reported(&reported.disk.reported, LinePart::Disk) {
-        return false;
-    }
-    if !are_slaves_reported(reported.slaves.as_slice()) {
-        return false;
-    }
-    reported.line.reported.calls.is_some()
-}
-
-/// Whether the log of each slave's device is told.
-fn are_slaves_reported(reported: &[PartLog<FileLog>]) -> bool
-    ensures { IsTrue result → AreSlavesReported reported.now }
-{
-    for place in 0..reported.len() {
-        if !is_part_reported(&reported[place].reported, LinePart::Slave(place)) {
-            return false;
-        }
-    }
-    true
-}
-
-/// Whether the log of the device of this part is told.
-fn is_part_reported(reported: &FileLog, part: LinePart) -> bool
-    ensures { IsTrue result → IsPartReported part reported.now }
-{
-    if !reported.is_of(part) {
-        return false;
-    }
-    reported.calls.is_some()
 }

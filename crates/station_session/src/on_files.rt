@@ -3,7 +3,6 @@ ghost use Rattle.std.specs.Prelude.{◌≡◌, Bool, is_some, length, IfSome, Is
 ghost use Rattle.kept_files.specs.KeptFiles.{FilesOf};
 ghost use Rattle.site_shadow.specs.Line.{halves_of};
 ghost use Rattle.station_files.specs.Files.{ChangesAmong};
-ghost use Rattle.std.specs.Option.{option_map};
 ghost use Rattle.station_line.specs.Site.{files_of, HoldsSite};
 ghost use Rattle.station_session.specs.Session.{SavedSoundly};
 
@@ -27,8 +26,8 @@ pub(crate) struct Separate<F> {
     pub(crate) parts: Parts,
     /// Whether the files hold the parts: no call on a file has failed, and the site goes on.
     pub(crate) is_sound: bool,
-    /// The files, with all that was asked of them. None where their device had stood behind another site before.
-    pub(crate) files: Option<Finished<F>>,
+    /// The files, with all that was asked of them.
+    pub(crate) files: Finished<F>,
 }
 
 /// A site that was taken apart, whatever its device.
@@ -46,6 +45,7 @@ fn split<D: Device>(site: ShadowSite<D>) -> Parted<D>
     ensures has_disk { is_some result.parts.disk ≡ site.line.has_disk }
     ensures stopped { result.has_stopped ≡ site.seen.is_stopped }
     ensures device { D.follows result.device site.seen }
+    ensures fits { D.fits result.device site.line }
 {
     // Its contract says that there is a half for each slave.
     let _slaves = site.slaves();
@@ -66,7 +66,7 @@ pub(crate) fn take_apart<F: RandomAccessFile + Drop, T: Write, R: Clock>(
     ensures halves { halves_of result.parts.halves.items ≡ site.entry.seen.state.halves }
     ensures disk { IfSome result.parts.disk (λ bytes. bytes.items ≡ site.entry.seen.state.disk.bytes) }
     ensures has_disk { is_some result.parts.disk ≡ site.entry.line.has_disk }
-    ensures files { IfSome result.files (λ files. FilesOf files.log site.entry.seen result.is_sound) }
+    ensures files { FilesOf result.files.log site.entry.seen result.is_sound }
 {
     let Parted {
         parts,
@@ -86,8 +86,8 @@ pub(crate) fn take_apart<F: RandomAccessFile + Drop, T: Write, R: Clock>(
 #[derive(Drop)]
 pub(crate) struct Saved<F> {
     pub(crate) saved: Result<(), Fault>,
-    /// The files, with all that was asked of them. None where their device had stood behind another site before.
-    pub(crate) files: Option<Finished<F>>,
+    /// The files, with all that was asked of them.
+    pub(crate) files: Finished<F>,
 }
 
 /// Saves what a line on files holds: writes the bytes of the disk to the journal's file, and the words of each slave to its image file.
@@ -103,14 +103,14 @@ pub(crate) fn save_sound<S: Store, T: Write, R: Clock>(
     requires slaves { length site.line.sizes ≡ length line.now.images.items }
     ensures saved { OnOk result.saved (HoldsSite (S.files store.new) line.now site.entry.seen.state) }
     ensures others { ChangesAmong (S.files store.old) (S.files store.new) (files_of line.now) }
-    ensures files { SavedSoundly site.entry.seen result.saved (option_map (λ files. files.log) result.files) }
+    ensures files { SavedSoundly site.entry.seen result.saved result.files.log }
 {
     let Separate {
         parts,
         is_sound,
         files,
     } = take_apart(site);
-    if !is_sound || files.is_none() {
+    if !is_sound {
         drop(parts);
         return Saved {
             saved: Err(Fault::Stopped),

@@ -9,6 +9,7 @@ use crate::answers::AnswerStreams;
 use crate::on_files::{Saved, Separate, WatchedSite, save_sound, take_apart};
 use crate::watch::Watch;
 use line_watch::{Cleared, Watched};
+use site_core::Site;
 use site_file::{FileDevice, Finished};
 use station_alone::{Recovered, recover};
 use station_files::{ExitStatus, Failures, Fault, Store, worse};
@@ -85,6 +86,8 @@ fn recover_session<S: Store, W: Write, T: Write, R: Wait + Clock + AllocGlobal>(
     match open_files(rt.alloc(), &line, &site, store) {
         Ok(files) => {
             let device = Watched::new(FileDevice::new(files), progress, rt);
+            // Its contract says that there is one slave at least.
+            let _slaves = site.slaves();
             let site = site.with_device(device);
             let recovery = recover_site(
                 rt.alloc(),
@@ -128,7 +131,7 @@ fn recover_site<S: Store, W: Write, T: Write, R: Clock>(
             let saved = failures.note_end(saved);
             Recovery {
                 status: worse(saved, print_recovered(recovered, output, failures)),
-                files,
+                files: Some(files),
             }
         }
         Err((left, fault)) => {
@@ -136,7 +139,7 @@ fn recover_site<S: Store, W: Write, T: Write, R: Clock>(
             drop(parts);
             Recovery {
                 status: failures.note(of_open(fault)),
-                files,
+                files: Some(files),
             }
         }
     }

@@ -3,16 +3,17 @@ ghost use Rattle.std.specs.Prelude.{◌≡◌, is_some, false, IfErr, IfOk, IsTr
 ghost use Rattle.station_files.specs.Faults.{IsFaultless};
 ghost use Rattle.station_line.specs.Opened.{is_old, IsFresh};
 ghost use Rattle.station_line.specs.Refusals.{RefusesRun};
-ghost use Rattle.station_session.specs.RunFiles.{IsAllReported, IsNoneReported, KeepsRunFiles, RunKeepsFiles, RunsFollowed};
+ghost use Rattle.station_session.specs.RunFiles.{IsAllReported, IsNoneReported, KeepsRunFiles, RunKeepsFiles, RunsFollowed, TellsAll};
 ghost use Rattle.station_session.specs.Session.{EndsRun, RunsFiles};
 
 use crate::answers::AnswerStreams;
 use crate::fused::{Fuse, run_fused};
-use crate::logs::{FilesLog, RunLog, Served, with_all_reported};
+use crate::logs::{FilesLog, RunLog, Served};
 use crate::threads::run_threads;
 use crate::watch::Watch;
 use line_watch::{Cleared, Watched};
 use sii_edit::Command;
+use site_core::Site;
 use site_file::{FileDevice, FileLog, OpenFiles};
 use site_mem::FaultPlan;
 use site_shadow::{Lends, ShadowSite};
@@ -196,7 +197,6 @@ fn run_opened<S: Store, W: Write, T: Write + Send, R: Wait + Threads + Clock + A
         &mut Cleared::new(output, progress, rt),
         failures,
     );
-    let served = with_all_reported(served, failures);
     watch.erase();
     served
 }
@@ -212,8 +212,10 @@ fn run_site<D: Lends + Send, S: Store, W: Write, R: Wait + Threads + AllocGlobal
 ) -> Served<D::Logged>
     requires fresh { IsFresh line.now ready.site }
     requires old { ready.is_old ≡ is_old ready.site.seen.state.disk.bytes }
+    requires entire { D.is_complete ready.device }
     ensures ends { EndsRun false (S.files store.old) (S.files store.new) line.now ready.site ready.commands.items result.status }
     ensures goes { RunsFollowed D.follows D.well D.tells ready.site.seen ready.commands.items result.status result.reported }
+    ensures reported { IsFaultless result.status → TellsAll D.is_of result.reported }
 {
     let Ready {
         site,
@@ -221,6 +223,8 @@ fn run_site<D: Lends + Send, S: Store, W: Write, R: Wait + Threads + AllocGlobal
         is_old,
         commands,
     } = ready;
+    // Its contract says that there is one slave at least.
+    let _slaves = site.slaves();
     match open_station(rt.alloc(), site.with_device(device), is_old) {
         Ok(alone) => {
             let answers = AnswerStreams { output, failures };

@@ -1,10 +1,10 @@
 //! Runs commands by threads, on the files of a line.
-ghost use Rattle.std.specs.Prelude.{◌≡◌, [], false, length, Ok, OnOk, Some};
+ghost use Rattle.std.specs.Prelude.{◌≡◌, [], false, is_some, length, IsTrue, Ok, OnOk, Some};
 ghost use Rattle.station_files.specs.Faults.{IsFaultless};
 ghost use Rattle.station_files.specs.Files.{ChangesAmong};
 ghost use Rattle.station_line.specs.Site.{files_of, IsFollowed};
 ghost use Rattle.script_session.specs.Parts.{IsLineOf};
-ghost use Rattle.station_session.specs.RunFiles.{GoesAfter, OfDevices, ServesFollowedBy, TellsOf, line_reported};
+ghost use Rattle.station_session.specs.RunFiles.{GoesAfter, OfDevices, ServesFollowedBy, TellsAll, TellsOf, line_reported};
 ghost use Rattle.station_session.specs.Session.{EndsStation};
 ghost use Rattle.script_session.specs.Saving.{SavesAfter, SavesLeft};
 
@@ -40,6 +40,7 @@ pub(crate) fn run_threads<
     ensures ends { EndsStation false (S.files store.old) (S.files store.new) line.now alone commands.items result.status }
     ensures followed { IsFollowed (TellsOf D.follows D.tells (line_reported result.reported.desk result.reported.opening)) alone.seen }
     ensures serves { ServesFollowedBy D.follows D.well D.tells alone commands.items result.status result.reported }
+    ensures reported { IsFaultless result.status → TellsAll D.is_of result.reported }
 {
     let work = Work {
         commands,
@@ -75,6 +76,7 @@ fn end_threads<D: Lends, S: Store, W: Write>(
     ensures others { ChangesAmong (S.files store.old) (S.files store.new) (files_of line.now) }
     ensures saved { IsFaultless result.status → SavesLeft (S.files store.new) line.now left result.status }
     ensures desk { result.reported.desk ≡ Some left.reported }
+    ensures after { IsFaultless result.status → IsTrue (is_some result.reported.after) }
     ensures goes { left.ending.closed ≡ Ok tt → GoesAfter (OfDevices D.follows D.well D.tells result.reported) left.ending.is_driven left.sound
         left.unserved.items left.site.seen result.status }
 {
@@ -126,6 +128,7 @@ fn save_after<D: Lends, S: Store, W: Write>(
     ensures saved { IsFaultless result.status
         → SavesAfter (S.files store.new) line.now left.site.seen left.ending.is_driven left.unserved.items result.status }
     ensures desk { result.reported.desk ≡ Some left.reported }
+    ensures after { IsFaultless result.status → IsTrue (is_some result.reported.after) }
     ensures goes { GoesAfter (OfDevices D.follows D.well D.tells result.reported) left.ending.is_driven left.sound left.unserved.items left.site.seen
         result.status }
 {

@@ -15,7 +15,7 @@ use toml::{Table, Value};
 /// # Errors
 ///
 /// `Memory`; `Malformed` where the text is not TOML.
-pub fn read_document(alloc: Global, text: &str) -> Result<Table, ValueFault>
+pub(crate) fn read_document(alloc: Global, text: &str) -> Result<Table, ValueFault>
     ensures { Reads ValueFault.Memory table_view (λ document. parse_document text.now ≡ Some document) result }
 {
     match toml::table_from_str(alloc, text) {
@@ -33,21 +33,21 @@ fn is_known(known: &[&str], key: &str) -> bool
 }
 
 /// Whether a table has no other keys than the known ones.
-pub fn has_only(table: &Table, known: &[&str]) -> bool
+pub(crate) fn has_only(table: &Table, known: &[&str]) -> bool
     ensures { result ≡ has_only (map (λ one. one.now) known.now) (table_view table.now) }
 {
     table.keys().all(|key| is_known(known, key.as_str()))
 }
 
 /// The value at a key; `None` where the key is absent.
-pub fn find<'a>(table: &'a Table, key: &str) -> Option<&'a Value>
+pub(crate) fn find<'a>(table: &'a Table, key: &str) -> Option<&'a Value>
     ensures { option_map (λ value. view value.now) result ≡ get_member key.now (table_view table.now) }
 {
     table.get(key)
 }
 
 /// The text at a key; `None` where the key is absent or its value is not a text.
-pub fn find_text<'a>(table: &'a Table, key: &str) -> Option<&'a str>
+pub(crate) fn find_text<'a>(table: &'a Table, key: &str) -> Option<&'a str>
     ensures { option_map (λ text. text.now) result ≡ text_at key.now (table_view table.now) }
 {
     match find(table, key) {
@@ -57,7 +57,7 @@ pub fn find_text<'a>(table: &'a Table, key: &str) -> Option<&'a str>
 }
 
 /// The table at a key; `None` where the key is absent or its value is not a table.
-pub fn find_table<'a>(table: &'a Table, key: &str) -> Option<&'a Table>
+pub(crate) fn find_table<'a>(table: &'a Table, key: &str) -> Option<&'a Table>
     ensures { option_map (λ found. table_view found.now) result ≡ table_at key.now (table_view table.now) }
 {
     match find(table, key) {
@@ -67,7 +67,7 @@ pub fn find_table<'a>(table: &'a Table, key: &str) -> Option<&'a Table>
 }
 
 /// The values of an array, in order; `None` for any other value.
-pub fn values_of(value: &Value) -> Option<&[Value]>
+pub(crate) fn values_of(value: &Value) -> Option<&[Value]>
     ensures { option_map (λ values. map view values.now) result ≡ option_map values_of (as_array (view value.now)) }
 {
     match value.as_array() {
@@ -77,7 +77,7 @@ pub fn values_of(value: &Value) -> Option<&[Value]>
 }
 
 /// The values of the array at a key; `None` where the key is absent or its value is not an array.
-pub fn find_values<'a>(table: &'a Table, key: &str) -> Option<&'a [Value]>
+pub(crate) fn find_values<'a>(table: &'a Table, key: &str) -> Option<&'a [Value]>
     ensures { option_map (λ values. map view values.now) result ≡ values_at key.now (table_view table.now) }
 {
     match find(table, key) {
@@ -87,21 +87,21 @@ pub fn find_values<'a>(table: &'a Table, key: &str) -> Option<&'a [Value]>
 }
 
 /// An integer of 0 to 4294967295; `None` for any other value.
-pub fn read_wide_number(value: &Value) -> Option<u32>
+pub(crate) fn read_wide_number(value: &Value) -> Option<u32>
     ensures { Finds (IsNumberBelow 4294967296 (view value.now)) result }
 {
     u32::try_from(value.as_integer()?).ok()
 }
 
 /// An integer of 0 to 65535; `None` for any other value.
-pub fn read_number(value: &Value) -> Option<u16>
+pub(crate) fn read_number(value: &Value) -> Option<u16>
     ensures { Finds (IsNumberBelow 65536 (view value.now)) result }
 {
     u16::try_from(value.as_integer()?).ok()
 }
 
 /// The integer of 0 to 4294967295 at a key; `None` where the key is absent or has any other value.
-pub fn find_wide_number(table: &Table, key: &str) -> Option<u32>
+pub(crate) fn find_wide_number(table: &Table, key: &str) -> Option<u32>
     ensures { Finds (HasNumberBelow 4294967296 key.now (table_view table.now)) result }
 {
     match find(table, key) {
@@ -111,7 +111,7 @@ pub fn find_wide_number(table: &Table, key: &str) -> Option<u32>
 }
 
 /// The integer of 0 to 65535 at a key; `None` where the key is absent or has any other value.
-pub fn find_number(table: &Table, key: &str) -> Option<u16>
+pub(crate) fn find_number(table: &Table, key: &str) -> Option<u16>
     ensures { Finds (HasNumberBelow 65536 key.now (table_view table.now)) result }
 {
     match find(table, key) {

@@ -6,7 +6,7 @@ use std::alloc::{AllocError, AllocFailed};
 
 /// Why a text gives no document, or a value of one not what is read of it.
 #[derive(Clone, Copy)]
-pub enum ValueFault {
+pub(crate) enum ValueFault {
     /// Memory was refused.
     Memory,
     /// The text or the value has another form.

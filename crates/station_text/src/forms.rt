@@ -6,7 +6,7 @@ use toml::Value;
 
 /// What a value has to be.
 #[derive(Clone, Copy, Debug, Error)]
-pub enum Shape {
+pub(crate) enum Shape {
     #[error("a text")]
     Text,
     /// An integer, at least and at most these.
@@ -24,7 +24,7 @@ pub enum Shape {
 
 /// A key of a table, and what its value has to be.
 #[derive(Clone, Copy, Debug)]
-pub enum Field {
+pub(crate) enum Field {
     /// It must be there.
     Needed(&'static str, Shape),
     /// It may be left out.
@@ -33,27 +33,27 @@ pub enum Field {
 
 /// The keys of a table, in the order in which they are read. They are printed in words.
 #[derive(Clone, Copy, Debug)]
-pub struct Form(pub &'static [Field]);
+pub(crate) struct Form(pub &'static [Field]);
 
 const SMALL: Shape = Shape::Number(0, 65_535);
 
 const LARGE: Shape = Shape::Number(0, 4_294_967_295);
 
 /// A line file.
-pub const LINE: Form = Form(&[
+pub(crate) const LINE: Form = Form(&[
     Field::Needed("journal", Shape::Text),
     Field::Optional("area", Shape::Number(4_096, 4_194_304)),
     Field::Needed("slave", Shape::Array),
 ]);
 
 /// A slave of a line file.
-pub const SLAVE: Form = Form(&[Field::Needed("image", Shape::Text)]);
+pub(crate) const SLAVE: Form = Form(&[Field::Needed("image", Shape::Text)]);
 
 /// A script.
-pub const SCRIPT: Form = Form(&[Field::Needed("command", Shape::Array)]);
+pub(crate) const SCRIPT: Form = Form(&[Field::Needed("command", Shape::Array)]);
 
 /// A command of a script, which has one of these keys.
-pub const COMMAND: Form = Form(&[
+pub(crate) const COMMAND: Form = Form(&[
     Field::Optional("alias", Shape::Table),
     Field::Optional("swap", Shape::Pair),
     Field::Optional("category", Shape::Table),
@@ -62,14 +62,14 @@ pub const COMMAND: Form = Form(&[
 ]);
 
 /// The kinds of an edit of a group, of which it has one.
-pub const EDIT_KINDS: Form = Form(&[
+pub(crate) const EDIT_KINDS: Form = Form(&[
     Field::Optional("alias", Shape::Table),
     Field::Optional("category", Shape::Table),
     Field::Optional("image", Shape::Table),
 ]);
 
 /// An edit of a group.
-pub const EDIT: Form = Form(&[
+pub(crate) const EDIT: Form = Form(&[
     Field::Optional("alias", Shape::Table),
     Field::Optional("category", Shape::Table),
     Field::Optional("image", Shape::Table),
@@ -77,14 +77,14 @@ pub const EDIT: Form = Form(&[
 ]);
 
 /// The identity that an edit expects.
-pub const EXPECT: Form = Form(&[
+pub(crate) const EXPECT: Form = Form(&[
     Field::Needed("vendor", LARGE),
     Field::Needed("product", LARGE),
     Field::Needed("revision", LARGE),
 ]);
 
 /// What stands at the key of each kind of edit.
-pub const EDITS: &[(&str, Form)] = &[
+pub(crate) const EDITS: &[(&str, Form)] = &[
     (
         "alias",
         Form(&[Field::Needed("slave", SMALL), Field::Needed("value", SMALL)]),

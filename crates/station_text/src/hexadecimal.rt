@@ -59,7 +59,7 @@ fn digits_of(alloc: Global, text: &str) -> Result<Vec<u8>, AllocError>
 /// # Errors
 ///
 /// `BadHex` where the text is not pairs of hexadecimal digits, or has an odd number of bytes; `Memory` at any point.
-pub fn read_hex_words(alloc: Global, text: &str) -> Result<Vec<u16>, HexFault>
+pub(crate) fn read_hex_words(alloc: Global, text: &str) -> Result<Vec<u16>, HexFault>
     ensures { Reads HexFault.Memory (λ words. words.items) (λ words. decode_of text.now ≡ Ok (bytes_of words)) result }
 {
     let bytes = decode_digits(alloc, text.as_bytes())?;

@@ -69,7 +69,7 @@ pub struct ScriptGroupEdit {
 /// # Errors
 ///
 /// `Malformed` where the value is not a table of this form; `Memory` at any point.
-pub fn read_command(alloc: Global, value: &Value) -> Result<ScriptCommand, ValueFault>
+pub(crate) fn read_command(alloc: Global, value: &Value) -> Result<ScriptCommand, ValueFault>
     ensures { Reads ValueFault.Memory (λ command. command) (SpellsCommand (view value.now)) result }
 {
     match value.as_table() {

@@ -41,7 +41,8 @@ use Rattle.script_session.proofs.SavingLaws.{keeps_reported}
 use Rattle.script_session.proofs.SlaveLaws.{placed-at}
 use Rattle.wire_session.specs.declared.logs.LineLog.{LineLog}
 use Rattle.wire_session.specs.Interleaving.{Interleaves}
-use Rattle.wire_session.specs.Slaves.{AreOfParts, EndsReported, SlavesHold, all_sent, sent_at_desk}
+use Rattle.script_session.specs.Parts.{IsReportedOfParts}
+use Rattle.wire_session.specs.Slaves.{EndsReported, SlavesHold, all_sent, sent_at_desk}
 use Rattle.wire_session.proofs.Interleaved.{Misses, OthersMiss, lives_joined, own_part}
 
 -- PLACES
@@ -258,7 +259,7 @@ module _ {L F C : Type 0} where
         (goes_thrice slave first mid back.0 half (exchanges reported.desk.line.reported.sent) (exchanges work.part.reported.sent) (exchanges reported.after.sent) one two three)
 
     -- no device of another part has sent to a slave
-    module _ (own : AreOfParts (λ (part : LinePart) (one : WireLog). one.journal.part ≡ Some part) reported.desk) (slave : ℕ) where
+    module _ (own : IsReportedOfParts (λ (part : LinePart) (one : WireLog). one.journal.part ≡ Some part) reported.desk) (slave : ℕ) where
       disk_misses : Misses (station slave) (exchanges reported.desk.disk.reported.sent)
       disk_misses =
           let sent = subst (λ (p : Option LinePart). AreFor p (exchanges reported.desk.disk.reported.sent)) own.disk
@@ -300,7 +301,7 @@ module _ {L F C : Type 0} where
           both.after)
 
     -- each slave that was found with these words holds the contents
-    pub slaves_hold : AreOfParts (λ (part : LinePart) (one : WireLog). one.journal.part ≡ Some part) reported.desk → (plant : List (List ℕ)) (bytes : List ℕ) → site.seen ≡ switched_on plant bytes → site.line.sizes ≡ map length plant → slaves ≡ length plant
+    pub slaves_hold : IsReportedOfParts (λ (part : LinePart) (one : WireLog). one.journal.part ≡ Some part) reported.desk → (plant : List (List ℕ)) (bytes : List ℕ) → site.seen ≡ switched_on plant bytes → site.line.sizes ≡ map length plant → slaves ≡ length plant
         → HasRecovered s → SlavesHold plant s reported
     slaves_hold own plant bytes found sizes count recovered slave words here =
         let within : slave < length plant = slice_get_within plant slave words here in

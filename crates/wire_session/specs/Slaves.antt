@@ -5,8 +5,6 @@ use Rattle.esc_model.specs.Orders.{station}
 use Rattle.site_core.specs.State.{Seen}
 use Rattle.site_core.specs.Times.{Follows}
 use Rattle.site_shadow.specs.Site.{SiteValue}
-use Rattle.site_shadow.specs.declared.lending.LinePart.{LinePart}
-use Rattle.site_shadow.specs.declared.lending.LinePart.TheVariants as part
 use Rattle.site_wire.specs.Likeness.{IsLike}
 use Rattle.site_wire.specs.Sent.{Exchanged, exchanges}
 use Rattle.site_wire.specs.RealSlaves.{Lives}
@@ -25,15 +23,6 @@ use Rattle.wire_session.specs.declared.logs.LineLog.{LineLog}
 use Rattle.wire_session.specs.Interleaving.{Interleaves}
 
 -- THE DEVICES
-
--- This is told of devices of the slaves' parts, each of its own.
-abbrev pub AreOfSlaves : {T : Type 0} → (of : LinePart → T → Type 0) → List (PartLog T) → Type 0
-AreOfSlaves {T} of parts = (slave : ℕ) (reported : PartLog T) → slice_get parts slave ≡ Some reported → of (part.Slave slave) reported.reported
-
--- The same of the disk's device too.
-pub record AreOfParts {T : Type 0} (of : LinePart → T → Type 0) (reported : DeskLog T) : Type 0 where
-  pub disk : of part.Disk reported.disk.reported
-  pub slaves : AreOfSlaves of reported.slaves.items
 
 -- The line of this station was served at a desk, and calls alone led on behind it; this is told of the devices of the station's site before the desk
 -- and of each part there, which ended soundly.

@@ -1,11 +1,8 @@
 //! What is told of the devices of a line on a wire.
-ghost use Rattle.std.specs.Prelude.{◌≡◌, Err, None, IsTrue};
+ghost use Rattle.std.specs.Prelude.{◌≡◌, Err, None};
 ghost use Rattle.wire_faults.specs.declared.faults.WireFault.TheVariants as wire;
-ghost use Rattle.wire_session.specs.Slaves.{AreOfParts, AreOfSlaves};
 
-use script_session::{DeskLog, PartLog};
-use site_shadow::LinePart;
-use site_wire::TellsPart;
+use script_session::DeskLog;
 use station_files::Fault;
 use wire_faults::WireFault;
 
@@ -16,26 +13,6 @@ pub struct LineLog<T> {
     pub desk: DeskLog<T>,
     /// Of the line's device behind the desk.
     pub after: T,
-}
-
-/// Whether this is told of the devices of the disk's part and of each slave's, each of its own.
-pub(crate) fn are_of_parts<D: TellsPart>(reported: &DeskLog<D::Logged>) -> bool
-    ensures { IsTrue result → AreOfParts D.is_of reported.now }
-{
-    D::is_reported_of(&reported.disk.reported, LinePart::Disk)
-        && are_of_slaves::<D>(reported.slaves.as_slice())
-}
-
-/// Whether this is told of the devices of the slaves' parts, each of its own.
-fn are_of_slaves<D: TellsPart>(parts: &[PartLog<D::Logged>]) -> bool
-    ensures { IsTrue result → AreOfSlaves D.is_of parts.now }
-{
-    for slave in 0..parts.len() {
-        if !D::is_reported_of(&parts[slave].reported, LinePart::Slave(slave)) {
-            return false;
-        }
-    }
-    true
 }
 
 /// How the work on a line ended, and what is told of its devices.

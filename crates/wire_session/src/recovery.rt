@@ -5,8 +5,9 @@ ghost use Rattle.station_files.specs.Files.{ChangesAmong};
 ghost use Rattle.station_line.specs.Site.{files_of, switched_on, HoldsSite};
 ghost use Rattle.wire_session.specs.Ending.{LeavesImages};
 ghost use Rattle.wire_session.specs.Recovery.{EndsRecovery, Recovers};
+ghost use Rattle.script_session.specs.Parts.{IsReportedOfParts};
 ghost use Rattle.script_session.specs.Saving.{IsReportedLine};
-ghost use Rattle.wire_session.specs.Slaves.{AreOfParts, EndsReported, SlavesHold};
+ghost use Rattle.wire_session.specs.Slaves.{EndsReported, SlavesHold};
 ghost use Rattle.wire_session.specs.Reporting.{IsPrinted};
 
 use crate::as_found::AsFound;
@@ -18,7 +19,7 @@ use script_session::save_reported;
 use sii_words::Plant;
 use site_file::FileDevice;
 use site_shadow::{Lends, ShadowSite};
-use site_wire::{LiveLine, LockedLine, TellsPart, WireDevice, WireLog};
+use site_wire::{LiveLine, LockedLine, WireDevice, WireLog};
 use station_alone::Recovered;
 use station_files::{Fault, Store};
 use station_line::{site_of, write_recovered};
@@ -159,7 +160,7 @@ fn recover_opened<
 
 /// Recovers a line, and saves what its slaves hold to their image files. `Unserved` where something has failed that the device was asked, though
 /// the recovery was told of nothing.
-fn recover_site<R: Wait + Threads + AllocGlobal + Sync, D: TellsPart + Send, S: Store, O: Write>(
+fn recover_site<R: Wait + Threads + AllocGlobal + Sync, D: Lends + Send, S: Store, O: Write>(
     rt: &R,
     line: &LineFile,
     site: ShadowSite<D>,
@@ -168,7 +169,7 @@ fn recover_site<R: Wait + Threads + AllocGlobal + Sync, D: TellsPart + Send, S: 
 ) -> Worked<(), D::Logged>
     requires disk { IsTrue site.line.has_disk }
     requires owned { OwnsAll site.line }
-    ensures own { IfSome result.reported (λ reported. AreOfParts D.is_of reported.desk) }
+    ensures own { IfSome result.reported (λ reported. IsReportedOfParts D.is_of reported.desk) }
     ensures recovers { EndsRecovery
         (λ s. IsSomeAnd result.reported (λ reported. EndsReported D.follows D.well D.tells site (length line.now.images.items) reported s.seen))
         result.ended (S.files store.old) (S.files store.new) line.now site.seen }

@@ -2,16 +2,14 @@
 ghost use Rattle.std.specs.Prelude.{◌≡◌, ◌+◌, IfOk, IsTrue};
 ghost use Rattle.esc_rom.specs.Owned.{OwnsAll};
 ghost use Rattle.station_alone.specs.Recovery.{BeginsRecovered, HasRecovered};
-ghost use Rattle.script_session.specs.Parts.{IsLineOf};
+ghost use Rattle.script_session.specs.Parts.{IsLineOf, IsReportedOfParts};
 ghost use Rattle.script_session.specs.Redoing.{IsOpenedHere};
 ghost use Rattle.site_core.specs.Times.{Follows};
-ghost use Rattle.wire_session.specs.Slaves.{AreOfParts, LedAfterDesk, LedThroughout};
+ghost use Rattle.wire_session.specs.Slaves.{LedAfterDesk, LedThroughout};
 ghost use Rattle.wire_session.specs.Redoing.{BeginsAgain, CountsAll, RecoversAfter, RecoversByThreads, RedoesOpened};
 
-use crate::logs::are_of_parts;
 use script_session::{DeskLog, Redone, redo_by_threads};
-use site_shadow::{Device, ShadowSite};
-use site_wire::TellsPart;
+use site_shadow::{Device, Lends, ShadowSite};
 use station_alone::{Alone, Found, Recovered, recover};
 use station_files::Fault;
 use station_line::of_open;
@@ -36,8 +34,8 @@ pub(crate) struct ByThreads<A, T> {
 ///
 /// # Errors
 ///
-/// As for `Alone::open_counted`, `redo_by_threads` and `recover`; `Unserved` where a part's device isn't told as its own. The site is dropped.
-pub(crate) fn recover_by_threads<R: Wait + Threads + AllocGlobal + Sync, D: TellsPart + Send>(
+/// As for `Alone::open_counted`, `redo_by_threads` and `recover`. The site is dropped.
+pub(crate) fn recover_by_threads<R: Wait + Threads + AllocGlobal + Sync, D: Lends + Send>(
     rt: &R,
     site: ShadowSite<D>,
     slaves: usize,
@@ -49,7 +47,7 @@ pub(crate) fn recover_by_threads<R: Wait + Threads + AllocGlobal + Sync, D: Tell
     ensures begins { IfOk result (λ r. BeginsRecovered site.seen r.alone) }
     ensures counts { IfOk result (λ r. RecoversByThreads site r.recovered r.alone) }
     ensures reported { IfOk result (λ r. LedThroughout D.follows D.well D.tells r.reported site r.alone.seen) }
-    ensures own { IfOk result (λ r. AreOfParts D.is_of r.reported) }
+    ensures own { IfOk result (λ r. IsReportedOfParts D.is_of r.reported) }
 {
     match Alone::open_counted(rt.alloc(), site) {
         Ok((alone, found)) => redo_opened(rt, alone, found, slaves),
@@ -61,7 +59,7 @@ pub(crate) fn recover_by_threads<R: Wait + Threads + AllocGlobal + Sync, D: Tell
 }
 
 /// Has threads redo what is live in the journal of this station, in which the open found this much, and recovers the line after them.
-fn redo_opened<R: Wait + Threads + AllocGlobal + Sync, D: TellsPart + Send>(
+fn redo_opened<R: Wait + Threads + AllocGlobal + Sync, D: Lends + Send>(
     rt: &R,
     alone: Alone<ShadowSite<D>>,
     found: Found,
@@ -73,13 +71,9 @@ fn redo_opened<R: Wait + Threads + AllocGlobal + Sync, D: TellsPart + Send>(
     ensures begins { IfOk result (λ r. BeginsAgain alone r.alone) }
     ensures counts { IfOk result (λ r. RedoesOpened alone found r.recovered r.alone) }
     ensures reported { IfOk result (λ r. LedAfterDesk D.follows D.well D.tells r.reported alone r.alone.seen) }
-    ensures own { IfOk result (λ r. AreOfParts D.is_of r.reported) }
+    ensures own { IfOk result (λ r. IsReportedOfParts D.is_of r.reported) }
 {
     let redone = redo_by_threads(rt, rt.alloc(), alone, slaves)?;
-    if !are_of_parts::<D>(&redone.reported) {
-        drop(redone);
-        return Err(Fault::Unserved);
-    }
     recover_after(rt.alloc(), redone, found)
 }
 

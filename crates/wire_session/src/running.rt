@@ -3,13 +3,14 @@ ghost use Rattle.std.specs.Prelude.{◌≡◌, ◌≤◌, ◌∷◌, ◌++◌, [
 ghost use Rattle.esc_rom.specs.Owned.{OwnsAll};
 ghost use Rattle.station_files.specs.FileNames.{files_with, written_of};
 ghost use Rattle.station_files.specs.Locations.{AreSeparate};
+ghost use Rattle.script_session.specs.Parts.{IsReportedOfParts};
 ghost use Rattle.station_files.specs.ScriptFiles.{SpellsCommands};
 ghost use Rattle.station_line.specs.Validating.{HasJournal, IsRunSeparate};
 ghost use Rattle.station_line.specs.Opened.{is_old};
 ghost use Rattle.wire_scan.specs.Opening.{IsFound};
 ghost use Rattle.wire_session.specs.Ending.{Ends};
 ghost use Rattle.wire_session.specs.Running.{EndsFound, RunsScript, SavesSite};
-ghost use Rattle.wire_session.specs.Slaves.{AreOfParts, EndsReported};
+ghost use Rattle.wire_session.specs.Slaves.{EndsReported};
 
 use crate::as_found::AsFound;
 use crate::logs::Worked;
@@ -20,8 +21,8 @@ use script_session::Work;
 use sii_edit::Command;
 use sii_words::Plant;
 use site_file::FileDevice;
-use site_shadow::ShadowSite;
-use site_wire::{LiveLine, LockedLine, TellsPart, WireDevice, WireLog};
+use site_shadow::{Lends, ShadowSite};
+use site_wire::{LiveLine, LockedLine, WireDevice, WireLog};
 use station_files::{ExitStatus, Fault, Store, load_script};
 use station_line::{is_old, of_open, open_station, site_of};
 use station_text::LineFile;
@@ -255,7 +256,7 @@ fn run_opened<
 }
 
 /// Opens the station on this line, and serves the commands by threads.
-fn run_site<R: Wait + Threads + AllocGlobal + Sync, D: TellsPart + Send, S: Store, O: Write>(
+fn run_site<R: Wait + Threads + AllocGlobal + Sync, D: Lends + Send, S: Store, O: Write>(
     rt: &R,
     line: &LineFile,
     start: Start<ShadowSite<D>>,
@@ -266,7 +267,7 @@ fn run_site<R: Wait + Threads + AllocGlobal + Sync, D: TellsPart + Send, S: Stor
     requires disk { IsTrue start.site.line.has_disk }
     requires owned { OwnsAll start.site.line }
     requires old { start.was_old ≡ is_old start.site.seen.state.disk.bytes }
-    ensures own { IfSome result.reported (λ reported. AreOfParts D.is_of reported.desk) }
+    ensures own { IfSome result.reported (λ reported. IsReportedOfParts D.is_of reported.desk) }
     ensures ends { Ends (SavesSite (λ last. IsSomeAnd result.reported (λ reported.
         EndsReported D.follows D.well D.tells start.site (length line.now.images.items) reported last)) (S.files store.new) line.now
         start.site work.commands.items) result.ended (S.files store.old) (S.files store.new) line.now }

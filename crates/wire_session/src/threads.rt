@@ -1,16 +1,15 @@
 //! Serves the commands of a run by threads, and saves what the slaves hold.
 ghost use Rattle.std.specs.Prelude.{◌≡◌, [], length, IfSome, IsSomeAnd, IsTrue, Ok, OnOk};
-ghost use Rattle.script_session.specs.Parts.{IsLineOf};
+ghost use Rattle.script_session.specs.Parts.{IsLineOf, IsReportedOfParts};
 ghost use Rattle.script_session.specs.After.{LedOn, SavesFollowed};
 ghost use Rattle.script_session.specs.Saving.{SavesLeft};
 ghost use Rattle.wire_session.specs.Ending.{Ends};
 ghost use Rattle.wire_session.specs.Running.{SavesDesk};
-ghost use Rattle.wire_session.specs.Slaves.{AreOfParts, LedAtDesk};
+ghost use Rattle.wire_session.specs.Slaves.{LedAtDesk};
 
-use crate::logs::{LineLog, Worked, are_of_parts};
+use crate::logs::{LineLog, Worked};
 use script_session::{DeskLeft, Ending, Left, Task, Work, end_line, serve_task};
 use site_shadow::{Lends, ShadowSite};
-use site_wire::TellsPart;
 use station_alone::Alone;
 use station_files::{ExitStatus, Fault, Store, worse};
 use station_text::LineFile;
@@ -21,10 +20,10 @@ use std::thread::Threads;
 use wire_faults::WireFault;
 
 /// Serves the commands by threads, recovers the line so that nothing is live, and saves what its slaves hold. Where no thread can be made,
-/// the commands are served on this one. `Unserved` where a part's device isn't told as its own. The station must not have accepted a command yet.
+/// the commands are served on this one. The station must not have accepted a command yet.
 pub(crate) fn run_threads<
     R: Wait + Threads + AllocGlobal + Sync,
-    D: TellsPart + Send,
+    D: Lends + Send,
     S: Store,
     O: Write,
 >(
@@ -36,7 +35,7 @@ pub(crate) fn run_threads<
     output: &mut O,
 ) -> Worked<ExitStatus, D::Logged>
     requires none { alone.book.accepted ≡ [] }
-    ensures own { IfSome result.reported (λ reported. AreOfParts D.is_of reported.desk) }
+    ensures own { IfSome result.reported (λ reported. IsReportedOfParts D.is_of reported.desk) }
     ensures ends { Ends (SavesDesk (λ last. IsSomeAnd result.reported (λ reported.
         LedAtDesk D.follows D.well D.tells (length line.now.images.items) alone reported last)) (S.files store.new) line.now alone work.commands.items)
         result.ended (S.files store.old) (S.files store.new) line.now }
@@ -45,10 +44,6 @@ pub(crate) fn run_threads<
     let task = Task { work, turns: false };
     match serve_task(rt, rt.alloc(), alone, line.images.len(), task, output) {
         Ok(left) => {
-            if !are_of_parts::<D>(&left.reported) {
-                drop(left);
-                return Worked::of_fault(Fault::Unserved);
-            }
             let (ended, reported) = end_threads(rt.alloc(), line, left, store, output);
             Worked {
                 ended,

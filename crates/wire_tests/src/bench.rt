@@ -1,6 +1,6 @@
 //! Lines on a wire in memory, and what is done with them.
 ghost use Rattle.std.specs.Prelude.{IfSome};
-ghost use Rattle.site_shadow.specs.Parts.{AreComplete};
+ghost use Rattle.site_shadow.specs.Parts.{AreOfLine};
 
 use ecat_frame::{Command, Frame, fp};
 use esc_model::{RomHalf, station_address};
@@ -253,7 +253,7 @@ fn parts_of(alloc: Global, plant: Vec<Words>) -> Option<Parts> {
     }
     Some(Parts {
         sizes,
-        disk: None,
+        disk: Some(Vec::new(alloc)),
         halves,
         process: None,
     })
@@ -265,12 +265,12 @@ pub(crate) fn brought_up<W: Wire>(
     bench: &Bench,
     wire: &mut NumberedWire<W>,
 ) -> Option<(Parts, [SlaveState; 64])>
-    ensures { IfSome result (λ found. AreComplete found.0) }
+    ensures { IfSome result (λ found. AreOfLine found.0) }
 {
     let line = bring_up(alloc, wire, &bench.clock, &Sizes::unknown()).ok()?;
     let states = line.states();
     let parts = parts_of(alloc, line.into_words(alloc).ok()?)?;
-    if !parts.is_complete() {
+    if !parts.are_of_line() {
         return None;
     }
     Some((parts, states))
@@ -354,7 +354,7 @@ pub(crate) fn work_on<W: Wire>(
     parts: Parts,
     act: &Act<'_>,
 ) -> (NumberedWire<W>, Outcome)
-    requires { AreComplete parts }
+    requires { AreOfLine parts }
 {
     let files = OpenFiles {
         journal: NoFile,

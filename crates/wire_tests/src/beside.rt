@@ -1,5 +1,5 @@
 //! A station beside a master that lends its wire, with all that a master may do with messages, and slaves as a master leaves them.
-ghost use Rattle.site_shadow.specs.Parts.{AreComplete};
+ghost use Rattle.site_shadow.specs.Parts.{AreOfLine};
 
 use crate::bench::{BLANK, Bench, Slave, WRITE_NEW, brought_up, has_so_many, line_of, work_on};
 use crate::bringing_up::{Finding, Findings, finds};
@@ -250,7 +250,7 @@ fn handed_back<'f>(
     wire: NumberedWire<Master<'f>>,
     found: (Parts, [SlaveState; 64]),
 ) -> (NumberedWire<Master<'f>>, Written)
-    requires { AreComplete found.0 }
+    requires { AreOfLine found.0 }
 {
     let (parts, states) = found;
     let (mut wire, outcome) = work_on(alloc, bench, wire, parts, &WRITE_NEW);

@@ -115,7 +115,7 @@ pub fn set_alias(image: &mut [u8], alias: u16) -> Result<(), Refused> {
     outcome(code, ())
 }
 
-/// Checks an image.
+/// Judges an image.
 pub fn judge(image: &[u8]) -> Result<(), Refused> {
     let mut detail = 0;
     // SAFETY: as above.
@@ -153,7 +153,7 @@ impl Access {
         access
     }
 
-    /// Says what is to be done next, or how the access ended. At `Progress::Send` the datagram is the one to be sent.
+    /// Tells what is to be done next, or how the access ended. At `Progress::Send` the datagram is the one to be sent.
     pub fn next(&self, datagram: &mut Datagram) -> Progress {
         unsafe { raw::pz_next(self, datagram) }.into()
     }

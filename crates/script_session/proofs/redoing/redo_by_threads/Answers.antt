@@ -13,6 +13,7 @@ use Rattle.script_session.specs.Redoing.{IsCount, issues_of}
 use Rattle.script_session.proofs.DeskLaws.{as-many-ends}
 use Rattle.script_session.proofs.RedoLaws.{redone}
 use Rattle.script_session.proofs.SoundLaws.{followed_ends, on_ok}
+use Rattle.script_session.proofs.ReportedLaws.{reported_of_parts}
 use Rattle.script_session.proofs.redoing.redo_by_threads.Goals as goal
 
 pub redo_at_desk-requires-clause-opening : goal.redo_at_desk-requires-clause-opening
@@ -62,6 +63,11 @@ returns-in-Ok-sound-clause-reported g c =
       devices = subst (λ (s : Seen). IsDeskReported follows well g.D.Lends.tells s put.result.1 ends) parts.ensures.seen (put.ensures.reported parts.result.1.seen c.in-Ok.ensures.reported);
       sound = (subst (λ (r : Result (Unit {0}) Fault). OnOk r (AreSound put.result.1 × IsTrue c.disk_is_synced-is_synced.result)) c.in-Ok-sound.is sound.ensures).0;
     }
+
+pub returns-in-Ok-sound-clause-own : goal.returns-in-Ok-sound-clause-own
+returns-in-Ok-sound-clause-own g c =
+    reported_of_parts g.D.Lends.is_of c.put_together-put.result.1 c.in-Ok.prepared.sites c.in_ok-ends.ends c.in-Ok.ensures.sites.parts
+    c.in_ok-ends.ensures.of_sites c.put_together-put.ensures.own
 
 pub put_together-put-requires-clause-reserved : goal.put_together-put-requires-clause-reserved
 put_together-put-requires-clause-reserved g c =

@@ -8,4 +8,5 @@ invariant-loop-site g l = record {
   over : l.yielded ++ into_iter_items l.site-iterator ≡ into_iter_items l.initial.site-iterator;
   lent : l.lent.items ≡ l.yielded;
   reserved : vec_capacity l.lent ≡ vec_capacity l.fn.room;
+  entire : g.D.Lends.is_complete l.entire;
 }

@@ -4,21 +4,40 @@ use Rattle.script_session.proofs.threads.prepare.Goals as goal
 pub returns-in-Ok-clause-sites : goal.returns-in-Ok-clause-sites
 returns-in-Ok-clause-sites g c =
     let parts = c.into_parts-parts in
-    same_servable c.args.capacity c.args.site.seen.state c.in-Ok.field-0.sites c.lent_sites-sites.result c.lent_sites-sites.ensures
+    same_servable c.args.capacity c.args.site.seen.state c.in-Ok.field-0.sites c.lent_sites-sites.result c.lent_sites-sites.ensures.same
     (c.in-Ok.ensures.sites c.args.site.seen.state parts.ensures.disk parts.ensures.halves)
 
 pub returns-in-Ok-clause-reported : goal.returns-in-Ok-clause-reported
 returns-in-Ok-clause-reported g c =
     let parts = c.into_parts-parts in
-    (parts.result.1, c.reported_by-reported.ensures c.args.site.seen parts.ensures.device c.has_stopped-has_stopped.ensures)
+    (parts.result.1, c.reported_by-reported.ensures.telling c.args.site.line c.args.site.seen parts.ensures.fits parts.ensures.device c.has_stopped-has_stopped.ensures)
+
+pub lent_sites-sites-requires-clause-entire : goal.lent_sites-sites-requires-clause-entire
+lent_sites-sites-requires-clause-entire g c =
+    c.reported_by-reported.ensures.entire c.args.site.line c.into_parts-parts.ensures.fits (c.is_complete-is_line.ensures c.if-not-is_line.false)
+
+pub lent_sites-sites-requires-clause-parts : goal.lent_sites-sites-requires-clause-parts
+lent_sites-sites-requires-clause-parts g c = (c.in-Ok.ensures.sites c.args.site.seen.state c.into_parts-parts.ensures.disk c.into_parts-parts.ensures.halves).parts
+
+pub returns-then-not-is_line-clause-failed : goal.returns-then-not-is_line-clause-failed
+returns-then-not-is_line-clause-failed g c =
+    let parts = c.into_parts-parts in
+    record {
+      part = c.reported_by-reported.result;
+      line = c.unbegun.ensures;
+      tells_it = (parts.result.1, c.reported_by-reported.ensures.telling c.args.site.line c.args.site.seen parts.ensures.fits parts.ensures.device c.has_stopped-has_stopped.ensures);
+    }
+
+pub returns-then-not-is_line-clause-followed : goal.returns-then-not-is_line-clause-followed
+returns-then-not-is_line-clause-followed g c = (c.into_parts-parts.result.1, c.into_parts-parts.ensures.device)
 
 pub returns-in-Err-clause-failed : goal.returns-in-Err-clause-failed
 returns-in-Err-clause-failed g c =
     let parts = c.into_parts-parts in
     record {
       part = c.reported_by-reported.result;
-      line = c.unbegun.ensures;
-      tells_it = (parts.result.1, c.reported_by-reported.ensures c.args.site.seen parts.ensures.device c.has_stopped-has_stopped.ensures);
+      line = c.unbegun-in-Err.ensures;
+      tells_it = (parts.result.1, c.reported_by-reported.ensures.telling c.args.site.line c.args.site.seen parts.ensures.fits parts.ensures.device c.has_stopped-has_stopped.ensures);
     }
 
 pub returns-in-Ok-clause-followed : goal.returns-in-Ok-clause-followed

@@ -7,6 +7,7 @@ use Rattle.script_session.specs.AtDesk.{IsUnservedReported}
 use Rattle.script_session.specs.Parts.{IsSeparate, Sites}
 use Rattle.script_session.proofs.SeparateLaws.{separate_reported}
 use Rattle.script_session.proofs.DeskLaws.{as-many-ends, ends-separate, line-reported, served-at-desk, serves-parts}
+use Rattle.script_session.proofs.ReportedLaws.{left_of_parts}
 use Rattle.script_session.proofs.threads.serve_task.Goals as goal
 
 pub serve_at_desk-requires-clause-opening : goal.serve_at_desk-requires-clause-opening
@@ -44,6 +45,11 @@ returns-in-Ok-serve_at_desk-clause-failed g c =
     ends-separate c.args.alone c.args.task.work.commands.items c.of-opening.result.core parts.result.1.seen c.in-Ok.prepared.sites desk.at
     (c.of-opening.ensures.core ∙ parts.ensures.book) parts.ensures.seen c.in-Ok.ensures.sites.separate desk.ensures.served.of_sites desk.ensures.served.ending
     g.D.Device.follows g.D.Device.well g.D.Lends.tells c.in-Ok.prepared.entire.reported c.put_back.result c.in-Ok.ensures.reported c.put_back.ensures.failed
+
+pub returns-in-Ok-serve_at_desk-clause-own : goal.returns-in-Ok-serve_at_desk-clause-own
+returns-in-Ok-serve_at_desk-clause-own g c =
+    left_of_parts g.D.Lends.is_of c.put_back.result c.in-Ok.prepared.sites c.in-Ok-serve_at_desk.at.ends c.in-Ok.ensures.sites.parts
+    c.in-Ok-serve_at_desk.ensures.served.of_sites c.put_back.ensures.own
 
 pub put_back-requires-clause-reserved : goal.put_back-requires-clause-reserved
 put_back-requires-clause-reserved g c =

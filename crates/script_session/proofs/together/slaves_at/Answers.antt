@@ -10,10 +10,11 @@ use Rattle.script_session.proofs.together.slaves_at.Goals as goal
 pub loop-end-init : goal.loop-end-init
 loop-end-init g c = record {
   over = refl;
-  left = room-left g.D.Device.follows g.D.Device.well g.D.Lends.tells c.args.room c.requires.room;
+  left = room-left g.D.Device.follows g.D.Device.well g.D.Lends.tells g.D.Lends.is_of c.args.room c.requires.room;
   followed = tt;
   count = ap length c.requires.room.1;
   reserved = refl;
+  entire = λ is. is;
 }
 
 pub with_slave-left-requires : goal.with_slave-left-requires
@@ -35,4 +36,5 @@ loop-end-preserved g c =
       followed = all_more (IsWorkFollowed g.D.Device.follows) at.yielded end at.invariant.followed c.with_slave-left.ensures.followed;
       count = (let more = length-append at.yielded (end ∷ []) in omega (arith, more, c.with_slave-left.ensures.count, at.invariant.count));
       reserved = c.with_slave-left.ensures.reserved ∙ at.invariant.reserved;
+      entire = λ is. c.with_slave-left.ensures.entire (at.invariant.entire is);
     }

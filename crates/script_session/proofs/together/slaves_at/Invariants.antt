@@ -8,8 +8,9 @@ use Rattle.script_session.proofs.together.slaves_at.Given as goal
 abbrev pub invariant-loop-end : goal.invariant-loop-end
 invariant-loop-end g l = record {
   over : l.yielded ++ into_iter_items l.end-iterator ≡ into_iter_items l.initial.end-iterator;
-  left : AreLeftBy g.D.Device.follows g.D.Device.well g.D.Lends.tells l.yielded l.left;
+  left : AreLeftBy g.D.Device.follows g.D.Device.well g.D.Lends.tells g.D.Lends.is_of l.yielded l.left;
   followed : AllByRecursion (IsWorkFollowed g.D.Device.follows) l.yielded;
   count : length l.left.reported.items ≡ length l.yielded;
   reserved : vec_capacity l.left.reported ≡ vec_capacity l.fn.room.reported;
+  entire : g.D.Lends.is_complete l.fn.entire → g.D.Lends.is_complete l.entire;
 }

@@ -1,8 +1,16 @@
-use Rattle.std.proofs.Common.{None}
+use Rattle.std.proofs.Common.{None, arith, subst, sym}
+use Rattle.site_file.specs.Fitting.{IsReady, complete_ready}
+use Rattle.station_line.proofs.SwitchedOn.{is_of_none}
 use Rattle.station_session.proofs.OnFiles.{log_of}
 use Rattle.kept_files.proofs.OnFiles.{keeps_unasked}
 use Rattle.station_session.proofs.Ending.{ends-recovery-opened, ends-unrecovered}
 use Rattle.station_session.proofs.recovery.recover_session.Goals as goal
+
+pub with_device-site-requires : goal.with_device-site-requires
+with_device-site-requires g c =
+    let site = c.args.session.site in
+    subst (λ d. IsReady d site.line) (sym c.new-device.ensures)
+    (complete_ready c.new.result site.line c.new.ensures.entire (is_of_none site.line (omega (arith, c.slaves-slaves.ensures.slaves, c.slaves-slaves.ensures.some)) c.requires.has_disk c.requires.owned))
 
 pub returns-in-Ok : goal.returns-in-Ok
 returns-in-Ok g c =

@@ -8,6 +8,10 @@ returns-in-Ok-clause-saved g c =
     saves-left (g.S.Store.files c.save_after-saved.new.store) c.args.line.now c.args.left c.note_end-reported.result c.save_after-saved.result.status c.worse.result c.worse-in-Ok.result c.note_end-reported.ensures.fault c.save_after-saved.ensures.saved
     c.worse.ensures.done c.worse.ensures.faultless c.worse-in-Ok.ensures.done c.worse-in-Ok.ensures.faultless
 
+pub returns-in-Ok-clause-after : goal.returns-in-Ok-clause-after
+returns-in-Ok-clause-after g c good =
+    c.save_after-saved.ensures.after (c.worse.ensures.faultless (c.worse-in-Ok.ensures.faultless good).1).1
+
 pub returns-in-Ok-clause-goes : goal.returns-in-Ok-clause-goes
 returns-in-Ok-clause-goes g c closed =
     let left = c.args.left in

@@ -4,6 +4,7 @@ use Rattle.script_session.specs.Parts.{AreSound, IsDeskReported}
 use Rattle.station_session.proofs.ThreadsEnd.{ends-left}
 use Rattle.station_session.specs.RunFiles.{OfDevices, TellsOf, line_reported, served}
 use Rattle.station_session.proofs.RunFiles.{after_unserved, not_served, unserved_line}
+use Rattle.station_session.proofs.Telling.{tells_all}
 use Rattle.station_session.proofs.threads.run_threads.Goals as goal
 
 pub returns-in-Ok-clause-ends : goal.returns-in-Ok-clause-ends
@@ -31,6 +32,10 @@ returns-in-Ok-clause-serves g c =
     })
     (λ closed. after_unserved (OfDevices follows well tells c.end_threads.result.reported) left.ending.is_driven left.sound left.unserved.items
     c.args.commands.items left.site.seen c.end_threads.result.status c.in-Ok.ensures.unserved (c.end_threads.ensures.goes closed))
+
+pub returns-in-Ok-clause-reported : goal.returns-in-Ok-clause-reported
+returns-in-Ok-clause-reported g c good =
+    tells_all g.D.Lends.is_of c.end_threads.result.reported c.in-Ok.left.reported c.end_threads.ensures.desk c.in-Ok.ensures.own (c.end_threads.ensures.after good)
 
 pub returns-in-Err-clause-followed : goal.returns-in-Err-clause-followed
 returns-in-Err-clause-followed g c =

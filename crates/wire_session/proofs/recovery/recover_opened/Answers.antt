@@ -4,6 +4,7 @@ use denote.Param.Send.{sendable}
 use Rattle.site_core.specs.State.{Seen}
 use Rattle.site_wire.specs.Following.{WireFollows}
 use Rattle.site_wire.proofs.Sent.{shared-send, wire-device-send}
+use Rattle.site_wire.specs.Fitting.{complete_ready}
 use Rattle.site_wire.specs.Logged.{TellsWire}
 use Rattle.wire_session.specs.Slaves.{EndsReported, SlavesHold}
 use Rattle.wire_session.proofs.RunEnds.{reported_own}
@@ -14,6 +15,9 @@ use Rattle.station_files.specs.declared.faults.Fault.TheVariants.{Memory}
 use Rattle.wire_session.proofs.Endings.{ends_refused}
 use Rattle.wire_session.proofs.Recovering.{recovers_opened}
 use Rattle.wire_session.proofs.recovery.recover_opened.Goals as goal
+
+pub site_of-requires-clause-ready : goal.site_of-requires-clause-ready
+site_of-requires-clause-ready g c κs lives = λ line is. complete_ready _ line (c.shared-device.ensures c.new.ensures.entire) is
 
 pub recover_site-requires-send-D : goal.recover_site-requires-send-D
 recover_site-requires-send-D g c κs lives = search (wire-device-send, shared-send, sendable) depth 40

@@ -7,6 +7,7 @@ use Rattle.site_wire.proofs.Sent.{shared-send, wire-device-send}
 use Rattle.station_files.specs.declared.faults.ExitStatus.{ExitStatus}
 use Rattle.station_line.proofs.Opened.{old-by}
 use Rattle.wire_session.specs.Running.{SavesFound}
+use Rattle.site_wire.specs.Fitting.{complete_ready}
 use Rattle.site_wire.specs.Logged.{TellsWire}
 use Rattle.wire_session.specs.Slaves.{EndsReported, SlavesHold}
 use Rattle.wire_session.proofs.SlavesHeld.{slaves_hold}
@@ -14,6 +15,9 @@ use Rattle.station_files.specs.declared.faults.Fault.TheVariants.{Memory}
 use Rattle.wire_session.proofs.Endings.{ends_refused}
 use Rattle.wire_session.proofs.RunEnds.{ends_found, reported_own}
 use Rattle.wire_session.proofs.running.run_opened.Goals as goal
+
+pub site_of-requires-clause-ready : goal.site_of-requires-clause-ready
+site_of-requires-clause-ready g c κs lives = λ line is. complete_ready _ line (c.shared-device.ensures c.new.ensures.entire) is
 
 pub run_site-requires-send-D : goal.run_site-requires-send-D
 run_site-requires-send-D g c κs lives = search (wire-device-send, shared-send, sendable) depth 40

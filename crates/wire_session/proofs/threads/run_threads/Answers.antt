@@ -11,8 +11,8 @@ end_threads-ended-requires-clause-line g c κs lives =
 pub end_threads-ended-requires-clause-reported : goal.end_threads-ended-requires-clause-reported
 end_threads-ended-requires-clause-reported g c κs lives = c.in-Ok.ensures.left.reported
 
-pub returns-else-not-are_of_parts-clause-ends : goal.returns-else-not-are_of_parts-clause-ends
-returns-else-not-are_of_parts-clause-ends g c =
+pub returns-in-Ok-clause-ends : goal.returns-in-Ok-clause-ends
+returns-in-Ok-clause-ends g c =
     ends_at_desk g.D.Device.follows g.D.Device.well g.D.Lends.tells c.end_threads-ended.result.0 (g.S.Store.files c.args.store.now) (g.S.Store.files c.end_threads-ended.new.store)
     c.args.line.now (length c.args.line.now.images.items) c.args.alone c.args.work.commands.items c.in-Ok.left c.end_threads-ended.result.1 c.in-Ok.ensures.left
     c.in-Ok.ensures.unserved c.in-Ok.ensures.parts c.end_threads-ended.ensures.sound c.end_threads-ended.ensures.desk

@@ -1,5 +1,5 @@
 use Rattle.line_watch.proofs.watched_device.WatchedDevice.write.Goals as goal
 
-pub returns : goal.returns
-returns g c = λ old new given running inside wrote reported followed.
-    c.write.ensures old new given running inside wrote reported (rw c.note_write.ensures followed)
+pub returns-clause-follows : goal.returns-clause-follows
+returns-clause-follows g c = λ old new given running inside wrote reported followed.
+    c.write.ensures.follows old new given running inside wrote reported (rw c.note_write.ensures followed)

@@ -5,3 +5,6 @@ pub returns-clause-follows : goal.returns-clause-follows
 returns-clause-follows g c = λ seen reported.
     begins _ c.args.self.now.is_over c.args.self.now.journal.has_failed c.args.self.now.sender.log.is_empty c.args.is_new seen c.must_refuse-self.ensures.unsent c.begin.ensures.begins.none c.begin.ensures.sound
     c.must_refuse-self.ensures.refuses reported
+
+pub returns-clause-fits : goal.returns-clause-fits
+returns-clause-fits g c = c.begin.ensures.fits

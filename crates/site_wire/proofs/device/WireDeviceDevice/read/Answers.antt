@@ -3,6 +3,7 @@ use Rattle.site_file.specs.declared.files.FileDevice.{FileDevice}
 use Rattle.site_file.specs.Device.{ReadsJournal}
 use Rattle.site_wire.proofs.Journal.{handed_on}
 use Rattle.site_wire.proofs.Following.{read_asks}
+use Rattle.site_wire.proofs.Fitting.{fits_by}
 use Rattle.site_wire.proofs.device.WireDeviceDevice.read.Goals as goal
 
 pub returns-clause-follows : goal.returns-clause-follows
@@ -12,3 +13,6 @@ returns-clause-follows g c =
     (handed_on (ReadsJournal c.args.self.now.journal) c.read-passing.result c.end_call.result c.read-passing.new.self c.end_call.new.self.journal
     c.end_call.ensures.same c.end_call.ensures.journal c.read-passing.ensures.asks)
     (record { sent = c.end_call.ensures.quiet.sent; over = c.end_call.ensures.quiet.over }) c.end_call.ensures.well
+
+pub returns-clause-fits : goal.returns-clause-fits
+returns-clause-fits g c = fits_by _ _ _ c.end_call.ensures.journal c.read-passing.ensures.fits

@@ -4,6 +4,7 @@ use Rattle.site_file.specs.declared.asking.Call.TheVariants.{Writes as writes}
 use Rattle.site_file.specs.Device.{CallsJournal}
 use Rattle.site_wire.proofs.Journal.{handed_on}
 use Rattle.site_wire.proofs.Following.{write_keeps}
+use Rattle.site_wire.proofs.Fitting.{fits_by}
 use Rattle.site_wire.proofs.device.WireDeviceDevice.write.Goals as goal
 
 pub returns-clause-follows : goal.returns-clause-follows
@@ -13,3 +14,6 @@ returns-clause-follows g c =
     (handed_on (CallsJournal (writes c.args.at c.args.bytes.now) c.args.self.now.journal) c.write-passing.result c.end_call.result c.write-passing.new.self c.end_call.new.self.journal
     c.end_call.ensures.same c.end_call.ensures.journal c.write-passing.ensures.asks)
     (record { sent = c.end_call.ensures.quiet.sent; over = c.end_call.ensures.quiet.over }) c.end_call.ensures.well
+
+pub returns-clause-fits : goal.returns-clause-fits
+returns-clause-fits g c = fits_by _ _ _ c.end_call.ensures.journal c.write-passing.ensures.fits
