@@ -88,7 +88,8 @@ static void give_up_privileges(void) {
     must(!prctl(PR_SET_NO_NEW_PRIVS, 1, 0, 0, 0) && !syscall(SYS_capset, &head, none), "privileges");
 }
 
-// A descriptor that the program can open once more by its name: standard output, or else a pipe to a cat, where that can't be opened.
+// A descriptor that the program can open once more by its name: standard output, or else, where that can't be opened (a socket, another user's
+// terminal or file), a pipe to a cat, whose last lines may come after the prompt.
 static int open_text(void) {
     struct stat at;
     int again = open("/dev/fd/1", O_WRONLY | O_APPEND | O_NOCTTY | O_NONBLOCK);
@@ -159,7 +160,7 @@ int main(int argc, char **argv) {
         if (value == &name && it + 1 == argc) return state_of(NULL), 0;
         helps |= is_among(word, " -h --help -V --version ");
         keeps |= is_among(word, " alias write ");
-        looks |= is_among(word, " alias write run recover ");
+        looks |= is_among(word, " alias write run recover pending ");
         text_named |= !strncmp(word, "--text", 6);
         if (value) *value = argv[++it];
         else if (strcmp(word, "-")) words[count++] = argv[it];

@@ -1,6 +1,11 @@
 /* lend_igh: carries a station's datagrams over the IgH EtherCAT Master, as docs/EMBEDDING.md says ("A wire that a master lends"). Written from
  * `ecrt.h` and built against a stand-in for it, not with the master. Call it once a cycle, before ecrt_master_send: `of_slave` has a register
- * request of 16 bytes for each slave, `lent` is the master's end of the pair of sockets. */
+ * request of 16 bytes for each slave, `lent` is the master's end of the pair of sockets.
+ *
+ * The register requests (ecrt_slave_config_create_reg_request) carry reads and writes in the cycle. The two other datagrams are answered here: the
+ * number of slaves (ecrt_master_state), and the station address of the slave at a place, which is its place and 1. A request that fails isn't
+ * answered, since its frame may be lost. All requests of a message go out in the same cycle: `--carry 64` reads two words of each of 64 slaves in
+ * as many cycles as of one. */
 #include <ecrt.h>
 #include <stdint.h>
 #include <string.h>

@@ -1,5 +1,9 @@
 /* lend_soem: carries a station's datagrams over SOEM, as docs/EMBEDDING.md says ("A wire that a master lends"). Written from SOEM's headers and tried
- * against a stand-in for them, not with SOEM. Call it in a side thread: `lent` is the master's end of the pair of sockets. */
+ * against a stand-in for them, not with SOEM. Call it in a side thread: `lent` is the master's end of the pair of sockets.
+ *
+ * ecx_FPRD, ecx_FPWR, ecx_APRD and ecx_BRD carry one datagram each in a frame of its own, so `--carry` gains little. They may be called from a side
+ * thread while the cyclic thread exchanges process data. They give the working counter, or less than 0 where no frame came back; with
+ * EC_TIMEOUTRET each sends its frame once, as a rule. */
 #include <ethercat.h>
 #include <stdint.h>
 #include <sys/socket.h>

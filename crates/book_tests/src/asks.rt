@@ -34,7 +34,7 @@ fn group(alloc: Global, aliases: &[(u16, u16)]) -> Option<Command> {
     Some(Command::Group(EditList::from_vec(edits)))
 }
 
-/// An image with at most 1,015 words behind word 64.
+/// An image with at most 1,015 words after word 64.
 fn image(alloc: Global, name: (u8, u8), count: usize, value: u16) -> Option<Command> {
     if count > 1015 {
         return None;

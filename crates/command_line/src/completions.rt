@@ -12,39 +12,42 @@ pub enum Shell {
     Fish,
 }
 
-/// What bash reads: of each subcommand a line `show) options='--hex --help' ;;`, after one of the program itself, and one of its subcommand `help`,
-/// which is followed by a subcommand's name.
+/// What bash reads: of each subcommand a line `show) options='--hex --help -h' ;;`, after one of the program itself, and one of its subcommand `help`,
+/// which is followed by a subcommand's name. Behind `completions` and `explain` stand the names of shells and of codes; else bash completes the names
+/// of files.
 ///
 /// In a script `@p` is the program's name, `@s` are the names of all subcommands, `@n` is the subcommand's name and `@a` what it does, and `@l` is
-/// the option's name and `@h` what it does. What stands between `%` and `%` is there for each subcommand; between `~` and `~`, for each option
-/// of the subcommand, or else of the program.
+/// the option's name, `@c` its letter and `@h` what it does. What stands between `%` and `%` is there for each subcommand; between `~` and `~`, for
+/// each option of the subcommand, or else of the program; between two grave accents, for each of these that has a letter.
 const BASH: &str = "_@p() {
     local word=${COMP_WORDS[COMP_CWORD]} sub= i names= options=
     for ((i = 1; i < COMP_CWORD; i++)); do
         case ${COMP_WORDS[i]} in -*) ;; *) sub=${COMP_WORDS[i]}; break ;; esac
     done
     case $sub in
-    '') names='@s' options='~ --@l~' ;;
+    '') names='@s' options='~ --@l~` -@c`' ;;
     help) names='@s' ;;
-    completions) names='bash zsh fish' ;;
-%    @n) options='~ --@l~' ;;
+%    @n) options='~ --@l~` -@c`' ;;
 %    esac
+    case $sub in
+    completions) names='bash zsh fish' ;;
+    explain) names=$(@p explain | sed -n 's/^[0-9]* \\([A-Za-z]*\\): .*/\\1/p') ;;
+    esac
     if [[ $word == -* ]]; then
         COMPREPLY=($(compgen -W \"$options\" -- \"$word\"))
     elif [[ $names ]]; then
         COMPREPLY=($(compgen -W \"$names\" -- \"$word\"))
-    else
-        mapfile -t COMPREPLY < <(compgen -f -- \"$word\")
     fi
 }
-complete -o filenames -F _@p @p
+complete -o default -F _@p @p
 ";
 
-/// Of each subcommand a line `'show:What it does'`, and a line `show) _arguments '--hex[What it does]' '*:file:_files' ;;`: its options, which
-/// are followed by files; then the options of the program itself.
+/// Of each subcommand a line `'show:What it does'`, and a line `show) _arguments '--hex[What it does]' \"$rest\" ;;`: its options, which are
+/// followed by files, shells or codes; then the options of the program itself.
 const ZSH: &str = "#compdef @p
 _@p() {
     local -a names
+    local rest='*:file:_files'
     names=(
 %        '@n:@a'
 %    )
@@ -52,18 +55,26 @@ _@p() {
         _describe subcommand names
     fi
     case $words[2] in
-%    @n) _arguments~ '--@l[@h]'~ '*:file:_files' ;;
-%    -*) _arguments~ '--@l[@h]'~ ;;
+    completions) rest='*:shell:(bash zsh fish)' ;;
+    explain) rest=\"*:code:($(@p explain | sed -n 's/^[0-9]* \\([A-Za-z]*\\): .*/\\1/p'))\" ;;
+    esac
+    case $words[2] in
+%    @n) _arguments~ '--@l[@h]'~` '-@c[@h]'` \"$rest\" ;;
+%    -*) _arguments~ '--@l[@h]'~` '-@c[@h]'` ;;
     esac
 }
 compdef _@p @p
 ";
 
-/// A line of each option of the program; then of each subcommand a line, and a line of each of its options.
+/// A line of each option of the program; then of each subcommand a line, and a line of each of its options; then what stands behind two of them.
 const FISH: &str = "~complete -c @p -n '__fish_use_subcommand' -l @l -d '@h'
-~%complete -c @p -n __fish_use_subcommand -f -a @n -d '@a'
+~`complete -c @p -n '__fish_use_subcommand' -s @c -d '@h'
+`%complete -c @p -n __fish_use_subcommand -f -a @n -d '@a'
 ~complete -c @p -n '__fish_seen_subcommand_from @n' -l @l -d '@h'
-~%";
+~`complete -c @p -n '__fish_seen_subcommand_from @n' -s @c -d '@h'
+`%complete -c @p -n '__fish_seen_subcommand_from completions' -f -a 'bash zsh fish'
+complete -c @p -n '__fish_seen_subcommand_from explain' -f -a '(@p explain | string replace -rf \"^[0-9]+ (\\w+): .*\" \"\\$1\")'
+";
 
 /// What the texts of a script are about.
 #[derive(Clone, Copy)]
@@ -136,22 +147,40 @@ fn push_block<'c, 'a>(
     };
     for (place, words) in block.split('~').enumerate() {
         if place % 2 == 0 {
-            push_words(words, subject, text)?;
+            push_lettered(words, subject, text)?;
         } else {
-            push_options(words, subject, text)?;
+            push_options(words, subject, false, text)?;
         }
     }
     Ok(())
 }
 
-/// These words of each option.
-fn push_options(
-    words: &str,
+/// A text of a script, in which parts are about the options that have a letter.
+fn push_lettered(
+    block: &str,
     subject: Subject<'_, '_>,
     text: &mut String,
 ) -> Result<(), AllocError> {
+    for (place, words) in block.split('`').enumerate() {
+        if place % 2 == 0 {
+            push_words(words, subject, text)?;
+        } else {
+            push_options(words, subject, true, text)?;
+        }
+    }
+    Ok(())
+}
+
+/// These words of each option, or of each that has a letter.
+fn push_options(
+    words: &str,
+    subject: Subject<'_, '_>,
+    is_lettered: bool,
+    text: &mut String,
+) -> Result<(), AllocError> {
     for option in subject.command.get_arguments() {
-        if option.get_long().is_some() && !option.is_hide_set() {
+        let is_spelt = option.get_long().is_some() && !option.is_hide_set();
+        if is_spelt && (option.get_short().is_some() || !is_lettered) {
             let option = Some(option);
             push_words(words, Subject { option, ..subject }, text)?;
         }
@@ -181,6 +210,7 @@ fn push_marked(
 ) -> Result<(), AllocError> {
     let words = match (letter, subject.option) {
         ('s', _) => return push_names(subject.program, text),
+        ('c', Some(option)) => return text.push(option.get_short().unwrap_or('-')),
         ('p', _) => subject.program.get_name(),
         ('n', _) => subject.command.get_name(),
         ('a', _) => subject.command.get_about().unwrap_or(""),

@@ -104,7 +104,7 @@ impl<'a> ParsedArguments<'a> {
         }
     }
 
-    /// A power cut behind so many units, as this option and `--left` say: their number, and what is left of the next one. `--left` is checked
+    /// A power cut after so many units, as this option and `--left` say: their number, and what is left of the next one. `--left` is checked
     /// even without the option.
     ///
     /// # Errors
@@ -137,7 +137,7 @@ fn text_in<'a>(argument: Argument, found: &ArgMatches<'a>) -> Option<&'a str> {
 }
 
 /// Whether a text has digits only: a sign is not taken.
-pub fn is_digits(text: &str) -> bool {
+fn is_digits(text: &str) -> bool {
     for byte in text.bytes() {
         if !byte.is_ascii_digit() {
             return false;
@@ -146,7 +146,7 @@ pub fn is_digits(text: &str) -> bool {
     true
 }
 
-/// The number that a text spells, in decimal digits, or in hexadecimal ones behind `0x`, as in a script. A sign is not taken.
+/// The number that a text spells, in decimal digits, or in hexadecimal ones after `0x`, as in a script. A sign is not taken.
 pub fn number_in(text: &str) -> Option<u32> {
     match text.strip_prefix("0x") {
         Some(digits) if is_hexadecimal(digits) => u32::from_str_radix(digits, 16).ok(),

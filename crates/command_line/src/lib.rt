@@ -19,7 +19,7 @@ mod unread;
 pub use argument::{Argument, Kind};
 pub use completions::{Shell, completion_script};
 pub use escaped::Escaped;
-pub use given::{ParsedArguments, is_digits, number_in, small_in};
+pub use given::{ParsedArguments, number_in, small_in};
 pub use input_script::{INPUT, InputScript, Script, TYPED};
 pub use launched::{INTERFACE, STATE, TEXT, TIMEOUT, WIRE};
 pub use manual::manual_page;

@@ -9,7 +9,7 @@ use toml::de::Error;
 
 /// The help text on typed commands.
 const COMMANDS: &str =
-    "A command in place of the script file: the line that stands behind [[command]] there,
+    "A command in place of the script file: the line that stands below [[command]] there,
 such as 'alias = { slave = 2, value = 7 }' or 'swap = [0, 1]'. Each -e is one command;
 they are submitted in order.";
 
@@ -36,7 +36,7 @@ pub(crate) fn typed_text(alloc: Global, commands: &[&str]) -> Result<Vec<u8>, Un
 /// Refuses a typed command that isn't one line of TOML on its own.
 fn validate(alloc: Global, line: &str) -> Result<(), Unread> {
     if !is_line(line) {
-        let flaw = "a command behind -e is one line, as in a script behind [[command]]";
+        let flaw = "a command of -e is one line, as in a script below [[command]]";
         return Err(Unread::of_text(String::from_str(alloc, flaw)));
     }
     match toml::table_from_str(alloc, line) {

@@ -8,7 +8,7 @@ use crate::sites::{number_of, sites_of};
 use site_core::Site;
 use site_mem::MemSite;
 use station_jobs::{End, NoHook, SlaveLog, flush, work};
-use station_threads::{Desk, Ends, PerDevice, Refusals, Tickets};
+use station_threads::{Desk, Ends, Refusals, Sites, Tickets};
 use std::alloc::Global;
 use std::process::Abort;
 use std::sync::Wait;
@@ -39,7 +39,7 @@ pub(crate) fn serve_alone<T: Tickets + Send + Sync, R: Refusals + Send + Sync, W
 ) -> Ends<MemSite>
     requires { desk.now.limit ≤ 8 + scenario.now.plan.area }
 {
-    let PerDevice {
+    let Sites {
         disk,
         slaves,
         cycle,

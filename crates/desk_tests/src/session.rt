@@ -1,6 +1,6 @@
 //! Serves a line for two submitters, and closes its desk.
 
-ghost use Rattle.std.specs.Prelude.{◌≡◌, ◌≤◌, ◌+◌, [], length, IfErr};
+ghost use Rattle.std.specs.Prelude.{◌≡◌, ◌≤◌, ◌<◌, ◌+◌, [], length, IfErr};
 ghost use Rattle.station_threads.specs.Sites.{OwnParts};
 ghost use Rattle.site_shadow.specs.Site.{SiteValue};
 
@@ -196,15 +196,17 @@ fn ends_but(mut ends: Ends<MemSite>, left_out: LeftOut) -> Ends<MemSite> {
     ends
 }
 
-/// A driver and the other submitter, with the only two shares of the desk.
+/// A driver and the other submitter, with the only two shares of the desk, of which this is the first.
 fn both_of<T: Tickets, R: Refusals, W: Wait + Abort>(
     rt: &W,
     alloc: Global,
     desk: &Desk<T, R>,
+    share: Share<T, R>,
     scenario: &Scenario,
 ) -> (Driver<T, R>, Submitter<T, R>) {
-    let first = Submitter::new(rt, alloc, desk, scenario, scenario.first);
-    let other = Submitter::new(rt, alloc, desk, scenario, scenario.second);
+    let first = Submitter::new(rt, alloc, desk, share, scenario, scenario.first);
+    let share = desk.share(rt).ok().expect(rt, "a share");
+    let other = Submitter::new(rt, alloc, desk, share, scenario, scenario.second);
     assert!(rt; desk.share(rt).is_err());
     let asks = scenario.first.len().saturating_add(scenario.second.len());
     let driver = Driver {
@@ -223,10 +225,17 @@ fn serve_at<
     R: Refusals + Send + Sync,
     G: Hook + Sync,
     W: Wait + Threads + Sync + Abort,
->(rt: &W, alloc: Global, desk: &Desk<T, R>, scenario: &Scenario, hook: &G) -> Left<T, R>
+>(
+    rt: &W,
+    alloc: Global,
+    desk: &Desk<T, R>,
+    share: Share<T, R>,
+    scenario: &Scenario,
+    hook: &G,
+) -> Left<T, R>
     requires { desk.now.limit ≤ 8 + scenario.now.plan.area }
 {
-    let (mut driver, other) = both_of(rt, alloc, desk, scenario);
+    let (mut driver, other) = both_of(rt, alloc, desk, share, scenario);
     let service = Service {
         desk,
         scenario,
@@ -262,12 +271,13 @@ fn serve_by<
     requires none { core.accepted ≡ [] }
     requires tickets { (tickets.name ≡ T.name) × (tickets.count ≡ T.parts) }
     requires refusals { (refusals.name ≡ R.name) × (refusals.count ≡ R.parts) }
+    requires parts { (1 < tickets.count) × (1 < refusals.count) }
     requires area { core.capacity ≡ scenario.now.plan.area }
 {
-    let Ok(desk) = Desk::<T, R>::of(alloc, core, tickets, refusals) else {
+    let Ok((desk, share)) = Desk::<T, R>::with_share(alloc, core, tickets, refusals) else {
         return None;
     };
-    let (held, ends) = serve_at(rt, alloc, &desk, scenario, hook);
+    let (held, ends) = serve_at(rt, alloc, &desk, share, scenario, hook);
     Some(report_of(rt, alloc, desk, held, ends, scenario.memory))
 }
 

@@ -11,7 +11,7 @@ use esc_model::{FIRST_STATION, ProcessHalf, RomHalf};
 use jrn_format::header;
 use runner_cases::bytes::patch;
 use site_mem::{MemSite, Parts, Pattern};
-use station_threads::{PerDevice, Sites, own_parts};
+use station_threads::{Sites, own_parts};
 use std::alloc::Global;
 use std::process::Abort;
 
@@ -211,7 +211,7 @@ pub(crate) fn sites_of(
     ensures owned { OwnParts (λ (site : SiteValue). site.line) result.disk result.slaves.items result.cycle }
     ensures long { length result.disk.seen.state.disk.bytes ≡ 8 + plan.now.area }
 {
-    let sites = PerDevice {
+    let sites = Sites {
         disk: disk_of(rt, alloc, plan, trouble),
         slaves: slaves_of(rt, alloc, plan, trouble),
         cycle: cycle_of(rt, alloc, plan),

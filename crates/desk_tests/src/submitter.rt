@@ -52,13 +52,14 @@ impl<T: Tickets, R: Refusals> Submitter<T, R> {
         rt: &W,
         alloc: Global,
         desk: &Desk<T, R>,
+        share: Share<T, R>,
         scenario: &Scenario,
         asks: &'static [Ask],
     ) -> Self {
         let count = asks.len().saturating_mul(scenario.rounds);
         let mut submitter = Submitter {
             alloc,
-            share: desk.share(rt).ok().expect(rt, "a share"),
+            share,
             asks,
             rounds: scenario.rounds,
             pace: scenario.pace,

@@ -1,6 +1,6 @@
 //! How often a desk hands out the process data cycle of one image.
 
-ghost use Rattle.std.specs.Prelude.{◌≡◌, []};
+ghost use Rattle.std.specs.Prelude.{◌≡◌, ◌<◌, []};
 
 use crate::line::book_of;
 use crate::served::TURNING;
@@ -27,8 +27,9 @@ fn hands_out<T: Tickets + Send + Sync, R: Refusals + Send + Sync, W: Wait + Abor
     requires none { core.accepted ≡ [] }
     requires tickets { (tickets.name ≡ T.name) × (tickets.count ≡ T.parts) }
     requires refusals { (refusals.name ≡ R.name) × (refusals.count ≡ R.parts) }
+    requires parts { (1 < tickets.count) × (1 < refusals.count) }
 {
-    let desk = Desk::<T, R>::of(alloc, core, tickets, refusals)
+    let (desk, _share) = Desk::<T, R>::with_share(alloc, core, tickets, refusals)
         .ok()
         .expect(rt, "memory");
     let mut side = desk.cycle_side();

@@ -15,18 +15,18 @@ use wire_practice::{NO_QUIRKS, PracticeClock, PracticeLine, PracticeSlave, Pract
 use wire_scan::backup_line;
 use wire_session::begin_journal;
 
-/// A file: its name, its first bytes, and how many it has. Those behind are 0.
+/// A file: its name, its first bytes, and how many it has. The others are 0.
 type File = (&'static str, &'static [u8], usize);
 
 /// The text of a new line file.
-const LINE: &[u8] =
+pub(crate) const LINE: &[u8] =
     b"journal = 'c-journal.bin'\n[[slave]]\nimage = 'c-s0.bin'\n[[slave]]\nimage = 'c-s1.bin'\n";
 
 /// A journal of two slaves with an area of 4,096 bytes, in which nothing is live.
 const EMPTY: &[u8] = &[0xA5, 2, 2, 0, 0, 0x10, 0, 0];
 
 /// The same with the words that make slave 0's alias 1, live in half 0.
-const LIVE: &[u8] = &[
+pub(crate) const LIVE: &[u8] = &[
     0xA5, 2, 2, 0, 0, 0x10, 0, 0, //
     0xA5, 0, 0x1C, 0, 0, 0, 1, 0, 0, 0, 0, 0, 0, 0, 0, 0, //
     2, 0, 0, 0, 4, 0, 1, 0, 1, 0, 0, 0, 7, 0, 1, 0, //
@@ -71,10 +71,10 @@ const CASES: &[(&[File], Option<&str>)] = &[
 ];
 
 /// The name of the line file.
-const NAME: &str = "c.toml";
+pub(crate) const NAME: &str = "c.toml";
 
 /// The alias of slave 1, which never changes.
-const OTHER: u16 = 9;
+pub(crate) const OTHER: u16 = 9;
 
 /// The words of a slave with this alias: each but word 0x3E, which says 64 words, is its own number.
 fn words(alloc: Global, alias: u16) -> Result<Vec<u16>, AllocError> {
@@ -90,7 +90,7 @@ fn words(alloc: Global, alias: u16) -> Result<Vec<u16>, AllocError> {
 }
 
 /// The bytes of the image of such a slave.
-fn image(alloc: Global, alias: u16) -> Result<Vec<u8>, AllocError> {
+pub(crate) fn image(alloc: Global, alias: u16) -> Result<Vec<u8>, AllocError> {
     let mut bytes = Vec::new(alloc);
     for word in &words(alloc, alias)? {
         let [low, high] = word.to_le_bytes();
@@ -101,7 +101,7 @@ fn image(alloc: Global, alias: u16) -> Result<Vec<u8>, AllocError> {
 }
 
 /// Two slaves, of which the first one has this alias.
-fn line_of(alloc: Global, alias: u16) -> Result<PracticeLine, AllocError> {
+pub(crate) fn line_of(alloc: Global, alias: u16) -> Result<PracticeLine, AllocError> {
     let mut slaves = Vec::new(alloc);
     for alias in [alias, OTHER] {
         slaves.push(PracticeSlave::switched_on(alloc, &words(alloc, alias)?, NO_QUIRKS)?)?;
@@ -133,7 +133,7 @@ fn is_refused(ended: Option<WireFault>) -> bool {
 }
 
 /// A file with these first bytes.
-fn content(alloc: Global, first: &[u8], length: usize) -> Result<Vec<u8>, AllocError> {
+pub(crate) fn content(alloc: Global, first: &[u8], length: usize) -> Result<Vec<u8>, AllocError> {
     let mut bytes = first.to_vec(alloc)?;
     bytes.resize(length, 0)?;
     Ok(bytes)
@@ -153,7 +153,7 @@ fn is_backup(alloc: Global, shelf: &Shelf, alias: u16, area: u32) -> Result<bool
     )
 }
 
-/// Whether a backup ends so where these files are there before: well, or with this file told, and nothing written.
+/// Whether a backup ends so where these files are there before: well, or with this file reported, and nothing written.
 fn ends_so<R: Clock + AllocGlobal>(
     rt: &R,
     files: &[File],
@@ -201,7 +201,7 @@ fn left_by<R: Clock + AllocGlobal>(
 }
 
 /// Whether a backup in which this goes wrong can be made again, while the slaves are as they were; and, where slave 0 has another alias by now,
-/// whether that is told once its image file is there. Gives whether anything went wrong.
+/// whether that is reported once its image file is there. Gives whether anything went wrong.
 fn is_repeated<R: Clock + AllocGlobal>(
     rt: &R,
     trouble: Trouble,

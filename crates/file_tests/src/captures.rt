@@ -6,7 +6,7 @@ use station_files::Store;
 use std::rt::Clock;
 use std::sync::Wait;
 
-/// What a file holds before: its first bytes, and how many it has (those behind are 0); which call on it fails; whether all of three frames are
+/// What a file holds before: its first bytes, and how many it has (the others are 0); which call on it fails; whether all of three frames are
 /// written then, `None` where the capture can't begin; and how many bytes the file has in the end.
 type Case = (&'static [u8], usize, Trouble, Option<bool>, usize);
 

@@ -140,7 +140,7 @@ fn done(file: &impl RandomAccessFile, call: Call) -> io::Result<()> {
     }
 }
 
-/// Whether all that is left behind each of these calls is allowed; and, as long as none has failed, that bytes which are filled are just those that
+/// Whether all that is left after each of these calls is allowed; and, as long as none has failed, that bytes which are filled are just those that
 /// the definition leaves free. None: memory was refused.
 fn is_allowed(alloc: Global, calls: &[Call], trouble: Trouble, pattern: Pattern) -> Option<bool> {
     let mut shelf = Shelf::new(alloc).ok()?;

@@ -18,7 +18,7 @@ pub(crate) struct Bench {
     pub printed: Printed,
 }
 
-/// A handle whose clock goes on by so many milliseconds each time it is read. By the time of day it stands still, at 5 nanoseconds behind second 3.
+/// A handle whose clock goes on by so many milliseconds each time it is read. By the time of day it stands still, at 5 nanoseconds after second 3.
 #[derive(Drop)]
 struct Stepping<'r, H> {
     _handle: &'r H,

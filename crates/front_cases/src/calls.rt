@@ -61,7 +61,7 @@ struct Tried {
 /// How many calls a run makes at most.
 const CALLS: u64 = 1000;
 
-/// Tries a run in which each call in turn goes wrong, and what is run behind it.
+/// Tries a run in which each call in turn goes wrong, and what is run after it.
 ///
 /// # Errors
 ///
@@ -87,7 +87,7 @@ pub(crate) fn try_calls<'a>(
     Err(io::Error::other("calls without an end"))
 }
 
-/// Tries a run in which this goes wrong, and what is run behind it.
+/// Tries a run in which this goes wrong, and what is run after it.
 fn try_call<'a>(
     rt: &(impl Wait + Threads + Sync),
     bench: &mut Bench,
@@ -124,7 +124,7 @@ fn try_call<'a>(
     }
 }
 
-/// What isn't as is expected of a run in which a call went wrong. A power cut may leave anything to print; a failure is told.
+/// What isn't as is expected of a run in which a call went wrong. A power cut may leave anything to print; a failure is reported.
 fn wrong_mishap<'a>(
     bench: &Bench,
     run: &Run<'a>,
@@ -210,7 +210,7 @@ fn is_new(
     Ok(true)
 }
 
-/// Cuts the power in each call of a recovery, and tries what is run behind, each line once.
+/// Cuts the power in each call of a recovery, and tries what is run after, each line once.
 fn try_cuts<'a>(
     rt: &(impl Wait + Threads + Sync),
     bench: &mut Bench,

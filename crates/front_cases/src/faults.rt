@@ -30,6 +30,7 @@ const FAULTS: &[(Fault, &str, u8)] = &[
     (Fault::Busy, "fault 95 Busy\n", 3),
     (Fault::NotAFile, "fault 97 NotAFile\n", 3),
     (Fault::TooLong, "fault 98 TooLong\n", 3),
+    (Fault::OtherDevice, "fault 114 OtherDevice\n", 3),
 ];
 
 /// Why arguments can't be read, and what is printed of that, and the exit status.

@@ -1,43 +1,27 @@
 //! The categories in which two images differ: item by item, and word by word where a content isn't read.
 
-use station_rows::{
-    CategoryItems, Cell, ItemListing, Line, Rows, Value, bare, data, lines_of, named, printed, said,
-};
+use station_listing::{ListedCategory, ListedChain};
+use station_rows::{Cell, Line, Rows, Value, bare, data, lines_of, named, printed, said};
 use std::alloc::AllocError;
 
 /// One of the two images: its key in JSON, and what text calls it.
 #[derive(Clone, Copy)]
-struct Side {
-    key: &'static str,
-    letter: &'static str,
-}
+struct Side(&'static str, &'static str);
 
-/// The first image.
-const FIRST: Side = Side {
-    key: "a",
-    letter: "A",
-};
+const FIRST: Side = Side("a", "A");
 
-/// The second image.
-const SECOND: Side = Side {
-    key: "b",
-    letter: "B",
-};
+const SECOND: Side = Side("b", "B");
 
 /// Puts what the categories of two images differ in, in the order of the first; after this what only the second one has. Where the chain of
 /// one of them is cut off, only that.
-///
-/// # Errors
-///
-/// Memory was refused.
 pub(crate) fn put_categories(
     rows: &mut Rows,
-    old: &ItemListing,
-    new: &ItemListing,
+    old: &ListedChain,
+    new: &ListedChain,
 ) -> Result<(), AllocError> {
-    match (old.runs_out, new.runs_out) {
-        (None, None) => put_chains(rows, old, new),
-        (one, other) if one == other => Ok(()),
+    match (old, new) {
+        (ListedChain::Complete(olds), ListedChain::Complete(news)) => put_chains(rows, olds, news),
+        (ListedChain::RunsOut { at }, ListedChain::RunsOut { at: other }) if at == other => Ok(()),
         (one, other) => {
             put_cut(rows, FIRST, one)?;
             put_cut(rows, SECOND, other)
@@ -45,29 +29,33 @@ pub(crate) fn put_categories(
     }
 }
 
-fn put_cut(rows: &mut Rows, side: Side, cut: Option<usize>) -> Result<(), AllocError> {
-    let Some(at) = cut else {
+fn put_cut(rows: &mut Rows, side: Side, chain: &ListedChain) -> Result<(), AllocError> {
+    let ListedChain::RunsOut { at } = chain else {
         return Ok(());
     };
     let row = [
         said("", "runs out"),
-        data("image", side.key),
-        named("at", at),
-        said("in", side.letter),
+        data("image", side.0),
+        named("at", *at),
+        said("in", side.1),
     ];
     rows.put("runs_out", &row)
 }
 
 /// Puts what two chains differ in. A category is compared with the one of its type that has as many others of this type before it.
-fn put_chains(rows: &mut Rows, old: &ItemListing, new: &ItemListing) -> Result<(), AllocError> {
-    for (place, category) in old.categories.iter().enumerate() {
-        match partner_of(&old.categories, place, &new.categories) {
+fn put_chains(
+    rows: &mut Rows,
+    old: &[ListedCategory],
+    new: &[ListedCategory],
+) -> Result<(), AllocError> {
+    for (place, category) in old.iter().enumerate() {
+        match partner_of(old, place, new) {
             Some(other) => put_category(rows, (old, category), (new, other))?,
             None => put_lonely(rows, FIRST, category)?,
         }
     }
-    for (place, category) in new.categories.iter().enumerate() {
-        if partner_of(&new.categories, place, &old.categories).is_none() {
+    for (place, category) in new.iter().enumerate() {
+        if partner_of(new, place, old).is_none() {
             put_lonely(rows, SECOND, category)?;
         }
     }
@@ -76,40 +64,23 @@ fn put_chains(rows: &mut Rows, old: &ItemListing, new: &ItemListing) -> Result<(
 
 /// The category of the other image that is compared with the one at this place.
 fn partner_of<'a>(
-    categories: &[CategoryItems],
+    categories: &[ListedCategory],
     place: usize,
-    others: &'a [CategoryItems],
-) -> Option<&'a CategoryItems> {
+    others: &'a [ListedCategory],
+) -> Option<&'a ListedCategory> {
     let kind = categories.get(place)?.kind;
-    let mut before = 0usize;
-    for category in categories.iter().take(place) {
-        if category.kind == kind {
-            before = before.saturating_add(1);
-        }
-    }
-    of_kind(others, kind, before)
-}
-
-/// The category of this type that has so many others of it before it.
-fn of_kind(categories: &[CategoryItems], kind: u16, before: usize) -> Option<&CategoryItems> {
-    let mut passed = 0usize;
-    for category in categories {
-        let is_same = category.kind == kind;
-        if is_same && passed == before {
-            return Some(category);
-        }
-        passed = passed.saturating_add(usize::from(is_same));
-    }
-    None
+    let earlier = categories.iter().take(place);
+    let before = earlier.filter(|other| other.kind == kind).count();
+    others.iter().filter(|other| other.kind == kind).nth(before)
 }
 
 /// Puts a category that only this image has.
-fn put_lonely(rows: &mut Rows, side: Side, category: &CategoryItems) -> Result<(), AllocError> {
+fn put_lonely(rows: &mut Rows, side: Side, category: &ListedCategory) -> Result<(), AllocError> {
     let row = [
         named("category", category.kind),
         said("", "words"),
-        bare(side.key, category.words.len()),
-        said("only in", side.letter),
+        bare(side.0, category.words.len()),
+        said("only in", side.1),
     ];
     rows.put("category", &row)
 }
@@ -117,8 +88,8 @@ fn put_lonely(rows: &mut Rows, side: Side, category: &CategoryItems) -> Result<(
 /// Puts what two categories of one type differ in, each with its image.
 fn put_category(
     rows: &mut Rows,
-    old: (&ItemListing, &CategoryItems),
-    new: (&ItemListing, &CategoryItems),
+    old: (&[ListedCategory], &ListedCategory),
+    new: (&[ListedCategory], &ListedCategory),
 ) -> Result<(), AllocError> {
     let (was, is) = (old.1.words.len(), new.1.words.len());
     if was != is {
@@ -139,7 +110,11 @@ fn put_category(
 }
 
 /// Puts the words in which two contents differ, of those that both have.
-fn put_words(rows: &mut Rows, old: &CategoryItems, new: &CategoryItems) -> Result<(), AllocError> {
+fn put_words(
+    rows: &mut Rows,
+    old: &ListedCategory,
+    new: &ListedCategory,
+) -> Result<(), AllocError> {
     for (at, (was, is)) in old.words.iter().zip(new.words.iter()).enumerate() {
         if *was != *is {
             let row = [
@@ -182,14 +157,14 @@ fn find_item<'l, 'a>(items: &'l [Line<'a>], place: usize, name: &str) -> Option<
 fn put_lonely_item(rows: &mut Rows, side: Side, item: &Line<'_>) -> Result<(), AllocError> {
     let alloc = rows.alloc();
     let mut line = item.cells.to_vec(alloc)?;
-    line.push(said("only in", side.letter))?;
+    line.push(said("only in", side.1))?;
     rows.say(&line)?;
     for cell in item.cells.iter().skip(item.labels) {
         let value = printed(alloc, cell.value)?;
         let row = [
             data("item", item.item.as_str()),
             data("field", field_of(*cell)),
-            data(side.key, cell.value.or_text(value.as_str())),
+            data(side.0, cell.value.or_text(value.as_str())),
         ];
         rows.put("item", &row)?;
     }
@@ -198,20 +173,14 @@ fn put_lonely_item(rows: &mut Rows, side: Side, item: &Line<'_>) -> Result<(), A
 
 /// Puts the fields in which two items differ.
 fn put_fields(rows: &mut Rows, old: &Line<'_>, new: &Line<'_>) -> Result<(), AllocError> {
-    for (was, is) in old.cells.iter().zip(new.cells.iter()) {
-        put_field(rows, old.item.as_str(), *was, *is)?;
+    for (a, b) in old.cells.iter().zip(new.cells.iter()) {
+        let was = printed(rows.alloc(), a.value)?;
+        let is = printed(rows.alloc(), b.value)?;
+        if was.as_str() != is.as_str() {
+            put_change(rows, old.item.as_str(), *a, was.as_str(), *b, is.as_str())?;
+        }
     }
     Ok(())
-}
-
-/// Puts a field if its values differ.
-fn put_field(rows: &mut Rows, item: &str, old: Cell<'_>, new: Cell<'_>) -> Result<(), AllocError> {
-    let was = printed(rows.alloc(), old.value)?;
-    let is = printed(rows.alloc(), new.value)?;
-    if was.as_str() == is.as_str() {
-        return Ok(());
-    }
-    put_change(rows, item, old, was.as_str(), new, is.as_str())
 }
 
 /// Puts a field, whose values text prints so.

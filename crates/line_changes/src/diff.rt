@@ -10,7 +10,7 @@ use crate::words::put_words;
 use sii_words::ImageFile;
 use station_files::{ExitStatus, Fault, Store, read_image};
 use station_rows::{Form, Rows};
-use std::alloc::{AllocError, Global};
+use std::alloc::Global;
 use std::io::{Read, Write};
 
 /// Which images are compared, and how.
@@ -48,15 +48,9 @@ pub fn diff_images<R: Read, S: Store, W: Write>(
         (R.remaining input.old) (S.files store.old) (λ first second. RefusesPair compared.entry.hex first second fault)) }
     ensures same { S.files store.new ≡ S.files store.old }
 {
-    let Compared {
-        hex,
-        form,
-        old,
-        new,
-    } = compared;
-    let first = read_image(alloc, hex, old, input, store)?;
-    let second = read_image(alloc, hex, new, input, store)?;
-    print_difference(alloc, form, &first, &second, output)
+    let first = read_image(alloc, compared.hex, compared.old, input, store)?;
+    let second = read_image(alloc, compared.hex, compared.new, input, store)?;
+    print_difference(alloc, compared.form, &first, &second, output)
 }
 
 /// Prints what two images differ in, and returns the status.
@@ -71,18 +65,12 @@ fn print_difference<W: Write>(
     ensures failed { IfErr result IsOfStream }
 {
     let difference = compare(alloc, first, second)?;
-    let rows = rows_of(alloc, form, &difference)?;
-    rows.write(output)?;
-    Ok(difference.status())
-}
-
-/// The rows of what two images differ in.
-fn rows_of(alloc: Global, form: Form, difference: &Difference) -> Result<Rows, AllocError> {
     let mut rows = Rows::new(alloc, form);
     put_heads(&mut rows, difference.old, difference.new)?;
-    put_categories(&mut rows, &difference.old_items, &difference.new_items)?;
+    put_categories(&mut rows, &difference.old_chain, &difference.new_chain)?;
     put_words(&mut rows, &difference.words)?;
-    Ok(rows)
+    rows.write(output)?;
+    Ok(difference.status())
 }
 
 impl Difference {

@@ -5,7 +5,7 @@ ghost use Rattle.line_changes.specs.Difference.{Compares, NothingDiffers, NamesD
 use crate::head::Head;
 use crate::words::{WordChanges, compare_words};
 use sii_words::ImageFile;
-use station_rows::{ItemListing, list_items};
+use station_listing::{ListedChain, list_chain};
 use std::alloc::{AllocError, Global};
 
 /// What two images differ in.
@@ -15,10 +15,10 @@ pub struct Difference {
     pub old: Head,
     /// The head of the second image.
     pub new: Head,
-    /// The items of the first image.
-    pub old_items: ItemListing,
-    /// The items of the second image.
-    pub new_items: ItemListing,
+    /// The categories of the first image.
+    pub old_chain: ListedChain,
+    /// The categories of the second image.
+    pub new_chain: ListedChain,
     /// The words that differ.
     pub words: WordChanges,
 }
@@ -44,8 +44,8 @@ fn compare_parts(alloc: Global, old: &ImageFile, new: &ImageFile) -> Result<Diff
     Ok(Difference {
         old: Head::of(old),
         new: Head::of(new),
-        old_items: list_items(alloc, old)?,
-        new_items: list_items(alloc, new)?,
+        old_chain: list_chain(alloc, old.as_slice())?,
+        new_chain: list_chain(alloc, new.as_slice())?,
         words: compare_words(alloc, old.as_slice(), new.as_slice())?,
     })
 }

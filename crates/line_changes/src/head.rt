@@ -35,10 +35,6 @@ impl Head {
 }
 
 /// Puts a row for each number in which two heads differ: its name, and both values.
-///
-/// # Errors
-///
-/// Memory was refused.
 pub(crate) fn put_heads(rows: &mut Rows, old: Head, new: Head) -> Result<(), AllocError> {
     let (was, is) = (old.identity, new.identity);
     let fields = [

@@ -13,10 +13,6 @@ use std::io;
 use std::io::Write;
 
 /// Puts the process image of a line with these contents, as `layout` lists it, or that there is none. `name` says which one it is.
-///
-/// # Errors
-///
-/// Memory was refused.
 fn put_image(rows: &mut Rows, name: &str, plant: &Plant) -> Result<(), AllocError> {
     match image_of(rows.alloc(), plant) {
         Ok(image) => put_layout(rows, Some(name), &image),
@@ -74,33 +70,19 @@ pub fn print_image<S: Store, W: Write>(
     ensures same { S.files store.new ≡ S.files store.old }
 {
     let after = words_now(alloc, &before.line, store)?;
-    print_other(alloc, &before.words, &after, output)
-}
-
-/// Prints the process image of a line with the contents `after`, if it is another one than with `before`.
-fn print_other<W: Write>(
-    alloc: Global,
-    before: &Plant,
-    after: &Plant,
-    output: &mut W,
-) -> Result<(), Fault>
-    ensures failed { IfErr result IsOfStream }
-{
-    let old = rows_of(alloc, before)?;
-    let new = rows_of(alloc, after)?;
+    let old = rows_of(alloc, &before.words)?;
+    let new = rows_of(alloc, &after)?;
     if old.as_str() != new.as_str() {
         write_image(new.as_str(), output)?;
     }
     Ok(())
 }
 
+/// Writes a process image, after a line that says how many lines it has.
 fn write_image<W: Write>(image: &str, output: &mut W) -> io::Result<()> {
-    writeln!(output, "event image {}", lines_of(image.as_bytes()))?;
+    let bytes = image.as_bytes();
+    let lines = bytes.iter().filter(|byte| **byte == b'\n').count();
+    writeln!(output, "event image {lines}")?;
     write!(output, "{image}")?;
     output.flush()
-}
-
-/// How many lines a text has.
-fn lines_of(text: &[u8]) -> usize {
-    text.iter().filter(|byte| **byte == b'\n').count()
 }

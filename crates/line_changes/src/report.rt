@@ -9,13 +9,13 @@ use crate::checks::checks_of;
 use sii_words::Plant;
 use station_files::{ExitStatus, Fault, Store, load_line, load_slaves};
 use station_listing::CheckByte;
-use station_rows::{Form, Rows, named, said};
+use station_rows::{Form, Rows, data, named, said};
 use station_text::LineFile;
 use std::alloc::{AllocError, Global};
 use std::io::Write;
 
 /// The help text on the option that asks for a report.
-pub const REPORT: &str = "Prints behind everything else, unless a fault ends the work:
+pub const REPORT: &str = "Prints after everything else, unless a fault ends the work:
   slave P word 0xW old 0xO new 0xN
                    word W of slave P had the value O before, and has N now;
                    neighbouring words as plan prints them
@@ -83,13 +83,14 @@ pub(crate) fn words_now<S: Store>(
 }
 
 /// Prints what has changed on a line since `before`: the words that differ, whether the check byte of each slave is right, and whether the
-/// line is in order, which it is where each check byte is right. No file changes.
+/// line is in order, which it is where each check byte is right; as text, or as rows of JSON. No file changes.
 ///
 /// # Errors
 ///
 /// As for `changes_since`; then `File` or `Memory`, as the output answers.
 pub fn print_report<S: Store, W: Write>(
     alloc: Global,
+    form: Form,
     before: &Before,
     store: &mut S,
     output: &mut W,
@@ -98,13 +99,13 @@ pub fn print_report<S: Store, W: Write>(
     ensures same { S.files store.new ≡ S.files store.old }
 {
     let report = changes_since(alloc, before, store)?;
-    let rows = rows_of(alloc, &report)?;
+    let rows = rows_of(alloc, form, &report)?;
     rows.write(output)
 }
 
 /// The rows of a report.
-fn rows_of(alloc: Global, report: &Report) -> Result<Rows, AllocError> {
-    let mut rows = Rows::new(alloc, Form::Text);
+fn rows_of(alloc: Global, form: Form, report: &Report) -> Result<Rows, AllocError> {
+    let mut rows = Rows::new(alloc, form);
     put_changes(&mut rows, &report.changes)?;
     let mut wrong = 0usize;
     for (slave, check) in report.checks.iter().enumerate() {
@@ -113,18 +114,18 @@ fn rows_of(alloc: Global, report: &Report) -> Result<Rows, AllocError> {
             wrong = wrong.saturating_add(1);
         }
     }
-    say_end(&mut rows, wrong)?;
-    Ok(rows)
-}
-
-/// Says whether a line with so many wrong check bytes is in order.
-fn say_end(rows: &mut Rows, wrong: usize) -> Result<(), AllocError> {
     let starts = "a slave acts on its new words only when it starts again";
     let line = match wrong {
-        0 => format!(in rows.alloc(); "line in order; {starts}")?,
-        _ => format!(in rows.alloc(); "line not in order, wrong check bytes {wrong}; {starts}")?,
+        0 => format!(in alloc; "line in order; {starts}")?,
+        _ => format!(in alloc; "line not in order, wrong check bytes {wrong}; {starts}")?,
     };
-    rows.say(&[said("", line.as_str())])
+    let row = [
+        said("", line.as_str()),
+        data("in_order", wrong == 0),
+        data("wrong", wrong),
+    ];
+    rows.put("order", &row)?;
+    Ok(rows)
 }
 
 /// Reads a line and its words as its files hold them, if a report is asked for. No file changes.
@@ -149,13 +150,14 @@ pub fn look_before<S: Store>(
     Ok(Some(Before { line, words }))
 }
 
-/// Prints the report behind work that ended with this status, if one is asked for. After a fault nothing is reported. No file changes.
+/// Prints the report after work that ended with this status, if one is asked for. After a fault nothing is reported. No file changes.
 ///
 /// # Errors
 ///
 /// The fault of `look_before`; then as for `print_report`.
 pub fn report_after<S: Store, W: Write>(
     alloc: Global,
+    form: Form,
     looked: Result<Option<Before>, Fault>,
     status: ExitStatus,
     store: &mut S,
@@ -165,7 +167,7 @@ pub fn report_after<S: Store, W: Write>(
 {
     match looked {
         _ if !matches!(status, ExitStatus::Done | ExitStatus::Refused) => Ok(()),
-        Ok(Some(before)) => print_report(alloc, &before, store, output),
+        Ok(Some(before)) => print_report(alloc, form, &before, store, output),
         Ok(None) => Ok(()),
         Err(fault) => Err(fault),
     }

@@ -17,10 +17,6 @@ pub struct WordChanges {
 }
 
 /// The words in which two lists of at most 4,096 words differ.
-///
-/// # Errors
-///
-/// Memory was refused.
 pub(crate) fn compare_words(
     alloc: Global,
     old: &[u16],
@@ -54,17 +50,12 @@ fn compare_same(alloc: Global, old: &[u16], new: &[u16]) -> Result<WordChanges, 
 const WORDS_OF_A_LINE: usize = 8;
 
 /// Puts the words that differ. Text has neighbouring ones on a line, some at a time.
-///
-/// # Errors
-///
-/// Memory was refused.
 pub(crate) fn put_words(rows: &mut Rows, changes: &WordChanges) -> Result<(), AllocError> {
     for (old, new) in changes.old.iter().zip(changes.new.iter()) {
         let mut at = old.first;
         let old_lines = old.words.as_slice().chunks(WORDS_OF_A_LINE);
         let new_lines = new.words.as_slice().chunks(WORDS_OF_A_LINE);
         for (olds, news) in old_lines.zip(new_lines) {
-            say_line(rows, at, olds, news)?;
             put_line(rows, at, olds, news)?;
             at = at.saturating_add(WORDS_OF_A_LINE as u16);
         }
@@ -72,21 +63,16 @@ pub(crate) fn put_words(rows: &mut Rows, changes: &WordChanges) -> Result<(), Al
     Ok(())
 }
 
-/// Says neighbouring words, from word `at` on: the number of a single word, and both values; or the numbers of the first and the last word,
-/// and all old and all new values.
-fn say_line(rows: &mut Rows, at: u16, olds: &[u16], news: &[u16]) -> Result<(), AllocError> {
+/// Puts a row for each of neighbouring words, from word `at` on. Text has the number of a single word, and both values; or the numbers of the
+/// first and the last word, and all old and all new values.
+fn put_line(rows: &mut Rows, at: u16, olds: &[u16], news: &[u16]) -> Result<(), AllocError> {
     let (was, is) = match olds.len() {
         1 => ("", ""),
         _ => ("old", "new"),
     };
     let [from, to] = said_place(at, olds.len());
     let old = said(was, Value::Words(olds));
-    let new = said(is, Value::Words(news));
-    rows.say(&[from, to, old, new])
-}
-
-/// Puts a row for each of neighbouring words, from word `at` on.
-fn put_line(rows: &mut Rows, at: u16, olds: &[u16], news: &[u16]) -> Result<(), AllocError> {
+    rows.say(&[from, to, old, said(is, Value::Words(news))])?;
     for (place, (a, b)) in olds.iter().zip(news.iter()).enumerate() {
         let word = usize::from(at).saturating_add(place);
         rows.put("word", &[data("word", word), data("a", *a), data("b", *b)])?;

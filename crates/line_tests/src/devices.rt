@@ -62,7 +62,7 @@ pub(crate) fn put(bytes: &mut [u8], from: usize, new: &[u8]) {
     }
 }
 
-/// The bytes of a device, and zeros behind them.
+/// The bytes of a device, and zeros after them.
 pub(crate) fn bytes_of(device: &Device) -> [u8; 1024] {
     let mut bytes = [0u8; 1024];
     put(&mut bytes, 0, device.front);

@@ -6,7 +6,7 @@ use sii_bytes::{
 };
 use std::alloc::Global;
 
-/// The codes that zeros get: from their head, their judgement, a new alias, category 0, the removal of a category, an image, as a line, and
+/// The codes that zeros get: from their head, their validation, a new alias, category 0, the removal of a category, an image, as a line, and
 /// a new alias once their check byte is right.
 type Codes = [u32; 8];
 

@@ -5,6 +5,7 @@ use crate::capture::Capture;
 use crate::pcap::Way;
 use crate::progress::Progress;
 use ecat_frame::{Command, Datagram, Frame, MAX_LEN};
+use sii_words::MAX_SLAVES;
 use site_file::RandomAccessFile;
 use std::io;
 use std::io::Write;
@@ -15,8 +16,26 @@ use wire_frames::Wire;
 /// The register of control and status of an EEPROM (ETG.1000.4).
 const CONTROL: u32 = 0x0502;
 
-/// The register of the words that were read.
-const DATA: u32 = 0x0508;
+/// The word that tells the size of an EEPROM in KiBit, less one (ETG.1000.6, slave information interface).
+const SIZE: u16 = 0x3e;
+
+/// The most words of an EEPROM that are worked on.
+const MOST_WORDS: u64 = 4096;
+
+/// What was seen of a slave.
+#[derive(Clone, Copy)]
+struct SeenSlave {
+    /// Its station address.
+    station: u16,
+    /// How many of its words were read, from word 0 on.
+    read: u16,
+    /// Where it was told to read last.
+    at: u16,
+    /// How many words it has by its word 0x3E; 0 until that was read.
+    size: u16,
+    /// How many words it is to write still, as far as that is known.
+    left: u32,
+}
 
 /// A wire, the capture in which its frames are written down, and the progress for which they count, if there are these. It answers each call as
 /// the wire does.
@@ -25,17 +44,20 @@ const DATA: u32 = 0x0508;
 /// that is sent again, and each EtherCAT frame that comes, also one that is late, falsified or of somebody else. A frame that can't be sent
 /// isn't written down.
 ///
-/// A slave is busy from the command to read or write a word to the poll that shows it idle. A word that is written or read again counts again.
+/// A slave is busy from the command to read or write a word to the poll that shows it idle. A word that is written again counts again, and one that
+/// is read again doesn't. The words behind the size that word 0x3E tells don't count.
 #[derive(Drop)]
 pub struct ObservedWire<'o, W, F, T, R> {
     wire: W,
     capture: Option<&'o Capture<F>>,
     progress: Option<&'o Progress<T>>,
     rt: &'o R,
-    /// The station addresses of the slaves that were told a command, in that order.
-    stations: [u16; 64],
+    /// The slaves that were told a command or polled, in that order.
+    slaves: [SeenSlave; MAX_SLAVES],
     /// How many there are.
     reported: usize,
+    /// Whether a slave was told to write a word.
+    is_writing: bool,
 }
 
 /// So many of these bytes, from the first on, or all of them if there are fewer.
@@ -73,8 +95,15 @@ impl<'o, W: Wire, F: RandomAccessFile + Drop, T: Write, R: Wait + Clock> Observe
             capture,
             progress,
             rt,
-            stations: [0; 64],
+            slaves: [SeenSlave {
+                station: 0,
+                read: 0,
+                at: 0,
+                size: 0,
+                left: 0,
+            }; MAX_SLAVES],
             reported: 0,
+            is_writing: false,
         }
     }
 
@@ -85,46 +114,116 @@ impl<'o, W: Wire, F: RandomAccessFile + Drop, T: Write, R: Wait + Clock> Observe
         }
     }
 
-    /// The place of a slave among those that were told a command.
-    fn place_of(&mut self, station: u16) -> usize {
-        for place in 0..self.reported.min(64) {
-            if self.stations[place] == station {
+    /// The place of a slave among those that were seen.
+    fn place_of(&mut self, progress: &Progress<T>, station: u16) -> usize {
+        for place in 0..self.reported.min(MAX_SLAVES) {
+            if self.slaves[place].station == station {
                 return place;
             }
         }
         let place = self.reported;
-        if place < 64 {
-            self.stations[place] = station;
+        if place < MAX_SLAVES {
+            self.slaves[place].station = station;
             self.reported = place + 1;
+            progress.add_slave();
         }
         place
     }
 
-    /// Counts what a datagram says of a slave's words, as it goes or comes back: words are to be read, or one written; words were read; or the
-    /// slave is idle.
-    fn count(&mut self, progress: &Progress<T>, way: Way, datagram: Datagram<'_>) {
-        let register = datagram.address / 65536;
-        let is_busy = match (way, datagram.command, register, datagram.content) {
-            (Way::Out, Command::Fpwr, CONTROL, [_, command, _, _, _, _, ..]) => {
-                match command % 8 {
-                    1 => true,
-                    2 => {
-                        progress.add_word();
-                        true
-                    }
-                    _ => return,
+    /// A slave is told to read from this word on. It has read those before it.
+    fn note_reading(&mut self, progress: &Progress<T>, place: usize, word: u16) {
+        let Some(slave) = self.slaves.get_mut(place) else {
+            return;
+        };
+        slave.at = word;
+        let read = if slave.size == 0 {
+            word
+        } else {
+            word.min(slave.size)
+        };
+        if read <= slave.read {
+            return;
+        }
+        progress.add_read(u64::from(read - slave.read));
+        slave.read = read;
+        if read == slave.size && !self.is_writing {
+            progress.add_done();
+        }
+    }
+
+    /// A slave shows these bytes behind control and status: the number of a word, and words from there on.
+    fn note_words(&mut self, progress: &Progress<T>, place: usize, shown: &[u8]) {
+        let Some(slave) = self.slaves.get_mut(place) else {
+            return;
+        };
+        if slave.size > 0 || slave.at > SIZE {
+            return;
+        }
+        let behind = 4 + 2 * usize::from(SIZE - slave.at);
+        match shown.get(behind..behind + 2) {
+            Some([low, high]) => {
+                let size = 64 * (u64::from(u16::from_le_bytes([*low, *high])) + 1);
+                slave.size = size.min(MOST_WORDS) as u16;
+                progress.add_to_read(size.min(MOST_WORDS));
+            }
+            _ => {}
+        }
+    }
+
+    /// A slave is told to write a word.
+    fn note_writing(&mut self, progress: &Progress<T>, place: usize) {
+        progress.add_word();
+        if !self.is_writing {
+            self.is_writing = true;
+            self.begin_writing(progress);
+        }
+        match self.slaves.get_mut(place) {
+            Some(slave) if slave.left > 0 => {
+                slave.left -= 1;
+                if slave.left == 0 {
+                    progress.add_done();
                 }
             }
-            (Way::Back, Command::Fprd, CONTROL, [_, status])
-                if datagram.counter == 1 && *status < 0x80 => { false }
-            (Way::Back, Command::Fprd, DATA, words) if datagram.counter == 1 => {
-                progress.add_read((words.len() / 2) as u64);
-                return;
+            _ => {}
+        }
+    }
+
+    /// Notes how many words each slave is to write, if that is known. The slaves were seen in the order of the line.
+    fn begin_writing(&mut self, progress: &Progress<T>) {
+        let expected = progress.expected().unwrap_or([0; 64]);
+        let mut slaves = 0u64;
+        let mut words = 0u64;
+        for (slave, left) in self.slaves.iter_mut().zip(expected) {
+            slave.left = left;
+            slaves = slaves.saturating_add(u64::from(left > 0));
+            words = words.saturating_add(u64::from(left));
+        }
+        progress.begin_writing(slaves, words);
+    }
+
+    /// Counts what a datagram says of a slave's words, as it goes or comes back: words are to be read, or one written; or the slave is idle, and
+    /// shows words.
+    fn count(&mut self, progress: &Progress<T>, way: Way, datagram: Datagram<'_>) {
+        let register = datagram.address / 65536;
+        let station = (datagram.address % 65536) as u16;
+        match (way, datagram.command, register, datagram.content) {
+            (Way::Out, Command::Fpwr, CONTROL, [_, command, low, high, _, _, ..]) => {
+                let place = self.place_of(progress, station);
+                match command % 8 {
+                    1 => self.note_reading(progress, place, u16::from_le_bytes([*low, *high])),
+                    2 => self.note_writing(progress, place),
+                    _ => return,
+                }
+                progress.set_busy(place, true);
             }
-            _ => return,
-        };
-        let place = self.place_of((datagram.address % 65536) as u16);
-        progress.set_busy(place, is_busy);
+            (Way::Back, Command::Fprd, CONTROL, [_, status, shown @ ..])
+                if datagram.counter == 1 && *status < 0x80 => {
+                let place = self.place_of(progress, station);
+                progress.set_busy(place, false);
+                self.note_words(progress, place, shown);
+            }
+            _ => {}
+        }
     }
 
     /// Counts what a frame says, as it goes or comes.

@@ -1,7 +1,8 @@
-//! What a run has done so far, told on a terminal.
+//! What a run has done so far, shown on a terminal.
 ghost use Rattle.std.specs.Io.{WritesAtMost};
 
 use crate::stage::{Stage, line_of};
+use sii_words::MAX_SLAVES;
 use std::io;
 use std::io::Write;
 use std::rt::Clock;
@@ -21,6 +22,8 @@ const ERASE: &[u8] = b"\r\x1b[K";
 
 /// What a run has done so far. Several threads may count.
 ///
+/// How long it takes still is told by the pace so far: that of reading, until a word is written, and then that of writing.
+///
 /// One line on a terminal tells it, once the run has taken a second, and ten times a second at most. Each line is drawn over the one before
 /// it. If the terminal can't be written, the run goes on without it.
 #[derive(Drop)]
@@ -28,7 +31,13 @@ pub struct Progress<T> {
     commands: AtomicU64,
     durable: AtomicU64,
     read: AtomicU64,
+    to_read: AtomicU64,
     words: AtomicU64,
+    to_write: AtomicU64,
+    done: AtomicU64,
+    slaves: AtomicU64,
+    /// How many words each slave is to write, if that is known.
+    expected: Option<[u32; 64]>,
     /// Bit i stands for slave i, which is busy with a word.
     busy: AtomicU64,
     line: Mutex<Line<T>>,
@@ -40,6 +49,9 @@ struct Line<T> {
     terminal: T,
     /// When it is drawn next, by the monotonic clock.
     next: Duration,
+    /// When the first words were seen to be read, and the first ones to be written.
+    reading: Option<Duration>,
+    writing: Option<Duration>,
     is_drawn: bool,
     /// Whether other text stands on the line, whose end hasn't come yet. No line is drawn over it.
     is_taken: bool,
@@ -60,10 +72,45 @@ impl<T: Write> Line<T> {
         }
         self.next = now.saturating_add(Duration::from_millis(AGAIN));
         self.is_drawn = true;
-        if let Ok(text) = line_of(stage) {
+        let left = self.seconds_left(now, stage);
+        if let Ok(text) = line_of(Stage { left, ..stage }) {
             let _ = self.terminal.write_all(text.as_slice());
         }
     }
+
+    /// How many seconds are left, as it seems now; 0 where that isn't known.
+    fn seconds_left(&self, now: Duration, stage: Stage) -> u64 {
+        let (since, done, all) = if stage.words > 0 {
+            (self.writing, stage.words, stage.to_write)
+        } else {
+            (self.reading, stage.read, stage.to_read)
+        };
+        match since {
+            Some(since) => seconds_for(now.saturating_sub(since), done, all),
+            None => 0,
+        }
+    }
+
+    /// Notes when the first words are read, and when the first ones are written.
+    fn note_begin(&mut self, now: Duration, stage: Stage) {
+        if stage.read > 0 && self.reading.is_none() {
+            self.reading = Some(now);
+        }
+        if stage.words > 0 && self.writing.is_none() {
+            self.writing = Some(now);
+        }
+    }
+}
+
+/// How many seconds the rest of so many takes, of which this many took so long; 0 where none is left.
+fn seconds_for(taken: Duration, done: u64, all: u64) -> u64 {
+    if done == 0 {
+        return 0;
+    }
+    let seconds = taken.as_secs().saturating_mul(1000);
+    let milliseconds = seconds.saturating_add(u64::from(taken.subsec_millis()));
+    let rest = all.saturating_sub(done).saturating_mul(milliseconds);
+    (rest / done).div_ceil(1000)
 }
 
 impl<T: Write> Progress<T> {
@@ -80,11 +127,18 @@ impl<T: Write> Progress<T> {
             commands: AtomicU64::new(0),
             durable: AtomicU64::new(0),
             read: AtomicU64::new(0),
+            to_read: AtomicU64::new(0),
             words: AtomicU64::new(0),
+            to_write: AtomicU64::new(0),
+            done: AtomicU64::new(0),
+            slaves: AtomicU64::new(0),
+            expected: None,
             busy: AtomicU64::new(0),
             line: Mutex::new(Line {
                 terminal,
                 next: now.saturating_add(Duration::from_millis(FIRST)),
+                reading: None,
+                writing: None,
                 is_drawn: false,
                 is_taken: false,
             }),
@@ -94,6 +148,38 @@ impl<T: Write> Progress<T> {
     /// The run is one of so many commands.
     pub fn expect(&self, commands: usize) {
         self.commands.store(commands as u64, SeqCst);
+    }
+
+    /// Each slave is to write so many words.
+    pub fn expect_words(&mut self, words: [u32; 64]) {
+        self.expected = Some(words);
+    }
+
+    /// How many words each slave is to write, if that is known.
+    pub(crate) fn expected(&self) -> Option<[u32; 64]> {
+        self.expected
+    }
+
+    /// So many slaves are to write so many words. None of them is done.
+    pub(crate) fn begin_writing(&self, slaves: u64, words: u64) {
+        self.done.store(0, SeqCst);
+        self.slaves.store(slaves, SeqCst);
+        self.to_write.store(words, SeqCst);
+    }
+
+    /// Counts a slave that has words to be read.
+    pub(crate) fn add_slave(&self) {
+        self.slaves.fetch_add(1, SeqCst);
+    }
+
+    /// Counts a slave whose words are all read, or written.
+    pub(crate) fn add_done(&self) {
+        self.done.fetch_add(1, SeqCst);
+    }
+
+    /// Counts words that are to be read from a slave.
+    pub(crate) fn add_to_read(&self, words: u64) {
+        self.to_read.fetch_add(words, SeqCst);
     }
 
     /// Counts commands that became durable.
@@ -113,7 +199,7 @@ impl<T: Write> Progress<T> {
 
     /// Remembers whether a slave is busy with a word.
     pub(crate) fn set_busy(&self, slave: usize, is_busy: bool) {
-        if slave >= 64 {
+        if slave >= MAX_SLAVES {
             return;
         }
         let bit = 1u64 << slave;
@@ -129,8 +215,13 @@ impl<T: Write> Progress<T> {
             commands: self.commands.load(SeqCst),
             durable: self.durable.load(SeqCst),
             read: self.read.load(SeqCst),
+            to_read: self.to_read.load(SeqCst),
             words: self.words.load(SeqCst),
+            to_write: self.to_write.load(SeqCst),
             busy: self.busy.load(SeqCst).count_ones(),
+            finished: self.done.load(SeqCst),
+            slaves: self.slaves.load(SeqCst),
+            left: 0,
         }
     }
 
@@ -140,7 +231,9 @@ impl<T: Write> Progress<T> {
             return;
         };
         if let Some(mut line) = self.line.try_lock() {
-            line.draw(now, self.stage());
+            let stage = self.stage();
+            line.note_begin(now, stage);
+            line.draw(now, stage);
         }
     }
 
@@ -151,7 +244,7 @@ impl<T: Write> Progress<T> {
     }
 
     /// Erases the line, and writes these bytes. No line is drawn until they end with a line feed. Then they are flushed, so that whole lines
-    /// stand on the terminal; whether that fails is told by the next flush.
+    /// stand on the terminal; whether that fails is reported by the next flush.
     fn give_way<W: Write, R: Wait>(&self, rt: &R, writer: &mut W, bytes: &[u8]) -> io::Result<usize>
         ensures { WritesAtMost result bytes.now }
     {

@@ -166,7 +166,7 @@ impl<'p, D: Device, T: Write, R: Clock> Device for Watched<'p, D, T, R> {
 
 /// The device inside lends and takes back. What is lent counts for the same progress.
 impl<'p, D: Lends, T: Write, R: Clock> Lends for Watched<'p, D, T, R> {
-    /// What is told of the device inside.
+    /// What is reported of the device inside.
     type Logged = D::Logged;
 
     ghost tells = { λ watched. D.tells watched.device };

@@ -181,7 +181,7 @@ fn acted<'f>(alloc: Global, site: Wired<'f>, act: Act) -> (TestWire<'f>, Left) {
     (wire, left)
 }
 
-/// What a step by threads has left. None if the line isn't brought up, memory was refused, or a station that was opened told no totals.
+/// What a step by threads has left. None if the line isn't brought up, memory was refused, or a station that was opened reported no totals.
 fn ran_by_threads<'f, R: Wait + Threads + Sync>(
     rt: &R,
     alloc: Global,
@@ -360,7 +360,7 @@ fn frames_turned_in_a_run_by_threads_end_well_or_stop(rt: HostRuntime) {
     }
 }
 
-/// A power cut of the slaves in the midst of the word behind so many.
+/// A power cut of the slaves in the midst of the word after so many.
 fn cut(words: u32, left: Pattern) -> Trouble {
     Trouble {
         cut: Some((words, left)),

@@ -59,7 +59,7 @@ const DURABLE: &[(&str, u64)] = &[
     (" durable 3 ", 3),
 ];
 
-/// What a run told.
+/// What a run reported.
 #[derive(Clone, Copy)]
 pub(crate) struct Reported {
     /// Whether it is all that a run without trouble prints.
@@ -74,7 +74,7 @@ const NOTHING: Reported = Reported {
     durable: None,
 };
 
-/// What a run that printed this told. None: it has no totals.
+/// What a run that printed this reported. None: it has no totals.
 fn reported_in(text: &[u8]) -> Option<Reported> {
     let text = str::from_utf8(text).unwrap_or("");
     for (reported, count) in DURABLE {
@@ -88,7 +88,7 @@ fn reported_in(text: &[u8]) -> Option<Reported> {
     None
 }
 
-/// Runs the commands by threads on this site. None: memory was refused, or a station that was opened told no totals.
+/// Runs the commands by threads on this site. None: memory was refused, or a station that was opened reported no totals.
 fn reported_by_threads<D: Lends + Send, R: Wait + Threads + Sync>(
     rt: &R,
     alloc: Global,
@@ -107,7 +107,7 @@ fn reported_by_threads<D: Lends + Send, R: Wait + Threads + Sync>(
     reported_in(&text)
 }
 
-/// What a run by threads on this line told. None: memory was refused, the parts aren't a line's, or a station that was opened told no totals.
+/// What a run by threads on this line reported. None: memory was refused, the parts aren't a line's, or a station that was opened reported no totals.
 pub(crate) fn reported_on<R: Wait + Threads + Sync, W: Wire + Send>(
     rt: &R,
     alloc: Global,

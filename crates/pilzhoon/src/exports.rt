@@ -30,7 +30,7 @@ pub extern "C" fn pz_read_head(alloc: Global, image: &[u8], head: &mut Head) -> 
     sii_bytes::read_head(alloc, image, head)
 }
 
-/// Judges an image, as `sii_bytes::validate_image` does.
+/// Validates an image, as `sii_bytes::validate_image` does.
 #[unsafe(no_mangle)]
 pub extern "C" fn pz_judge(alloc: Global, image: &[u8], detail: &mut usize) -> u32
     ensures { Validates image.now result detail.new }

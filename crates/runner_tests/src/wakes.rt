@@ -3,7 +3,7 @@
 //! In each trial one thread sleeps at a desk, and this one makes a change, with nobody else awake who could wake it by accident. Where a
 //! wakeup is lost, the trial doesn't end.
 
-ghost use Rattle.std.specs.Prelude.{◌≡◌, [], IfSome};
+ghost use Rattle.std.specs.Prelude.{◌≡◌, ◌<◌, [], IfSome};
 ghost use denote.Param.Send.{IsSync};
 
 use book_core::Core;
@@ -401,12 +401,12 @@ fn wakes_at<
     requires none { core.accepted ≡ [] }
     requires tickets { (tickets.name ≡ T.name) × (tickets.count ≡ T.parts) }
     requires refusals { (refusals.name ≡ R.name) × (refusals.count ≡ R.parts) }
+    requires parts { (1 < tickets.count) × (1 < refusals.count) }
 {
     let (before, _sleeper, _change, end) = *trial;
-    let desk = Desk::<T, R>::of(alloc, core, tickets, refusals)
+    let (desk, share) = Desk::<T, R>::with_share(alloc, core, tickets, refusals)
         .ok()
         .expect(rt, "memory");
-    let share = desk.share(rt).ok().expect(rt, "a share");
     let mut submitter = Submitter { share, last: None };
     for step in before {
         make(rt, alloc, &desk, &mut submitter, step);

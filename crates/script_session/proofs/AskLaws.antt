@@ -95,16 +95,3 @@ all-received commands receipts durable many in_order each = same-commands comman
     subst (λ (n : ℕ). slice_get commands n ≡ Some one.command) (in_order place one at) stands.command)
 
 -- ---- the submitter
-
--- a submitter that has no result yet
-pub comes-first : (commands : List Command) (status : ExitStatus) (counts : ShareCounts) (came : Option (Result (Vec Numbered) Fault)) → is_some came ≡ false → ComesTo commands status counts came → (status ≡ Done) × (counts.tickets ≡ 0)
-comes-first commands status counts None none comes = comes
-comes-first commands status counts (Some result) none comes = absurd cc
-
-pub comes-to : (commands asked : List Command) (before after : ExitStatus) (had has : ShareCounts) (came : Result (Vec Numbered) Fault) → asked ≡ commands → (before ≡ Done) × (had.tickets ≡ 0) → IfOk came (λ (receipts : Vec Numbered). Receives asked before after had has receipts.items) → IfErr came GivesUp
-    → ComesTo commands after has (Some came)
-comes-to commands asked before after had has (Ok receipts) same first got gives = subst (λ (l : List Command). Receives l Done after no_counts has receipts.items) same (record {
-  asked = record { among = got.asked.among; all = λ done. (refl, (got.asked.all done).1); counted = let a = got.asked.counted in let b = first.1 in omega (arith, a, b) };
-  in_order = got.in_order;
-})
-comes-to commands asked before after had has (Err fault) same first got gives = gives

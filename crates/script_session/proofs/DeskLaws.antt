@@ -205,17 +205,14 @@ module _ (opened : Book) (commands : List Command) (status : ExitStatus) (counts
 
 -- ---- the disk of a line that is taken apart
 
-pub servable : {E : Type 0} (result : Result Sites E) (sites : Sites) (capacity : ℕ) (entire : State) (disk : Option (Vec ℕ)) (halves : List SlaveHalf) → IsSomeAnd disk (λ (b : Vec ℕ). 8 + capacity ≤ length b.items) → IfSome disk (λ (b : Vec ℕ). b.items ≡ entire.disk.bytes)
+pub servable : (sites : Sites) (capacity : ℕ) (entire : State) (disk : Option (Vec ℕ)) (halves : List SlaveHalf) → IsSomeAnd disk (λ (b : Vec ℕ). 8 + capacity ≤ length b.items) → IfSome disk (λ (b : Vec ℕ). b.items ≡ entire.disk.bytes)
     → halves ≡ entire.halves → HasDiskOf disk sites.disk → sites.disk.seen.past ≡ [] → AllPlaced BeginsWith 0 halves sites.slaves.items
-    → IfOk result (λ (same : Sites). (same ≡ sites) × OwnParts (λ (s : SiteValue). s.line) same.disk same.slaves.items same.cycle) → IfOk result (λ (same : Sites). IsServable capacity entire same)
-servable (Ok same) sites capacity entire (Some b) halves long bytes held disk new slaves is =
-    let owned : OwnParts (λ (s : SiteValue). s.line) sites.disk sites.slaves.items sites.cycle = subst (λ (x : Sites). OwnParts (λ (s : SiteValue). s.line) x.disk x.slaves.items x.cycle) is.0 is.1 in
-    subst (λ (x : Sites). IsServable capacity entire x) (sym is.0) (record {
-      separate = record { disk = disk ∙ ap of_bytes bytes; new = new; slaves = subst (λ (l : List SlaveHalf). AllPlaced BeginsWith 0 l sites.slaves.items) held slaves };
-      own = record { owned = owned; long = subst (λ (d : Disk). 8 + capacity ≤ length d.bytes) (sym disk) long };
-    })
-servable (Ok same) sites capacity entire None halves long bytes held disk new slaves is = absurd long
-servable (Err fault) sites capacity entire disk halves long bytes held of new slaves is = tt
+    → OwnParts (λ (s : SiteValue). s.line) sites.disk sites.slaves.items sites.cycle → IsServable capacity entire sites
+servable sites capacity entire (Some b) halves long bytes held disk new slaves owned = record {
+  separate = record { disk = disk ∙ ap of_bytes bytes; new = new; slaves = subst (λ (l : List SlaveHalf). AllPlaced BeginsWith 0 l sites.slaves.items) held slaves };
+  own = record { owned = owned; long = subst (λ (d : Disk). 8 + capacity ≤ length d.bytes) (sym disk) long };
+}
+servable sites capacity entire None halves long bytes held disk new slaves owned = absurd long
 
 -- ---- a line that was served at a desk
 

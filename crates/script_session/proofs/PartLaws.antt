@@ -102,13 +102,3 @@ all_next P xs i x all here one =
     take_next [] i x here = absurd cc
     take_next (y ∷ xs) zero x here = let same : y ≡ x = cc in ap (λ z. z ∷ []) same
     take_next (y ∷ xs) (suc i) x here = ap (λ l. y ∷ l) (take_next xs i x here)
-
-pub followed_together : {D : Type 0} (follows : D → Seen → Type 0) (ends : Ends SiteValue) (workers : List (Stay SiteValue SlaveLog))
-    → IsFlushed ends.flusher.log ends.flusher.start.seen ends.flusher.site.seen
-    → IsFollowed follows ends.flusher.site.seen → workers ≡ ends.workers.items → AllByRecursion (IsWorkFollowed follows) workers
-    → AreFollowed follows ends
-followed_together follows ends workers flushed followed same all = record {
-  flushed = flushed;
-  followed = followed;
-  workers = subst (λ (l : List (Stay SiteValue SlaveLog)). AllByRecursion (IsWorkFollowed follows) l) same all;
-}

@@ -32,14 +32,6 @@ before-next P xs place x at holds before k y inside here = elim (leb_tells place
 ]
 
 module _ {D T : Type 0} (follows : D → Seen → Type 0) (well : D → Type 0) (tells : D → T → Type 0) where
-  -- a device of which something is told has followed its site
-  pub reported_followed : (reported : PartLog T) (seen : Seen) → IsFollowed (Telling follows well tells reported) seen → IsFollowed follows seen
-  reported_followed reported seen is = (is.0, is.1.0)
-
-  pub reported_worked : (reported : PartLog T) (end : Stay SiteValue SlaveLog) → IsWorkFollowed (Telling follows well tells reported) end
-      → IsWorkFollowed follows end
-  reported_worked reported end is = record { worked = is.worked; followed = reported_followed reported end.site.seen is.followed }
-
   -- one end more
   pub reported_more : (tellings : List (PartLog T)) (ends : List (Stay SiteValue SlaveLog)) (reported : PartLog T) (end : Stay SiteValue SlaveLog)
       → AreReportedOf follows well tells tellings ends → IsWorkFollowed (Telling follows well tells reported) end

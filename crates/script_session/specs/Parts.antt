@@ -17,7 +17,7 @@ use Rattle.station_jobs.specs.declared.log.SlaveLog.{SlaveLog}
 use Rattle.station_jobs.specs.Ends.{Stay}
 use Rattle.station_jobs.specs.Flushing.{IsFlushed}
 use Rattle.station_jobs.specs.Working.{IsWorked}
-use Rattle.station_threads.specs.declared.parts.PerDevice.{PerDevice}
+use Rattle.station_threads.specs.declared.sites.Sites.{Sites as SitesOf}
 use Rattle.station_threads.specs.declared.closing.Ends.{Ends}
 use Rattle.script_session.specs.declared.logs.PartLog.{PartLog}
 use Rattle.script_session.specs.declared.logs.DeskLog.{DeskLog}
@@ -29,7 +29,7 @@ use Rattle.station_threads.specs.Sites.{OwnParts, AreEndsOfSites, IsEndOfTurns}
 
 -- a site for the disk, one for each slave, and one for the process data
 abbrev pub Sites : Type 0
-Sites = PerDevice SiteValue SiteValue SiteValue
+Sites = SitesOf SiteValue
 
 -- the site holds this EEPROM half for this slave
 abbrev pub HasHalf : ℕ → SlaveHalf → SiteValue → Type 0

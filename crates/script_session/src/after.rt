@@ -1,4 +1,4 @@
-//! What goes behind a desk on its line: a recovery, the commands that weren't submitted there, on this thread, and saving.
+//! What comes after a desk on its line: a recovery, the commands that weren't submitted there, on this thread, and saving.
 ghost use Rattle.std.specs.Prelude.{◌≡◌, length, IfErr, IfOk, IsTrue, OnOk};
 ghost use Rattle.station_files.specs.Files.{ChangesAmong};
 ghost use Rattle.station_line.specs.Site.{HoldsSite, IsFollowed, files_of};
@@ -27,7 +27,7 @@ pub struct DeskLeft<S> {
     pub commands: Vec<Command>,
 }
 
-/// How the work on a line ended, and what is told of its device.
+/// How the work on a line ended, and what is reported of its device.
 #[derive(Drop)]
 pub struct LineEnd<T> {
     /// The status of the answers that were given, or the fault that ended the work.
@@ -141,7 +141,7 @@ fn save_station<D: Lends, S: Store>(
     }
 }
 
-/// What is told of the device of a line that isn't worked on any more.
+/// What is reported of the device of a line that isn't worked on any more.
 fn reported_of<D: Lends>(site: ShadowSite<D>) -> D::Logged
     ensures { IsFollowed (Tells D.follows D.tells result) site.seen }
 {

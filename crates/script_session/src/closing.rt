@@ -28,7 +28,7 @@ pub struct Ending {
     pub status: ExitStatus,
     /// Why the desk wasn't closed, if it wasn't.
     pub closed: Result<(), CloseFault>,
-    /// The fault that the user is told of, if there is one. The desk can be closed all the same: where an answer or the totals couldn't be
+    /// The fault that is reported to the user, if there is one. The desk can be closed all the same: where an answer or the totals couldn't be
     /// printed, or memory for a receipt was refused.
     pub reported: Result<(), Fault>,
 }
@@ -97,7 +97,7 @@ fn received(
     }
 }
 
-/// What the user is told, from the result of the submitter and that of closing the desk.
+/// What is reported to the user, from the result of the submitter and that of closing the desk.
 fn reported_of(asked: Result<(), Fault>, ended: Result<(), Fault>) -> Result<(), Fault>
     ensures good { OnOk result ((asked ≡ Ok tt) × (ended ≡ Ok tt)) }
     ensures fault { IfErr result (λ fault. IsOfStream fault ⊎ (ended ≡ Err fault) ⊎ ((asked ≡ Err fault) × (ended ≡ Ok tt))) }
@@ -108,7 +108,7 @@ fn reported_of(asked: Result<(), Fault>, ended: Result<(), Fault>) -> Result<(),
     }
 }
 
-/// The fault that the user is told of where the submitter gave up: its own where a stream failed or memory was refused, otherwise that of the
+/// The fault that is reported to the user where the submitter gave up: its own where a stream failed or memory was refused, otherwise that of the
 /// desk, if there is one.
 fn first_of(fault: Fault, ended: Result<(), Fault>) -> Fault
     ensures { IsOfStream result ⊎ (ended ≡ Err result) ⊎ ((result ≡ fault) × (ended ≡ Ok tt)) }
@@ -123,7 +123,7 @@ fn first_of(fault: Fault, ended: Result<(), Fault>) -> Fault
     }
 }
 
-/// What closing a desk returns: the ends, why the desk isn't closed, and the fault that the user is told of.
+/// What closing a desk returns: the ends, why the desk isn't closed, and the fault that is reported to the user.
 pub(crate) type Logged<D> = (
     Ends<ShadowSite<D>>,
     Result<(), CloseFault>,

@@ -19,10 +19,10 @@ mod work;
 
 pub use after::{DeskLeft, LineEnd, end_line};
 pub use closing::Ending;
-pub use logs::{DeskLog, PartLog, UnservedLog, reported_by};
+pub use logs::{DeskLog, PartLog, UnservedLog};
 pub use redoing::{Redone, redo_by_threads};
 pub use saving::save_reported;
 pub use soundness::is_sound;
 pub use station_threads::CloseFault;
-pub use threads::{Left, NotServed, serve_by_threads, serve_task};
+pub use threads::{Left, NotServed, serve_task};
 pub use work::{Task, Work};

@@ -1,4 +1,4 @@
-//! What is told of the devices of a line that was served at a desk.
+//! What is reported of the devices of a line that was served at a desk.
 
 ghost use Rattle.std.specs.Prelude.{◌≡◌};
 ghost use Rattle.site_core.specs.State.{Seen};
@@ -6,16 +6,16 @@ ghost use Rattle.script_session.specs.Parts.{Telling};
 
 use site_shadow::{Device, Lends};
 
-/// What is told of the device of a part, and whether the part ended soundly: its site goes on, and nothing has failed that the device was asked.
+/// What is reported of the device of a part, and whether the part ended soundly: its site goes on, and nothing has failed that the device was asked.
 #[derive(Drop)]
 pub struct PartLog<T> {
-    /// What is told of the device.
+    /// What is reported of the device.
     pub reported: T,
     /// Whether the part ended soundly.
     pub is_sound: bool,
 }
 
-/// What is told of the devices of a line that was taken apart.
+/// What is reported of the devices of a line that was taken apart.
 #[derive(Drop)]
 pub struct DeskLog<T> {
     /// Of the line's device, before the line was taken apart.
@@ -26,7 +26,7 @@ pub struct DeskLog<T> {
     pub slaves: Vec<PartLog<T>>,
 }
 
-/// What is told of the devices of a line that was not served, or not put together again behind that.
+/// What is reported of the devices of a line that was not served, or not put together again after that.
 #[derive(Drop)]
 pub enum UnservedLog<T> {
     /// Of the line's device, where it had lent none to a part yet.
@@ -38,7 +38,7 @@ pub enum UnservedLog<T> {
 }
 
 /// What this device tells, which was behind a site that had stopped or not. It is then as one that has asked nothing yet.
-pub fn reported_by<D: Lends>(device: &mut D, has_stopped: bool) -> PartLog<D::Logged>
+pub(crate) fn reported_by<D: Lends>(device: &mut D, has_stopped: bool) -> PartLog<D::Logged>
     ensures { (seen : Seen) → D.follows device.old seen → has_stopped ≡ seen.is_stopped
         → Telling D.follows D.well D.tells result device.old seen }
 {

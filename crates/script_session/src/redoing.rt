@@ -1,6 +1,6 @@
 //! Redoes by threads what is live in a journal: has a desk serve the line, to which no command is submitted.
 
-ghost use Rattle.std.specs.Prelude.{◌≡◌, ◌≤◌, ◌+◌, ◌∷◌, [], vec_capacity, IfErr, IfOk};
+ghost use Rattle.std.specs.Prelude.{◌≡◌, ◌+◌, ◌∷◌, [], IfErr, IfOk};
 ghost use Rattle.script_session.specs.Asking.{no_counts};
 ghost use Rattle.script_session.specs.AtDesk.{Closes, IsServedReported, OpensDesk};
 ghost use Rattle.script_session.specs.Parts.{AreEndsOfParts, IsLineOf, OwnUpTo};
@@ -17,7 +17,7 @@ ghost use Rattle.script_session.specs.Redoing.{
 use crate::closing::close_desk;
 use crate::logs::DeskLog;
 use crate::soundness::{disk_is_synced, validate_ends};
-use crate::threads::{Opened, Opening, Prepared, open_desk, prepare, serve_sites};
+use crate::threads::{Opened, Opening, Prepared, open_desk, prepare};
 use crate::together::put_together;
 use book_model::RomNext;
 use site_core::Site;
@@ -25,7 +25,7 @@ use site_shadow::{Device, Lends, ShadowSite};
 use station_alone::Alone;
 use station_files::Fault;
 use station_jobs::{End, NoHook, RomEntry, SlaveLog};
-use station_threads::{Client, Desk, Ends, Refusals, Share, Sites, Tickets};
+use station_threads::{Client, Desk, Ends, Refusals, Share, Sites, Tickets, serve_line};
 use std::alloc::{AllocError, Global};
 use std::io::sink;
 use std::marker::Brand;
@@ -37,7 +37,7 @@ use std::thread::Threads;
 pub struct Redone<S, T> {
     /// The line, put together again.
     pub site: S,
-    /// What is told of the devices of the line and its parts.
+    /// What is reported of the devices of the line and its parts.
     pub reported: DeskLog<T>,
     /// Number of issues: words sent to slaves, each counted as often as it was sent. `u64::MAX` where there were more.
     pub words: u64,
@@ -119,36 +119,12 @@ fn redo_at_desk<
     ensures closes { IfOk result (λ ends. Closes T.opened (no_counts ∷ []) [] ends) }
     ensures stopped { IfErr result (StopsRedoing T.opened) }
 {
-    match open_desk::<T, R>(alloc, opening) {
-        Ok(opened) => redo_opened(rt, alloc, opened, sites),
-        Err(AllocError) => {
-            drop(sites);
-            Err(Fault::Memory)
-        }
-    }
-}
-
-/// Serves the sites at a new desk, and closes the desk.
-fn redo_opened<
-    T: Tickets + Send + Sync,
-    R: Refusals + Send + Sync,
-    D: Device + Drop + Send,
-    W: Wait + Threads + Sync,
->(
-    rt: &W,
-    alloc: Global,
-    opened: Opened<T, R>,
-    sites: Sites<ShadowSite<D>>,
-) -> Result<Ends<ShadowSite<D>>, Fault>
-    requires room { (opened.room.items ≡ []) × (1 ≤ vec_capacity opened.room) }
-    requires share { opened.share ≡ no_counts }
-    requires sites { OwnUpTo opened.desk.limit sites }
-    ensures of_sites { IfOk result (λ ends. AreEndsOfParts sites ends) }
-    ensures closes { IfOk result (λ ends. Closes T.opened (no_counts ∷ []) [] ends) }
-    ensures stopped { IfErr result (StopsRedoing T.opened) }
-{
+    let Ok(opened) = open_desk::<T, R>(alloc, opening) else {
+        drop(sites);
+        return Err(Fault::Memory);
+    };
     let Opened { desk, share, room } = opened;
-    match serve_sites(rt, alloc, &desk, sites, &NoHook, &mut NoCommand) {
+    match serve_line(rt, alloc, &desk, sites, &NoHook, &mut NoCommand) {
         Ok(ends) => {
             let mut shares = room;
             shares.push_reserved(share);
@@ -175,15 +151,8 @@ fn close_redone<T: Tickets, R: Refusals, D: Device + Drop>(
     ensures closes { IfOk result (λ same. Closes T.opened shares.items [] ends) }
     ensures stopped { IfErr result (StopsRedoing T.opened) }
 {
-    let mut nowhere = sink();
-    let (ends, _closed, reported) = close_desk(
-        desk,
-        shares,
-        Vec::new(alloc),
-        ends,
-        false,
-        &mut nowhere,
-    );
+    let receipts = Vec::new(alloc);
+    let (ends, _closed, reported) = close_desk(desk, shares, receipts, ends, false, &mut sink());
     match reported {
         Ok(()) => Ok(ends),
         Err(fault) => {

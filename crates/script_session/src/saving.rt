@@ -12,11 +12,11 @@ use station_line::save_parts;
 use station_text::LineFile;
 use std::alloc::Global;
 
-/// Saves what a line holds, as `save_site` does, and gives what is told of its device.
+/// Saves what a line holds, as `save_site` does, and gives what is reported of its device.
 ///
 /// # Errors
 ///
-/// `Unserved` where the site has stopped, or something has failed that its device was asked, though the station was told of nothing; then nothing is
+/// `Unserved` where the site has stopped, or something has failed that its device was asked, though the station heard of nothing; then nothing is
 /// written. Then as for `save_site`.
 pub fn save_reported<D: Lends, S: Store>(
     alloc: Global,

@@ -17,36 +17,24 @@ use site_core::Site;
 use site_mem::FaultPlan;
 use site_shadow::{Device, Lends, LinePart, Parts, ShadowSite};
 use station_files::Fault;
-use station_threads::{PerDevice, Sites, own_parts};
+use station_threads::{Sites, own_parts};
 use std::alloc::{AllocError, Global};
 
 /// The site of a part in memory, which has no device of the line's yet.
 pub(crate) type InMemory = ShadowSite<FaultPlan>;
 
-/// No EEPROM half, for each of `slaves` slaves.
-fn no_halves(alloc: Global, slaves: usize) -> Result<Vec<Option<RomHalf>>, AllocError> {
-    let mut halves = Vec::with_capacity(alloc, slaves)?;
-    for _slave in 0..slaves {
-        halves.push(None)?;
-    }
-    Ok(halves)
-}
-
 /// The parts of a site that owns nothing of the line. `sizes` is the number of words of each slave.
 fn nothing(alloc: Global, sizes: &Vec<u16>) -> Result<Parts, AllocError> {
-    let halves = no_halves(alloc, sizes.len())?;
-    match sizes.clone() {
-        Ok(sizes) => Ok(Parts {
-            sizes,
-            disk: None,
-            halves,
-            process: None,
-        }),
-        Err(AllocError) => {
-            drop(halves);
-            Err(AllocError)
-        }
+    let mut halves = Vec::with_capacity(alloc, sizes.len())?;
+    for _slave in 0..sizes.len() {
+        halves.push(None)?;
     }
+    Ok(Parts {
+        sizes: sizes.clone()?,
+        disk: None,
+        halves,
+        process: None,
+    })
 }
 
 /// The site with these parts and this device.
@@ -177,28 +165,6 @@ fn cycle_site(
     }
 }
 
-/// A site that owns this disk alone, and, if process data are exchanged, one that owns the process halves of these slaves alone.
-fn disk_and_cycle(
-    alloc: Global,
-    sizes: &Vec<u16>,
-    disk: Option<Vec<u8>>,
-    halves: &[Option<RomHalf>],
-    turns: bool,
-) -> Result<(InMemory, Option<InMemory>), Fault>
-    ensures disk { IfOk result (λ sites. HasDiskOf disk sites.0) }
-    ensures new { IfOk result (λ sites. sites.0.seen.past ≡ []) }
-    ensures turning { IfOk result (λ sites. is_some sites.1 ≡ turns) }
-{
-    let cycle = cycle_site(alloc, sizes, halves, turns)?;
-    match disk_site(alloc, sizes, disk) {
-        Ok(disk) => Ok((disk, cycle)),
-        Err(fault) => {
-            drop(cycle);
-            Err(fault)
-        }
-    }
-}
-
 /// The sites of the line's parts; one for process data only if they are exchanged. The process halves are just switched on.
 fn sites_of(alloc: Global, line: Parts, turns: bool) -> Result<Sites<InMemory>, Fault>
     ensures disk { IfOk result (λ sites. HasDiskOf line.disk sites.disk) }
@@ -213,19 +179,14 @@ fn sites_of(alloc: Global, line: Parts, turns: bool) -> Result<Sites<InMemory>, 
         process,
     } = line;
     drop(process);
-    let (disk, cycle) = disk_and_cycle(alloc, &sizes, disk, &halves, turns)?;
-    match slave_sites(alloc, &sizes, halves) {
-        Ok(slaves) => Ok(PerDevice {
-            disk,
-            slaves,
-            cycle,
-        }),
-        Err(fault) => {
-            drop(disk);
-            drop(cycle);
-            Err(fault)
-        }
-    }
+    let cycle = cycle_site(alloc, &sizes, &halves, turns)?;
+    let disk = disk_site(alloc, &sizes, disk)?;
+    let slaves = slave_sites(alloc, &sizes, halves)?;
+    Ok(Sites {
+        disk,
+        slaves,
+        cycle,
+    })
 }
 
 /// Whether the disk reaches to the end of a journal's area of `capacity` bytes.
@@ -235,18 +196,6 @@ fn reaches(parts: &Parts, capacity: u32) -> bool
     match &parts.disk {
         Some(bytes) => bytes.len() >= 8 + capacity as usize,
         None => false,
-    }
-}
-
-/// The sites, if each owns its part (`own_parts`); otherwise `Unserved`.
-fn entire_sites(sites: Sites<InMemory>) -> Result<Sites<InMemory>, Fault>
-    ensures { IfOk result (λ same. (same ≡ sites) × OwnParts (λ (s : SiteValue). s.line) same.disk same.slaves.items same.cycle) }
-{
-    if own_parts(&sites) {
-        Ok(sites)
-    } else {
-        drop(sites);
-        Err(Fault::Unserved)
     }
 }
 
@@ -271,7 +220,11 @@ pub(crate) fn servable_sites(
         return Err(Fault::Unserved);
     }
     let sites = sites_of(alloc, line, turns)?;
-    entire_sites(sites)
+    if own_parts(&sites) {
+        return Ok(sites);
+    }
+    drop(sites);
+    Err(Fault::Unserved)
 }
 
 /// The same sites, each with a device of its own that the line's lends it. `room` is empty.
@@ -284,7 +237,7 @@ pub(crate) fn lent_sites<D: Lends>(
     requires room { length sites.slaves.items ≤ vec_capacity room }
     ensures { AreSame sites result }
 {
-    let PerDevice {
+    let Sites {
         disk,
         slaves,
         cycle,
@@ -292,12 +245,12 @@ pub(crate) fn lent_sites<D: Lends>(
     let disk = disk.with_device(entire.lend(LinePart::Disk));
     let slaves = lent_slaves(entire, slaves, room);
     match cycle {
-        Some(cycle) => PerDevice {
+        Some(cycle) => Sites {
             disk,
             slaves,
             cycle: Some(cycle.with_device(entire.lend(LinePart::Process))),
         },
-        None => PerDevice {
+        None => Sites {
             disk,
             slaves,
             cycle: None,

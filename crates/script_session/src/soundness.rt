@@ -24,7 +24,7 @@ pub fn is_sound<D: Device>(site: &ShadowSite<D>) -> bool
     !site.has_stopped() && site.is_followed()
 }
 
-/// Whether the parts of a line ended soundly whose site did so before, by what is told of their devices. `is_synced` says whether the disk's log
+/// Whether the parts of a line ended soundly whose site did so before, by what is reported of their devices. `is_synced` says whether the disk's log
 /// ends with a sync (`disk_is_synced`).
 ///
 /// # Errors

@@ -5,9 +5,7 @@ ghost use Rattle.site_core.specs.State.{Seen, State};
 ghost use Rattle.site_shadow.specs.Line.{halves_of};
 ghost use Rattle.script_session.specs.Asking.{no_counts};
 ghost use Rattle.script_session.specs.AtDesk.{IsUnservedReported, LeavesSo, OpensDesk, ServesFollowed, ServesSites};
-ghost use Rattle.script_session.specs.declared.logs.UnservedLog.TheVariants as unserved;
 ghost use Rattle.script_session.specs.Parts.{
-  AreEndsOfParts,
   AreFollowed,
   AreSound,
   EndsSynced,
@@ -38,9 +36,7 @@ use site_shadow::{Device, Lends, Parts, ShadowSite};
 use station_alone::Alone;
 use station_files::{ExitStatus, Fault};
 use station_jobs::NoHook;
-use station_threads::{
-    BlankLedger, Client, Desk, Ends, Refusals, Share, Sites, Tickets, serve_line,
-};
+use station_threads::{BlankLedger, Desk, Refusals, Share, Sites, Tickets, serve_line};
 use std::alloc::{AllocError, Global};
 use std::io::Write;
 use std::marker::{Brand, PhantomData};
@@ -56,81 +52,34 @@ pub struct Left<S, T> {
     pub unserved: Vec<Command>,
     /// How the work ended.
     pub ending: Ending,
-    /// The fault to be told where the ends of the parts don't show that all is in place: `Unserved` where a site has stopped, or something has
-    /// failed that a device was asked, though the desk may have been told of nothing; `Memory` where the disk isn't synced, since jobs
+    /// The fault to be reported where the ends of the parts don't show that all is in place: `Unserved` where a site has stopped, or something has
+    /// failed that a device was asked, though the desk may have heard of nothing; `Memory` where the disk isn't synced, since jobs
     /// stopped for want of memory.
     pub sound: Result<(), Fault>,
-    /// What is told of the devices of the line and its parts.
+    /// What is reported of the devices of the line and its parts.
     pub reported: DeskLog<T>,
 }
 
-/// Why a line was not served, or not put together again behind that. `T` is what its devices tell.
+/// Why a line was not served, or not put together again after that. `T` is what its devices tell.
 #[derive(Drop)]
 pub struct NotServed<T> {
     /// The fault.
     pub fault: Fault,
-    /// What is told of the devices.
+    /// What is reported of the devices.
     pub reported: UnservedLog<T>,
 }
 
-impl<T> NotServed<T> {
-    /// No part had a device yet, and this is told of the line's.
-    pub(crate) fn unbegun(fault: Fault, reported: PartLog<T>) -> NotServed<T>
-        ensures { result.reported ≡ unserved.Line reported }
-    {
-        NotServed {
-            fault,
-            reported: UnservedLog::Line(reported),
-        }
-    }
-
-    /// Memory was refused for a desk, and this is told of the devices of the parts, which none has served.
-    pub(crate) fn separate(reported: DeskLog<T>) -> NotServed<T>
-        ensures { result.reported ≡ unserved.Separate reported }
-    {
-        NotServed {
-            fault: Fault::Memory,
-            reported: UnservedLog::Separate(reported),
-        }
-    }
-}
-
-/// Serves the commands by threads on the line of this station, which has `slaves` slaves, and puts the line together again. Prints the
-/// answer to each command, what is told of them as it happens, and the totals. If a thread can't be started, no command is submitted. The
+/// Serves the commands of this task by threads on the line of this station, which has `slaves` slaves, and puts the line together again. Prints the
+/// answer to each command, what is reported of them as it happens, and the totals. If a thread can't be started, no command is submitted. The
 /// station must not have accepted a command yet.
 ///
-/// Meanwhile a thread exchanges process data with process halves in memory, which are just switched on.
+/// Where the task says so, a thread exchanges process data meanwhile, with process halves in memory, which are just switched on.
 ///
 /// # Errors
 ///
 /// `Unserved` where the station's site can't be taken apart, or what is put together in the end isn't a line with its disk and `slaves`
-/// slaves; `Memory`. At the desk nothing fails but for want of memory. The site is dropped, and its devices are told of. A fault during the work is
-/// no error here: `Left::ending` has it.
-pub fn serve_by_threads<D: Lends + Send, O: Write, W: Wait + Threads + Sync>(
-    rt: &W,
-    alloc: Global,
-    alone: Alone<ShadowSite<D>>,
-    slaves: usize,
-    work: Work,
-    output: &mut O,
-) -> Result<Left<ShadowSite<D>, D::Logged>, NotServed<D::Logged>>
-    requires { alone.book.accepted ≡ [] }
-    ensures line { IfOk result (λ left. IsLineOf slaves left.site.line) }
-    ensures left { IfOk result (λ left. LeavesSo alone work.commands.items left.ending left.site) }
-    ensures parts { IfOk result (λ left. ServesFollowed D.follows D.well D.tells true alone work.commands.items left) }
-    ensures before { IsFollowed D.follows alone.seen }
-    ensures failed { IfErr result (λ why. IsUnservedReported D.follows D.well D.tells alone work.commands.items why.reported) }
-    ensures unserved { IfOk result (λ left. left.ending.is_driven ≡ false → left.unserved.items ≡ work.commands.items) }
-{
-    let task = Task { work, turns: true };
-    serve_task(rt, alloc, alone, slaves, task, output)
-}
-
-/// Serves the commands of this task as `serve_by_threads` does, with a thread for process data only if the task says so.
-///
-/// # Errors
-///
-/// As for `serve_by_threads`.
+/// slaves; `Memory`. At the desk nothing fails but for want of memory. The site is dropped, and its devices' logs are given. A fault during the work
+/// is no error here: `Left::ending` has it.
 pub fn serve_task<D: Lends + Send, O: Write, W: Wait + Threads + Sync>(
     rt: &W,
     alloc: Global,
@@ -160,7 +109,10 @@ pub fn serve_task<D: Lends + Send, O: Write, W: Wait + Threads + Sync>(
     let opening = Opening::of(core);
     match serve_at_desk::<Brand, Brand, Brand, D, O, W>(rt, alloc, opening, sites, work, output) {
         Ok(at) => put_back(alloc, entire, slaves, at),
-        Err(sites) => Err(NotServed::separate(reported_unserved(entire, sites))),
+        Err(sites) => Err(NotServed {
+            fault: Fault::Memory,
+            reported: UnservedLog::Separate(reported_unserved(entire, sites)),
+        }),
     }
 }
 
@@ -224,7 +176,7 @@ fn room_for<D: Device + Drop, T: Drop>(
 /// # Errors
 ///
 /// `Unserved` where the site isn't a whole line with a disk that reaches to the end of a journal's area of `capacity` bytes; `Memory`. The site is
-/// dropped, and its device told of. It has lent none.
+/// dropped, and the log of its device is given. It has lent none.
 pub(crate) fn prepare<D: Lends>(
     alloc: Global,
     site: ShadowSite<D>,
@@ -259,7 +211,10 @@ pub(crate) fn prepare<D: Lends>(
         }
         Err(fault) => {
             drop(device);
-            Err(NotServed::unbegun(fault, reported))
+            Err(NotServed {
+                fault,
+                reported: UnservedLog::Line(reported),
+            })
         }
     }
 }
@@ -334,40 +289,10 @@ fn serve_at_desk<
     ensures served { IfOk result (ServesSites T.opened C.commands sites) }
     ensures handed_back { IfErr result (λ same. same ≡ sites) }
 {
-    match open_desk::<T, R>(alloc, opening) {
-        Ok(opened) => serve_opened::<T, R, C, D, O, W>(rt, alloc, opened, sites, work, output),
-        Err(AllocError) => {
-            drop(work);
-            Err(sites)
-        }
-    }
-}
-
-/// Serves the sites at a new desk while the commands are submitted, and closes the desk. If memory is refused, nothing is started and the sites are
-/// handed back.
-fn serve_opened<
-    'o,
-    T: Tickets + Send + Sync,
-    R: Refusals + Send + Sync,
-    C: NamesCommands,
-    D: Device + Drop + Send,
-    O: Write,
-    W: Wait + Threads + Sync,
->(
-    rt: &W,
-    alloc: Global,
-    opened: Opened<T, R>,
-    sites: Sites<ShadowSite<D>>,
-    work: Work,
-    output: &'o mut O,
-) -> Result<AtDesk<ShadowSite<D>>, Sites<ShadowSite<D>>>
-    requires room { (opened.room.items ≡ []) × (1 ≤ vec_capacity opened.room) }
-    requires share { opened.share ≡ no_counts }
-    requires commands { work.commands.items ≡ C.commands }
-    requires sites { OwnUpTo opened.desk.limit sites }
-    ensures served { IfOk result (ServesSites T.opened C.commands sites) }
-    ensures handed_back { IfErr result (λ same. same ≡ sites) }
-{
+    let Ok(opened) = open_desk::<T, R>(alloc, opening) else {
+        drop(work);
+        return Err(sites);
+    };
     let Opened { desk, share, room } = opened;
     let Work {
         commands,
@@ -383,7 +308,7 @@ fn serve_opened<
         came: None,
         of: PhantomData,
     };
-    match serve_sites(rt, alloc, &desk, sites, &NoHook, &mut submitter) {
+    match serve_line(rt, alloc, &desk, sites, &NoHook, &mut submitter) {
         Ok(ends) => Ok(hand_in(desk, submitter, room, ends)),
         Err(sites) => {
             drop(desk);
@@ -445,26 +370,4 @@ pub(crate) fn open_desk<T: Tickets, R: Refusals>(
     } = opening;
     let (desk, share) = Desk::with_share(alloc, core, tickets, refusals)?;
     Ok(Opened { desk, share, room })
-}
-
-/// Serves the sites at the desk while the client drives it. If memory is refused, nothing is started and the sites are handed back.
-pub(crate) fn serve_sites<
-    T: Tickets + Send + Sync,
-    R: Refusals + Send + Sync,
-    D: Device + Drop + Send,
-    K: Client<T, R>,
-    W: Wait + Threads + Sync,
->(
-    rt: &W,
-    alloc: Global,
-    desk: &Desk<T, R>,
-    sites: Sites<ShadowSite<D>>,
-    hook: &NoHook,
-    client: &mut K,
-) -> Result<Ends<ShadowSite<D>>, Sites<ShadowSite<D>>>
-    requires { OwnUpTo desk.now.limit sites }
-    ensures ends { IfOk result (λ ends. AreEndsOfParts sites ends) }
-    ensures handed_back { IfErr result (λ same. same ≡ sites) }
-{
-    serve_line(rt, alloc, desk, sites, hook, client)
 }

@@ -33,10 +33,10 @@ use site_core::Site;
 use site_shadow::{Device, Lends, Parts, ShadowSite};
 use station_files::Fault;
 use station_jobs::{CycleLog, End, Leads, SlaveLog};
-use station_threads::{Ends, PerDevice, Sites};
+use station_threads::{Ends, Sites};
 use std::alloc::{AllocError, Global};
 
-/// The EEPROM halves of slaves, as their workers left them, or why one is missing; and what is told of their devices. Both are in order.
+/// The EEPROM halves of slaves, as their workers left them, or why one is missing; and what is reported of their devices. Both are in order.
 #[derive(Drop)]
 pub(crate) struct OfSlaves<T> {
     pub(crate) halves: Result<Vec<Option<RomHalf>>, Fault>,
@@ -86,7 +86,7 @@ fn with_half(
 pub(crate) struct Complete<D, T> {
     /// The line's device, which has lent each part one.
     pub(crate) device: D,
-    /// What was told of it before.
+    /// What was reported of it before.
     pub(crate) reported: PartLog<T>,
     /// Empty lists with room for what the workers leave.
     pub(crate) room: OfSlaves<T>,
@@ -117,7 +117,7 @@ fn parts_at<D: Lends, L: Leads + Drop>(
     parts_of(site, entire)
 }
 
-/// What is told of the device of a site that no desk has served. The device of the line takes it back.
+/// What is reported of the device of a site that no desk has served. The device of the line takes it back.
 fn reported_of<D: Lends>(site: ShadowSite<D>, entire: &mut D) -> PartLog<D::Logged>
     ensures { IsFollowed (Telling D.follows D.well D.tells result) site.seen }
 {
@@ -126,7 +126,7 @@ fn reported_of<D: Lends>(site: ShadowSite<D>, entire: &mut D) -> PartLog<D::Logg
     reported
 }
 
-/// What is told of the devices of the slaves' sites, in order, that no desk has served. `room` is empty.
+/// What is reported of the devices of the slaves' sites, in order, that no desk has served. `room` is empty.
 fn reported_of_slaves<D: Lends>(
     sites: Vec<ShadowSite<D>>,
     entire: &mut D,
@@ -143,8 +143,8 @@ fn reported_of_slaves<D: Lends>(
     reported
 }
 
-/// What is told of the devices of a line that was taken apart into these sites, which no desk has served. The line's device takes back what it lent
-/// them.
+/// What is reported of the devices of a line that was taken apart into these sites, which no desk has served. The line's device takes back what it
+/// lent them.
 pub(crate) fn reported_unserved<D: Lends>(
     entire: Complete<D, D::Logged>,
     sites: Sites<ShadowSite<D>>,
@@ -160,7 +160,7 @@ pub(crate) fn reported_unserved<D: Lends>(
         reported,
         room,
     } = entire;
-    let PerDevice {
+    let Sites {
         disk,
         slaves,
         cycle,
@@ -180,7 +180,7 @@ pub(crate) fn reported_unserved<D: Lends>(
     }
 }
 
-/// The EEPROM half of this slave, as its worker left it, and what is told of its device. `Unserved` where the half is missing.
+/// The EEPROM half of this slave, as its worker left it, and what is reported of its device. `Unserved` where the half is missing.
 fn half_at<D: Lends>(
     slave: usize,
     end: End<ShadowSite<D>, SlaveLog>,
@@ -225,7 +225,7 @@ fn with_slave<D: Lends>(
     }
 }
 
-/// The EEPROM halves of all slaves, in order, as their workers left them, and what is told of their devices.
+/// The EEPROM halves of all slaves, in order, as their workers left them, and what is reported of their devices.
 fn slaves_at<D: Lends>(
     room: OfSlaves<D::Logged>,
     workers: Vec<End<ShadowSite<D>, SlaveLog>>,
@@ -259,7 +259,7 @@ fn end_cycle<D: Lends>(cycle: Option<End<ShadowSite<D>, CycleLog>>, entire: &mut
     }
 }
 
-/// The parts of the flusher's site, what is told of its device, and the ends of the workers. The device of the line takes back those of the disk
+/// The parts of the flusher's site, what is reported of its device, and the ends of the workers. The device of the line takes back those of the disk
 /// and of the process data.
 fn split<D: Lends>(
     ends: Ends<ShadowSite<D>>,
@@ -291,14 +291,7 @@ fn line_of<D: Device + Drop>(
     ensures disk { IfOk result (λ site. HasDiskOf line.disk site) }
     ensures halves { IfOk result (λ site. site.seen.state.halves ≡ halves_of halves.items) }
 {
-    let Parts {
-        sizes,
-        disk,
-        halves: left,
-        process,
-    } = line;
-    drop(left);
-    drop(process);
+    let Parts { sizes, disk, .. } = line;
     let parts = Parts {
         sizes,
         disk,
@@ -345,12 +338,12 @@ fn joined<D: Device + Drop>(
     }
 }
 
-/// The line of these ends: its disk and each slave's EEPROM half as the threads left them; and what is told of the devices. The line's device takes
-/// back what it lent them, and is put behind it.
+/// The line of these ends: its disk and each slave's EEPROM half as the threads left them; and what is reported of the devices. The line's device
+/// takes back what it lent them, and is put behind it.
 ///
 /// # Errors
 ///
-/// `Unserved` where these are not the ends of one line of `slaves` slaves; `Memory`. What is told of the devices is told all the same.
+/// `Unserved` where these are not the ends of one line of `slaves` slaves; `Memory`. What is reported of the devices is reported all the same.
 pub(crate) fn put_together<D: Lends>(
     alloc: Global,
     entire: Complete<D, D::Logged>,

@@ -2,7 +2,7 @@
 
 use sii_edit::Command;
 
-/// The commands of a script, and what is told of them.
+/// The commands of a script, and what is reported of them.
 #[derive(Drop)]
 pub struct Work {
     /// The commands, in their order.

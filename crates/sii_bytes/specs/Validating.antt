@@ -2,7 +2,7 @@
 use Rattle.std.specs.Prelude.{◌≡◌, ◌≢◌, ℕ, List, Some, slice_get, take, All}
 use Rattle.std.specs.Global.{Vec}
 use Rattle.sii_words.specs.Words.{IsImageSize}
-use Rattle.station_listing.specs.declared.content.Content.TheVariants.{Malformed}
+use Rattle.station_listing.specs.declared.items.Items.TheVariants.{Malformed}
 use Rattle.station_listing.specs.declared.listing.CheckByte.TheVariants.{Right, Wrong}
 use Rattle.station_listing.specs.declared.listing.ListedCategory.{ListedCategory}
 use Rattle.station_listing.specs.declared.listing.ListedChain.TheVariants.{Complete, RunsOut}
@@ -16,8 +16,8 @@ pub record IsFirstMalformed (listed : List ListedCategory) (kind : ℕ) : Type 0
   pub category : ListedCategory
   pub here : slice_get listed place ≡ Some category
   pub kind_is : kind ≡ category.kind
-  pub malformed : category.content ≡ Malformed
-  pub first : All (λ earlier. earlier.content ≢ Malformed) (take place listed)
+  pub malformed : category.items ≡ Malformed
+  pub first : All (λ earlier. earlier.items ≢ Malformed) (take place listed)
 
 -- What a listing says of its image, with a number beside the code: 0, it is good; 15, the check byte is wrong, and this is the right one;
 -- 3, the category with its header at this word is cut off; 4, the content of a category of this type can't be read. The first that

@@ -49,7 +49,7 @@ fn head_of(image: &ImageFile) -> Head
     }
 }
 
-/// Reads the head of an image (ETG.1000.6, words 0 to 15). The check byte isn't judged.
+/// Reads the head of an image (ETG.1000.6, words 0 to 15). The check byte isn't checked.
 ///
 /// Answers 0; or a code, and the head stays as it was: 1 if the number of bytes is odd; 2 if the image hasn't 64 to 4,096 words; 20 if
 /// memory was refused.

@@ -6,7 +6,7 @@ ghost use Rattle.sii_bytes.specs.Line.{FirstRefused, IsSizes, PlacesLine, ReadsE
 use crate::codes::{BAD_LINE, DONE, MEMORY, NO_SPACE, OVER_LIMIT};
 use crate::reading::read_device;
 use sii_image::{ImageFault, ProcessImage, Segment, image_of};
-use sii_words::{Plant, Words};
+use sii_words::{MAX_SLAVES, Plant, Words};
 use std::alloc::Global;
 
 /// The process data of one sync manager in a process image (ETG.1000.6 and ETG.2010, SyncM, TXPDO and RXPDO categories).
@@ -39,13 +39,13 @@ pub struct ImageSizes {
     pub segments: usize,
     /// The size of all outputs in bytes. They stand first.
     pub outputs: u32,
-    /// The size of all inputs in bytes. They stand behind the outputs.
+    /// The size of all inputs in bytes. They stand after the outputs.
     pub inputs: u32,
     /// The working counter of a cycle in which every slave takes part: for each slave 2 if it has outputs, and 1 if it has inputs.
     pub counter: u32,
 }
 
-/// What is left of this many bytes behind pieces of these lengths, or `None` if they are longer.
+/// What is left of this many bytes after pieces of these lengths, or `None` if they are longer.
 fn left_after(bytes: usize, lengths: &[usize]) -> Option<usize>
     ensures { MatchOption result (bytes < sum lengths.now) (λ left. left + sum lengths.now ≡ bytes) }
 {
@@ -69,7 +69,7 @@ fn are_lengths_of(bytes: usize, lengths: &[usize]) -> bool
     }
 }
 
-/// Reads the slaves of a line, whose bytes stand one behind the other.
+/// Reads the slaves of a line, whose bytes stand one after the other.
 fn read_each(alloc: Global, bytes: &[u8], lengths: &[usize]) -> Result<Vec<Words>, u32>
     requires { sum lengths.now ≡ length bytes.now }
     ensures ok { IfOk result (λ slaves. ReadsEach (pieces lengths.now bytes.now) (Ok slaves.items)) }
@@ -96,7 +96,7 @@ fn read_each(alloc: Global, bytes: &[u8], lengths: &[usize]) -> Result<Vec<Words
 fn read_line(alloc: Global, bytes: &[u8], lengths: &[usize]) -> Result<Plant, u32>
     ensures { ReadsLine lengths.now bytes.now result }
 {
-    if lengths.is_empty() || lengths.len() > 64 || !are_lengths_of(bytes.len(), lengths) {
+    if lengths.is_empty() || lengths.len() > MAX_SLAVES || !are_lengths_of(bytes.len(), lengths) {
         return Err(BAD_LINE);
     }
     match read_each(alloc, bytes, lengths) {
@@ -141,7 +141,7 @@ fn sizes_of(image: &ProcessImage) -> ImageSizes
     }
 }
 
-/// Places the process data of a line: what `sii_image` says is its process image. `bytes` is the whole EEPROM of each slave, one behind
+/// Places the process data of a line: what `sii_image` says is its process image. `bytes` is the whole EEPROM of each slave, one after
 /// the other in the order of the line, and `lengths` how many bytes each has.
 ///
 /// Answers 0; then the segments are in the first places of `segments`, outputs first, and the others stay. Or the first code that

@@ -1,7 +1,7 @@
-//! Judges an image.
+//! Validates an image.
 
 ghost use Rattle.std.specs.Prelude.{◌≢◌, All, MatchOption};
-ghost use Rattle.station_listing.specs.declared.content.Content.TheVariants.{Malformed};
+ghost use Rattle.station_listing.specs.declared.items.Items.TheVariants.{Malformed};
 ghost use Rattle.sii_bytes.specs.Validating.{IsFirstMalformed, Validates, ValidatesListing};
 
 use crate::codes::{BAD_CATEGORY, BAD_CHECK, DONE, MEMORY, RUNS_OUT};
@@ -11,17 +11,17 @@ use std::alloc::Global;
 
 /// The type of the first category whose content can't be read.
 fn first_malformed(categories: &[ListedCategory]) -> Option<u16>
-    ensures { MatchOption result (All (λ category. category.content ≢ Malformed) categories.now) (IsFirstMalformed categories.now) }
+    ensures { MatchOption result (All (λ category. category.items ≢ Malformed) categories.now) (IsFirstMalformed categories.now) }
 {
     for category in categories {
-        if category.content.is_malformed() {
+        if category.items.are_malformed() {
             return Some(category.kind);
         }
     }
     None
 }
 
-/// The code of what is found first, and the number that is told beside it.
+/// The code of what is found first, and the number that is reported beside it.
 fn validate_listing(listing: &Listing) -> (u32, usize)
     ensures { ValidatesListing listing.now result.0 result.1 }
 {
@@ -39,7 +39,7 @@ fn validate_listing(listing: &Listing) -> (u32, usize)
     }
 }
 
-/// Judges an image: its check byte, its chain of categories, and the contents of its STRINGS, TXPDO and RXPDO categories (ETG.1000.6 and
+/// Validates an image: its check byte, its chain of categories, and the contents of its STRINGS, TXPDO and RXPDO categories (ETG.1000.6 and
 /// ETG.2010).
 ///
 /// Answers 0 for a good image, or the first code that applies, with a number in `detail` (else 0): 1 if the number of bytes is odd; 2 if

@@ -50,7 +50,7 @@ fn words(rt: &HostRuntime) -> io::Result<Vec<String>> {
     Ok(reported(rt.alloc(), words)?)
 }
 
-/// These arguments, with `--verbose` behind the program's name.
+/// These arguments, with `--verbose` after the program's name.
 fn reported(alloc: Global, words: Vec<String>) -> Result<Vec<String>, AllocError> {
     let mut words = words;
     let place = words.len().min(1);

@@ -23,7 +23,7 @@ ghost use Rattle.esc_model.specs.Orders.{station};
 
 use crate::amending::{issue_again, read_back};
 use crate::answers::{AccessState, Answer, Comparison, compared_with, state_shown};
-use crate::faults::{Difference, StopReason};
+use crate::faults::{Difference, LeftAs, LineSeen, OpenWord, StopReason};
 use crate::fitting::{is_fit, is_for_eeprom, is_ignored, is_known, only_datagram};
 use crate::order::Order;
 use crate::reach::{LiveLine, Reach, SharedLine};
@@ -35,10 +35,13 @@ use site_file::{FileDevice, FileLog, RandomAccessFile};
 use site_shadow::{Device, Lends, LinePart, Passing, Pattern, Resting, ShadowSite};
 use std::rt::Clock;
 use std::sync::Wait;
-use wire_frames::{ATTEMPTS, Last, NumberedWire, Pace, Sighting, Wire};
+use wire_frames::{ATTEMPTS, Last, NumberedWire, Pace, Wire};
 
 /// What the shadow holds of unsynced bytes and of a word in flight once the site has stopped. It could be anything: nobody reads it.
 const LEFT: Pattern = Pattern::New;
+
+/// How often a word is written again that a slave, idle and acknowledging, shows with another value.
+const REPEATS: u32 = 8;
 
 /// A line that was brought up on a wire, and a journal's file, as the device behind a shadow. The slaves and the file have what the
 /// shadow has as work on them begins, and nobody else writes them.
@@ -51,7 +54,8 @@ const LEFT: Pattern = Pattern::New;
 /// and the line keeps the reason.
 ///
 /// A slave that ends the write of a word in error is told to do it again, its error cleared before, for half a second; the shadow stays
-/// busy meanwhile. A word that the slave shows as written is read back before the shadow has it in place. Polls of a busy slave have pauses.
+/// busy meanwhile. A word that the slave shows as written is read back before the shadow has it in place; one that has another value then is
+/// written again eight times. Polls of a busy slave have pauses.
 ///
 /// Over a `SharedLine` each part of a line can be lent a device: that of a slave sends to this slave alone, any other sends nothing. Once one of
 /// them has stopped, no other sends a frame.
@@ -186,8 +190,8 @@ impl<'f, L: Reach, F: RandomAccessFile, C: Clock> WireDevice<'f, L, F, C> {
         self.sender.line.reason()
     }
 
-    /// What was seen of the slave for which the site has stopped, if it has.
-    pub fn seen(&self) -> Option<Sighting> {
+    /// What was seen of the slaves.
+    pub fn seen(&self) -> LineSeen {
         self.sender.line.seen()
     }
 
@@ -245,6 +249,7 @@ impl<'f, L: Reach, F: RandomAccessFile, C: Clock> WireDevice<'f, L, F, C> {
     {
         if let Some(what) = self.compare(slave, half, answer) {
             let about = self.about(slave);
+            self.sender.line.note(slave, word_in_flight(half));
             self.stop(StopReason::Differs { slave, what }, about);
         }
     }
@@ -363,7 +368,7 @@ impl<'f, L: Reach, F: RandomAccessFile, C: Clock> WireDevice<'f, L, F, C> {
                     self.set_unconfirmed(usize::from(slave), false);
                 }
             }
-            Reaction::Again => self.try_again(slave, half, write, answer),
+            Reaction::Again => self.try_again(slave, half, write, answer, ATTEMPTS),
             Reaction::ReadsBack => self.confirm(slave, half, write, answer),
         }
     }
@@ -382,7 +387,8 @@ impl<'f, L: Reach, F: RandomAccessFile, C: Clock> WireDevice<'f, L, F, C> {
             self.resting = Resting::Well;
             return;
         }
-        self.try_again(slave, half, write, answer);
+        let most = if found.is_some() { REPEATS } else { ATTEMPTS };
+        self.try_again(slave, half, write, answer, most);
     }
 
     /// Reads the word in flight back.
@@ -397,9 +403,8 @@ impl<'f, L: Reach, F: RandomAccessFile, C: Clock> WireDevice<'f, L, F, C> {
         found
     }
 
-    /// Tells the slave again to write the word in flight, so that its half stays busy. Once that has gone on for half a second, it ends in
-    /// error.
-    fn try_again(&mut self, slave: u16, half: &RomHalf, write: WordWrite, answer: Answer)
+    /// Tells the slave again to write the word in flight, so that its half stays busy. Once it was told so as often as this, it ends in error.
+    fn try_again(&mut self, slave: u16, half: &RomHalf, write: WordWrite, answer: Answer, most: u32)
         requires slave { slave < 64 }
         requires flying { in_flight half.now.activity ≡ Some write }
         requires inside { write.word < length half.now.words }
@@ -411,7 +416,7 @@ impl<'f, L: Reach, F: RandomAccessFile, C: Clock> WireDevice<'f, L, F, C> {
         if self.is_over {
             return;
         }
-        if u32::from(self.writes[place].retries.pauses()) >= ATTEMPTS {
+        if u32::from(self.writes[place].retries.pauses()) >= most {
             return self.end_in_error(slave, half, write, answer);
         }
         self.returned = None;
@@ -431,7 +436,13 @@ impl<'f, L: Reach, F: RandomAccessFile, C: Clock> WireDevice<'f, L, F, C> {
     {
         self.returned = None;
         match self.read_back(slave, half, write) {
-            Some(value) => self.resting = ended_with(write, value),
+            Some(value) => {
+                let place = usize::from(slave);
+                let is_taken = !self.is_unconfirmed[place];
+                let word = kept_word(half, write, value, &answer, is_taken);
+                self.sender.line.note(place, word);
+                self.resting = ended_with(write, value);
+            }
             None => {
                 let reason = StopReason::WordFailed {
                     slave: usize::from(slave),
@@ -440,6 +451,38 @@ impl<'f, L: Reach, F: RandomAccessFile, C: Clock> WireDevice<'f, L, F, C> {
             }
         }
     }
+}
+
+/// The word that this half has in flight, as the site stops.
+fn word_in_flight(half: &RomHalf) -> Option<OpenWord> {
+    let write = half.in_flight()?;
+    Some(OpenWord {
+        write,
+        left: LeftAs::InFlight,
+    })
+}
+
+/// A word that was to be written, and was read back with this value: if that is its old one, and the command was taken and ended well, as the last
+/// answer shows.
+fn kept_word(
+    half: &RomHalf,
+    write: WordWrite,
+    value: u16,
+    answer: &Answer,
+    is_taken: bool,
+) -> Option<OpenWord> {
+    let old = *half.words().as_slice().get(usize::from(write.word))?;
+    if value == write.value
+        || value != old
+        || !is_taken
+        || state_shown(answer) != AccessState::Well
+    {
+        return None;
+    }
+    Some(OpenWord {
+        write,
+        left: LeftAs::Kept(value),
+    })
 }
 
 /// Whether the device of this part of a line works on this slave. For None it is the line's own.

@@ -1,6 +1,8 @@
 //! Why a site on a wire has stopped.
 
+use esc_model::WordWrite;
 use std::fmt;
+use wire_frames::Sighting;
 
 /// In what a slave's answer is another than that of the shadow.
 #[derive(Clone, Copy, PartialEq, Eq)]
@@ -30,6 +32,33 @@ impl fmt::Display for Difference {
     }
 }
 
+/// A word that a slave was told to write, and that wasn't seen as written.
+#[derive(Clone, Copy, PartialEq, Eq)]
+pub struct OpenWord {
+    /// The word, and the value that it was to get.
+    pub write: WordWrite,
+    /// How it was left.
+    pub left: LeftAs,
+}
+
+/// How a word was left that wasn't seen as written.
+#[derive(Clone, Copy, PartialEq, Eq)]
+pub enum LeftAs {
+    /// The site stopped while it was in flight.
+    InFlight,
+    /// It was read back with its old value, this one, each time, though the slave was idle and had acknowledged the command.
+    Kept(u16),
+}
+
+/// What was seen of the slaves of a line on which work ended early.
+#[derive(Clone, Copy)]
+pub struct LineSeen {
+    /// Of the slave for which the site has stopped, if it has stopped for one.
+    pub stopped: Option<Sighting>,
+    /// By slave, the last word that wasn't seen as written, if there was one.
+    pub words: [Option<OpenWord>; 64],
+}
+
 /// Why a site on a wire has stopped.
 #[derive(Clone, Copy, PartialEq, Eq)]
 pub enum StopReason {
@@ -43,6 +72,18 @@ pub enum StopReason {
     NotOneDatagram { slave: usize },
     /// The journal's file can't be read, written or synced, or has other bytes.
     Journal,
+}
+
+impl StopReason {
+    /// The slave that it is about, if it is about one.
+    pub fn slave(self) -> Option<usize> {
+        match self {
+            StopReason::Differs { slave, .. }
+            | StopReason::WordFailed { slave }
+            | StopReason::NotOneDatagram { slave } => Some(slave),
+            StopReason::Silent | StopReason::Journal => None,
+        }
+    }
 }
 
 impl fmt::Display for StopReason {

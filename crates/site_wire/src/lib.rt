@@ -16,7 +16,7 @@ mod reach;
 mod sending;
 
 pub use device::{WireDevice, WireLog, WireSite};
-pub use faults::{Difference, StopReason};
+pub use faults::{Difference, LeftAs, LineSeen, OpenWord, StopReason};
 pub use laws::{
     agreed_is_possible, amending_is_possible, defined_slave_serves, journal_follows,
     possible_leaves_no_more, stop_leaves_no_more,

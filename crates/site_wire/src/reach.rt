@@ -6,14 +6,14 @@ ghost use Rattle.site_wire.specs.Orders.{datagram_of};
 ghost use Rattle.site_wire.specs.Reaching.{PassesAll};
 
 use crate::answers::Answer;
-use crate::faults::StopReason;
+use crate::faults::{LineSeen, OpenWord, StopReason};
 use crate::joining::Board;
 use crate::order::Order;
 use ecat_frame::Frame;
 use esc_model::{FIRST_STATION, RomHalf};
 use std::alloc::AllocError;
 use std::sync::{Condvar, Mutex, Wait};
-use wire_frames::{Carried, Last, NumberedWire, Sighting, Wire, sight};
+use wire_frames::{Carried, Last, NumberedWire, Wire, sight};
 
 /// A wire on which a line was brought up, as the devices reach it that work on its slaves.
 pub trait Reach {
@@ -35,8 +35,11 @@ pub trait Reach {
     /// Why the line has stopped, if it has.
     fn reason(&self) -> Option<StopReason>;
 
-    /// What was seen of the slave for which the line has stopped, if it has stopped for one.
-    fn seen(&self) -> Option<Sighting>;
+    /// What was seen of the slaves.
+    fn seen(&self) -> LineSeen;
+
+    /// Notes the word of this slave that wasn't seen as written last, if there is one.
+    fn note(&mut self, slave: usize, word: Option<OpenWord>);
 
     /// The line stops with this reason, unless it has one already. It looks for the slave that the reason is about, which `about` names with
     /// its last answer.
@@ -48,7 +51,7 @@ pub trait Reach {
 pub struct LiveLine<W> {
     wire: NumberedWire<W>,
     reason: Option<StopReason>,
-    seen: Option<Sighting>,
+    seen: LineSeen,
 }
 
 impl<W: Wire> LiveLine<W> {
@@ -57,7 +60,10 @@ impl<W: Wire> LiveLine<W> {
         LiveLine {
             wire,
             reason: None,
-            seen: None,
+            seen: LineSeen {
+                stopped: None,
+                words: [None; 64],
+            },
         }
     }
 
@@ -113,8 +119,16 @@ impl<W: Wire> Reach for LiveLine<W> {
         self.reason
     }
 
-    fn seen(&self) -> Option<Sighting> {
+    fn seen(&self) -> LineSeen {
         self.seen
+    }
+
+    fn note(&mut self, slave: usize, word: Option<OpenWord>)
+        ensures { self.new.wire ≡ self.old.wire }
+    {
+        if slave < 64 {
+            self.seen.words[slave] = word;
+        }
     }
 
     fn stop(&mut self, reason: StopReason, about: Option<(u16, Last)>)
@@ -129,7 +143,7 @@ impl<W: Wire> Reach for LiveLine<W> {
         }
         self.reason = Some(reason);
         if let Some((slave, last)) = about {
-            self.seen = Some(sight(&mut self.wire, slave, last));
+            self.seen.stopped = Some(sight(&mut self.wire, slave, last));
         }
     }
 }
@@ -182,8 +196,8 @@ impl<W: Wire> LockedLine<W> {
         self.lock.lock(rt).reason()
     }
 
-    /// What was seen of the slave for which the line has stopped, if it has stopped for one.
-    pub fn seen<R: Wait>(&self, rt: &R) -> Option<Sighting> {
+    /// What was seen of the slaves.
+    pub fn seen<R: Wait>(&self, rt: &R) -> LineSeen {
         self.lock.lock(rt).seen()
     }
 
@@ -268,8 +282,12 @@ impl<'a, R: Wait, W: Wire> Reach for SharedLine<'a, R, W> {
         self.lock.lock(self.rt).reason()
     }
 
-    fn seen(&self) -> Option<Sighting> {
+    fn seen(&self) -> LineSeen {
         self.lock.lock(self.rt).seen()
+    }
+
+    fn note(&mut self, slave: usize, word: Option<OpenWord>) {
+        self.lock.lock(self.rt).note(slave, word);
     }
 
     fn stop(&mut self, reason: StopReason, about: Option<(u16, Last)>) {

@@ -56,7 +56,7 @@ fn has_text(bytes: &[u8], part: &str) -> bool {
     str::from_utf8(bytes).unwrap_or("").contains(part)
 }
 
-/// Whether each option that a help names stands in a page behind this text.
+/// Whether each option that a help names stands in a page after this text.
 ///
 /// # Errors
 ///

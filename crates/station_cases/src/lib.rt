@@ -4,7 +4,7 @@
 //! A run is a table of these keys, or the text of its `args` alone:
 //!
 //! - `files`: files that are there before, each with its contents.
-//! - `args`: the command line behind the program's name, its words separated by spaces. `typed`: one more argument after it.
+//! - `args`: the command line after the program's name, its words separated by spaces. `typed`: one more argument after it.
 //! - `input`: standard input. `interrupted`: its first read is. `then`: what comes in place of its end: a `"failure"`, one for want of
 //!   `"memory"`, or always `"more"`. `takes`: how many bytes standard output takes before it fails.
 //! - `status`, `output`, `faults`: the exit status, and what is printed on standard output and standard error (0 and nothing, where absent).
@@ -25,14 +25,14 @@
 //!   none of a write. It prints these bytes, and ends in `fault 90 File`.
 //! - `"power cuts"`, `"calls that fail"`, `"full disks"`: with a power cut in each of its calls that write or sync, a failure of each, and one
 //!   of each and all after it. `unsynced` says what is left of bytes that weren't synced: the `"old"` ones, `"new"` ones, new ones at even
-//!   offsets (`"torn"`) or `"other"` ones. A failure is told; without a cut or a failure it goes as is expected. The totals are printed where
+//!   offsets (`"torn"`) or `"other"` ones. A failure is reported; without a cut or a failure it goes as is expected. The totals are printed where
 //!   the call is number `totals` or a later one, from 0, and else never.
 //! - `"plan"`: after a plan, whose command line is `first`. The plan writes nothing, and says what the run prints, with the words that it
 //!   changes in `images`.
-//! - `"page"`: it prints a page in which each option of a help, which `first` prints, stands behind the text `option`.
+//! - `"page"`: it prints a page in which each option of a help, which `first` prints, stands after the text `option`.
 //!
 //! `after` has runs that follow each try of a run, over the files that are left. Their `mended` has states of the files,
-//! of which one is left, and with how many `commands`: no fewer than the run told as durable. Where `again` names the files that are written,
+//! of which one is left, and with how many `commands`: no fewer than the run reported as durable. Where `again` names the files that are written,
 //! they also follow a run of `first` that is cut in each of its calls.
 //!
 //! Contents are a text; `@NAME` for named ones; an array, whose parts are joined; `{ size = N, AT = "HEX", .. }`, N bytes that are 0 except at

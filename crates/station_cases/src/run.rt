@@ -52,7 +52,7 @@ pub struct Run<'a> {
     pub own: &'a Value,
     pub case: &'a Value,
     pub named: &'a Table,
-    /// How many commands an earlier run on its files told as durable.
+    /// How many commands an earlier run on its files reported as durable.
     pub durable: usize,
 }
 
@@ -100,7 +100,7 @@ impl<'a> Run<'a> {
         matches!(self.said(key), Some(Value::Boolean(true)))
     }
 
-    /// Its command line behind the program's name.
+    /// Its command line after the program's name.
     pub fn args(&self) -> &'a str {
         match self.own {
             Value::String(args) => args.as_str(),
@@ -199,7 +199,7 @@ fn has_known_keys(value: &Value) -> bool {
     }
 }
 
-/// The arguments of a command line, whose words are separated by spaces, behind the program's name.
+/// The arguments of a command line, whose words are separated by spaces, after the program's name.
 pub fn parted(alloc: Global, words: &str) -> Result<Vec<String>, AllocError> {
     let mut args = Vec::new(alloc);
     args.push(String::from_str(alloc, "station")?)?;

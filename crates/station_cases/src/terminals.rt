@@ -3,7 +3,7 @@
 use std::alloc::{AllocError, Global};
 
 /// What is left on a terminal of these bytes: what follows a carriage return stands in place of the line up to there, as a line that is drawn
-/// erases what stands behind it (ESC [ K).
+/// erases what stands after it (ESC [ K).
 ///
 /// # Errors
 ///

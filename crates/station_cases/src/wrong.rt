@@ -146,7 +146,7 @@ fn is_left(
     }
 }
 
-/// Whether the files are as behind so many commands as were durable, or more.
+/// Whether the files are as after so many commands as were durable, or more.
 fn is_mended(alloc: Global, run: &Run, shelf: &Shelf) -> io::Result<bool> {
     let states = run.values("mended");
     for state in states {

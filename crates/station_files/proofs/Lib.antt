@@ -1,4 +1,5 @@
 pub mod Separate
+pub mod SlaveImages
 pub mod Loaded
 pub mod Saved
 pub mod ScriptFaults

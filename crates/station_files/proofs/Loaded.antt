@@ -11,7 +11,7 @@ use Rattle.station_files.specs.LineFiles.{RefusesPlant, RefusesLayout}
 use Rattle.station_files.specs.declared.faults.Fault.{Fault}
 use Rattle.station_files.specs.declared.faults.Fault.TheVariants.{OddLength, BadSize, ImageOverLimit, Memory, Disk, Lost, Stopped, SlaveDead}
 use Rattle.station_files.specs.declared.faults.Fault.TheVariants.{NotAJournal, BadVersion, BadJournal, WrongLine, Unserved, File, BadHex, BadLine}
-use Rattle.station_files.specs.declared.faults.Fault.TheVariants.{BadScript, Exists, Busy, SameFile, NotAFile, TooLong}
+use Rattle.station_files.specs.declared.faults.Fault.TheVariants.{BadScript, Exists, Busy, SameFile, NotAFile, TooLong, OtherDevice}
 use Rattle.sii_words.proofs.Quantifiers.{zip_snoc}
 
 -- one more item is loaded, from unchanged files
@@ -87,6 +87,7 @@ plant_refused files name Busy refused = refused
 plant_refused files name SameFile refused = refused
 plant_refused files name NotAFile refused = refused
 plant_refused files name TooLong refused = refused
+plant_refused files name OtherDevice refused = refused
 
 -- the error of a call that is passed on
 pub handed_on : {A : Type 0} (P : Fault → Type 0) (result : Result A Fault) (fault : Fault) → IsErrAnd result (λ error. error ≡ fault) → P fault → IfErr result P

@@ -28,7 +28,7 @@ record IsOfText (files : Known) (fault : Fault) : Type 0 where
 
 -- no edit is refused with it
 edit_is_spelt : (files : Known) (edit : ScriptEdit) (fault : Fault) → IsOfText files fault → ¬ RefusesEdit files edit fault
-edit_is_spelt files (Image slave file) fault is refused = is.image (string_bytes file) refused
+edit_is_spelt files (Image slave file replace) fault is refused = is.image (string_bytes file) refused
 edit_is_spelt files (Alias slave value) fault is refused = is.memory refused
 edit_is_spelt files (Category slave kind words) fault is refused = is.memory refused
 

@@ -1,11 +1,15 @@
 -- Files that stand apart, as they are found one by one.
 use Rattle.std.proofs.Common.{◌≡◌, ℕ, zero, suc, ◌+◌, ◌-◌, ◌<◌, List, [], ◌∷◌, ◌++◌, IfSome, Option, Some, None, length}
 use Rattle.std.proofs.Common.{map, take, drop, get_or, String, Global, string_bytes, refl, sym, ap, ◌∙◌, subst, inl, arith}
+use Rattle.std.proofs.lemmas.Bool.{false≢true}
 use Rattle.std.proofs.lemmas.List.{drop_more, get_or-drop, get_or_default, length-drop, map_more, take_more}
 use Rattle.std.specs.List.{AllByRecursion, AllZip, HoldsAt, slice_index_or}
 use Rattle.station_files.specs.declared.location.Location.{Location}
 use Rattle.station_files.specs.declared.same_files.Clash.{Clash}
-use Rattle.station_files.specs.Locations.{AreSeparate, IsClash, Leads, LeadsTo, MeetAt, Meets, NoneMeet, Place, StandSeparate, place_of}
+use Rattle.station_files.specs.Locations.{AreSeparate, IsClash, Leads, IsSame, LeadsTo, MeetAt, Meets, NoneMeet, OutputIsSeparate, Place, StandSeparate, place_of, standard_output}
+use Rattle.station_files.specs.Files.{IsEntryOf, Known}
+use Rattle.station_files.specs.declared.store.Entry.TheVariants.{Absent, Other}
+use Rattle.std.specs.Prelude.{◌↔◌, Bool, false, IsSome, IsTrue}
 use Rattle.sii_words.proofs.Quantifiers.{all_snoc, zip_snoc}
 
 -- ---- lists of pairs
@@ -71,6 +75,38 @@ both_known : (P : Place → Place → Type 0) (one other : Option Place) (a b : 
 both_known P (Some x) (Some y) a b is_a is_b here = subst (λ (p : Place). P p y) is_a (subst (λ (q : Place). P a q) is_b here)
 both_known P (Some x) None a b is_a is_b here = tt
 both_known P None other a b is_a is_b here = tt
+
+-- the file that standard output goes to, as it was found, isn't the one of this name
+pub output_separate : (files : Known) (leads : Leads) (name : List ℕ) (here there : Location) (same : Bool) → LeadsTo leads standard_output here → LeadsTo leads name there → (IsTrue same ↔ IsSame (place_of here) (place_of there)) → same ≡ false
+    → OutputIsSeparate files leads name
+output_separate files leads name here there same to_here to_there says is =
+    given_anyway (files name) _
+    (both_known (λ a b. ¬ IsSame a b) (leads standard_output) (leads name) (place_of here) (place_of there) to_here.known to_there.known (λ one. cc (says.1 one, is)))
+  where
+    given_anyway : (held : Option (Option (List ℕ))) (P : Type 0) → P → IfSome held (λ found. IsSome found → P)
+    given_anyway None P here = tt
+    given_anyway (Some found) P here = λ some. here
+
+-- what is no file may be both
+pub absent_output : (files read : Known) (leads : Leads) (name : List ℕ) → read ≡ files → IfSome (read name) (λ found. IsEntryOf found Absent) → OutputIsSeparate files leads name
+absent_output files read leads name same is =
+    let P : Known → Type 0 = λ known. OutputIsSeparate known leads name in
+    subst P same (no_file (read name) _ is)
+  where
+    no_file : (held : Option (Option (List ℕ))) (P : Type 0) → IfSome held (λ found. IsEntryOf found Absent) → IfSome held (λ found. IsSome found → P)
+    no_file None P is = tt
+    no_file (Some None) P is = λ some. absurd (false≢true some)
+    no_file (Some (Some bytes)) P is = absurd is
+
+pub other_output : (files read : Known) (leads : Leads) (name : List ℕ) → read ≡ files → IfSome (read name) (λ found. IsEntryOf found Other) → OutputIsSeparate files leads name
+other_output files read leads name same is =
+    let P : Known → Type 0 = λ known. OutputIsSeparate known leads name in
+    subst P same (no_file (read name) _ is)
+  where
+    no_file : (held : Option (Option (List ℕ))) (P : Type 0) → IfSome held (λ found. IsEntryOf found Other) → IfSome held (λ found. IsSome found → P)
+    no_file None P is = tt
+    no_file (Some None) P is = absurd is
+    no_file (Some (Some bytes)) P is = absurd is
 
 stand_separate : (leads : Leads) (one other : List ℕ) (here there : Location) → LeadsTo leads one here → LeadsTo leads other there → ¬ Meets (place_of here) (place_of there) → StandSeparate leads one other
 stand_separate leads one other here there to_here to_there separate = record {

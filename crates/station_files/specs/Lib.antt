@@ -1,4 +1,5 @@
 pub mod Alias
+pub mod Devices
 pub mod Failures
 pub mod Faults
 pub mod FileNames

@@ -1,7 +1,8 @@
 -- Where names of files lead, and which files would be lost with one another.
-use Rattle.std.specs.Prelude.{◌≡◌, ◌≢◌, ◌⊎◌, ◌<◌, ℕ, zero, suc, List, [], ◌∷◌, Option, Some, IfSome, length}
+use Rattle.std.specs.Prelude.{◌≡◌, ◌≢◌, ◌⊎◌, ◌<◌, ℕ, zero, suc, List, [], ◌∷◌, Option, Some, IfSome, IsSome, codes, length}
 use Rattle.std.specs.Prelude.{string_bytes, ⊤}
 use Rattle.std.specs.List.{AllByRecursion, HoldsAt}
+use Rattle.station_files.specs.Files.{Known}
 use Rattle.station_files.specs.declared.location.FileId.{FileId}
 use Rattle.station_files.specs.declared.location.Location.{Location}
 use Rattle.station_files.specs.declared.same_files.Clash.{Clash}
@@ -80,6 +81,15 @@ pub record IsClash (leads : Leads) (count : ℕ) (names : List (List ℕ)) (clas
   pub in_order : clash.one < clash.other
   pub inside : clash.other < length names
   pub meet : HoldsAt (λ (one : List ℕ). HoldsAt (OfBoth leads Meets one) names clash.other) names clash.one
+
+-- the file that standard output goes to
+abbrev pub standard_output : List ℕ
+standard_output = codes "/dev/fd/1"
+
+-- Where there is a file of this name, standard output doesn't go to it, as far as it is known where both lead.
+abbrev pub OutputIsSeparate : Known → Leads → List ℕ → Type 0
+OutputIsSeparate files leads name =
+    IfSome (files name) (λ held. IsSome held → OfBoth leads (λ a b. ¬ IsSame a b) standard_output name)
 
 -- a name leads there
 pub record LeadsTo (leads : Leads) (name : List ℕ) (found : Location) : Type 0 where

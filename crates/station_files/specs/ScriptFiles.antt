@@ -22,7 +22,7 @@ use Rattle.station_files.specs.declared.faults.Fault.TheVariants.{OddLength, Bad
 abbrev pub LoadsEdit : Known → ScriptEdit → Edit → Type 0
 LoadsEdit files (Alias slave value) edit = edit ≡ edits.Alias slave value
 LoadsEdit files (Category slave kind words) edit = edit ≡ edits.Category slave kind words
-LoadsEdit files (Image slave file) edit =
+LoadsEdit files (Image slave file replace) edit =
     (words : List ℕ) × (edit ≡ edits.Image slave words) × HasBytes files (string_bytes file) (bytes_of words)
 
 -- this is the edit of a group, with the identity that it expects, if any
@@ -53,6 +53,10 @@ pub record SpellsCommands (files : Known) (name : List ℕ) (commands : List Com
   pub spelt : Holds files name (λ text. SpellsScriptFile text script)
   pub loaded : AllZip (LoadsCommand files) script commands
 
+-- the text of this file is a script with these commands, whose images aren't read
+abbrev pub SpellsScriptNamed : Known → List ℕ → List ScriptCommand → Type 0
+SpellsScriptNamed files name script = Holds files name (λ text. SpellsScriptFile text script)
+
 -- ---- why a script isn't loaded
 
 -- the fault for an image file that a script names: it can't be read, memory was refused, it is no file, or its bytes are not the words of an image
@@ -66,7 +70,7 @@ RefusesImage files name _ = ⊥
 
 -- the fault for an edit: that of the image file that it names, or memory was refused
 abbrev pub RefusesEdit : Known → ScriptEdit → Fault → Type 0
-RefusesEdit files (Image slave file) fault = RefusesImage files (string_bytes file) fault
+RefusesEdit files (Image slave file replace) fault = RefusesImage files (string_bytes file) fault
 RefusesEdit files edit fault = fault ≡ Memory
 
 -- the fault for one of these, or memory was refused

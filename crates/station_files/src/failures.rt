@@ -27,7 +27,7 @@ impl Failures {
         }
     }
 
-    /// Notes a failure, and returns its exit status. Behind eight failures none is kept any more.
+    /// Notes a failure, and returns its exit status. After eight failures none is kept any more.
     pub fn note_failure(&mut self, failure: Failure) -> ExitStatus
         ensures done { result ≢ ExitStatus.Done }
         ensures noted { met_by self.new ≡ with_failure (met_by self.old) failure }

@@ -58,6 +58,8 @@ pub enum Fault {
     NotAFile,
     /// The file is longer than any of its kind.
     TooLong,
+    /// An image is that of another device than the one that it is to be written to, or has fewer words.
+    OtherDevice,
 }
 
 /// A refused command, as it is printed.
@@ -136,6 +138,7 @@ impl Fault {
             Fault::SameFile => Code::SameFile,
             Fault::NotAFile => Code::NotAFile,
             Fault::TooLong => Code::TooLong,
+            Fault::OtherDevice => Code::OtherDevice,
         }
     }
 

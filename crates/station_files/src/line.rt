@@ -54,7 +54,7 @@ fn spelt_line<S: Store>(
     }
 }
 
-/// Reads the EEPROM image of each slave, in the order of the line. Each file is judged before the next one is read.
+/// Reads the EEPROM image of each slave, in the order of the line. Each file is validated before the next one is read.
 ///
 /// # Errors
 ///
@@ -107,7 +107,7 @@ pub fn load_slave<S: Store>(alloc: Global, name: &str, store: &mut S) -> Result<
 /// # Errors
 ///
 /// As for `load_line`, then as for `load_slaves`.
-pub(crate) fn load_plant<S: Store>(alloc: Global, name: &str, store: &mut S) -> Result<Plant, Fault>
+pub fn load_plant<S: Store>(alloc: Global, name: &str, store: &mut S) -> Result<Plant, Fault>
     ensures plant { IfOk result (SpellsPlant (S.files store.old) name.now) }
     ensures refused { IfErr result (RefusesPlant (S.files store.old) name.now) }
     ensures same { S.files store.new ≡ S.files store.old }

@@ -1,4 +1,4 @@
-//! How two files of a line are told of which one would be lost with the other.
+//! How two files of a line are reported of which one would be lost with the other.
 
 use thiserror::Error;
 

@@ -28,6 +28,8 @@ pub enum Wrong {
     TooLong(u64),
     #[error("the file is there already")]
     Exists,
+    #[error("standard output goes to it too; where the shell has opened it by >, it is empty already")]
+    Output,
     #[error("the file is there, and is no capture of this program")]
     NoCapture,
     #[error("no UTF-8")]

@@ -100,7 +100,7 @@ impl FileNames {
         }
     }
 
-    /// The file at this place, as it is told.
+    /// The file at this place, as it is reported.
     fn reported(&self, place: usize) -> Reported<'_> {
         let role = match place.checked_sub(usize::from(self.has_capture)) {
             None => Role::Capture,

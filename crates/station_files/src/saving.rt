@@ -1,48 +1,9 @@
-//! Saves the contents of a line to its slaves' image files.
-ghost use Rattle.std.specs.Prelude.{◌≡◌, length, map, string_bytes, IfErr, IfOk, OnOk};
-ghost use Rattle.sii_words.specs.Words.{bytes_of};
-ghost use Rattle.station_files.specs.Faults.{IsOfStream};
+//! Writes several files as a whole each.
+ghost use Rattle.std.specs.Prelude.{◌≡◌, length, map, string_bytes, OnOk};
 ghost use Rattle.station_files.specs.Files.{ChangesAmong, HoldsAll};
 
-use crate::faults::Fault;
 use crate::store::Store;
-use sii_words::Plant;
-use std::alloc::{AllocError, Global};
 use std::io;
-
-/// Writes the contents of each slave to its image file, in order. Requires one file name for each slave.
-///
-/// # Errors
-///
-/// `Memory`, or `File` where a name can't be resolved, before any file is written; then `File` or `Memory`, as the store answers, with the
-/// files before that one written.
-pub fn save_slaves<S: Store>(
-    alloc: Global,
-    images: &[String],
-    contents: &Plant,
-    store: &mut S,
-) -> Result<(), Fault>
-    requires { length images.now ≡ length contents.now }
-    ensures saved { OnOk result (HoldsAll (S.files store.new) (map (λ name. string_bytes name) images.now) (map bytes_of contents.now)) }
-    ensures others { ChangesAmong (S.files store.old) (S.files store.new) (map (λ name. string_bytes name) images.now) }
-    ensures failed { IfErr result IsOfStream }
-{
-    let files = spell_slaves(alloc, contents)?;
-    prepare_files(images, store)?;
-    write_files(images, &files, store)?;
-    Ok(())
-}
-
-/// The bytes of each slave's image file.
-fn spell_slaves(alloc: Global, contents: &Plant) -> Result<Vec<Vec<u8>>, AllocError>
-    ensures { IfOk result (λ files. map (λ file. file.items) files.items ≡ map bytes_of contents.now) }
-{
-    let mut files = Vec::new(alloc);
-    for slave in 0..contents.len() {
-        files.push(contents.slave(slave).to_bytes()?)?;
-    }
-    Ok(files)
-}
 
 /// Takes the memory that the store needs to write the files of these names. No file changes.
 ///

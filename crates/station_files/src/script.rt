@@ -1,6 +1,6 @@
 //! Reads a script file and the images that it names into commands.
 ghost use Rattle.std.specs.Prelude.{◌≡◌, IfErr, IfOk};
-ghost use Rattle.station_files.specs.ScriptFiles.{RefusesScript, RefusesText, SpellsCommands};
+ghost use Rattle.station_files.specs.ScriptFiles.{RefusesScript, RefusesText, SpellsCommands, SpellsScriptNamed};
 ghost use Rattle.station_text.specs.ScriptText.{SpellsScriptFile};
 
 use crate::faults::Fault;
@@ -12,23 +12,30 @@ use station_listing::Code;
 use station_text::{ScriptCommand, ScriptFault, line_at, read_script};
 use std::alloc::Global;
 
-/// Reads the commands of the script file `name`. The whole text is judged before the first image that it names is read.
+/// A script that was read, with the images that it names.
+#[derive(Drop)]
+pub struct Script {
+    /// Its commands, with the words of their images.
+    pub commands: Vec<Command>,
+    /// The same commands as its text spells them.
+    pub spelt: Vec<ScriptCommand>,
+}
+
+/// Reads the commands of the script file `name`. The whole text is validated before the first image that it names is read.
 ///
 /// # Errors
 ///
 /// As for `read_file`; `BadScript` where it is not UTF-8 or not a script; then as for `load_commands`. `Memory` may come at any point.
-pub fn load_script<S: Store>(
-    alloc: Global,
-    name: &str,
-    store: &mut S,
-) -> Result<Vec<Command>, Fault>
-    ensures commands { IfOk result (λ commands. SpellsCommands (S.files store.old) name.now commands.items) }
+pub fn load_script<S: Store>(alloc: Global, name: &str, store: &mut S) -> Result<Script, Fault>
+    ensures commands { IfOk result (λ script. SpellsCommands (S.files store.old) name.now script.commands.items) }
+    ensures spelt { IfOk result (λ script. SpellsScriptNamed (S.files store.old) name.now script.spelt.items) }
     ensures refused { IfErr result (RefusesScript (S.files store.old) name.now) }
     ensures same { S.files store.new ≡ S.files store.old }
 {
     let bytes = read_file(alloc, name, MOST_OF_TEXT, store)?;
-    let script = spelt_script(alloc, name, &bytes, store)?;
-    load_commands(alloc, &script, store)
+    let spelt = spelt_script(alloc, name, &bytes, store)?;
+    let commands = load_commands(alloc, &spelt, store)?;
+    Ok(Script { commands, spelt })
 }
 
 /// The commands of the script of this name, which has these bytes.

@@ -15,7 +15,7 @@ use station_text::{ScriptCommand, ScriptEdit, ScriptGroupEdit};
 use std::alloc::Global;
 
 /// Turns the commands of a script into commands with the words of their images. The files are read in the order of the commands, each
-/// judged before the next one is read.
+/// validated before the next one is read.
 ///
 /// # Errors
 ///
@@ -139,7 +139,7 @@ fn load_edit<S: Store>(alloc: Global, edit: &ScriptEdit, store: &mut S) -> Resul
             kind: *kind,
             words: words.try_copy()?,
         }),
-        ScriptEdit::Image { slave, file } => {
+        ScriptEdit::Image { slave, file, .. } => {
             let image = load_image(alloc, file.as_str(), store)?;
             Ok(Edit::Image {
                 slave: *slave,

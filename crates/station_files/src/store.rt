@@ -58,7 +58,7 @@ pub trait Store {
     fn prepare(&mut self, name: &str) -> io::Result<()>
         ensures same { files self.new ≡ files self.old };
 
-    /// Finds out where a name leads, so that two names of the same file can be told. No file changes. A store whose names are whole and
+    /// Finds out where a name leads, so that two names of the same file can be recognized. No file changes. A store whose names are whole and
     /// without links answers `Location::of_name`.
     ///
     /// # Errors

@@ -15,7 +15,7 @@ use Rattle.station_text.specs.declared.line_file.LineFile.{LineFile}
 use Rattle.station_files.specs.declared.faults.Fault.{Fault}
 use Rattle.station_files.specs.declared.faults.Fault.TheVariants.{OddLength, BadSize, ImageOverLimit, Memory, Disk, Lost, Stopped, SlaveDead}
 use Rattle.station_files.specs.declared.faults.Fault.TheVariants.{NotAJournal, BadVersion, BadJournal, WrongLine, Unserved, File, BadHex, BadLine}
-use Rattle.station_files.specs.declared.faults.Fault.TheVariants.{BadScript, Exists, Busy, SameFile, NotAFile, TooLong}
+use Rattle.station_files.specs.declared.faults.Fault.TheVariants.{BadScript, Exists, Busy, SameFile, NotAFile, TooLong, OtherDevice}
 use Rattle.station_line.specs.Init.{RefusesUnformatted}
 use Rattle.station_line.specs.Refusals.{RefusesJournalFile, RefusesSession}
 
@@ -43,6 +43,7 @@ line_refused files leads name (BadScript command) refused = refused
 line_refused files leads name Busy refused = refused
 line_refused files leads name NotAFile refused = refused
 line_refused files leads name TooLong refused = refused
+line_refused files leads name OtherDevice refused = refused
 line_refused files leads name SameFile (inl line) = absurd line
 line_refused files leads name SameFile (inr slaves) = absurd slaves.2.bad
 
@@ -79,6 +80,7 @@ plant_refused files leads name (BadScript command) refused = refused
 plant_refused files leads name Exists refused = refused
 plant_refused files leads name NotAFile refused = inl refused
 plant_refused files leads name TooLong refused = inl refused
+plant_refused files leads name OtherDevice refused = refused
 
 -- nor are files of which two are one
 pub same_refused : (files : Known) (leads : Leads) (name : List ℕ) (line : LineFile) (fault : Fault) → SpellsLine files name line → RefusesLineNames leads line name fault → RefusesSession files leads name fault

@@ -7,7 +7,7 @@ use site_core::DeviceFault;
 use station_files::Fault;
 
 /// The program's fault for a fault of a device call.
-pub fn of_device(fault: DeviceFault) -> Fault
+pub(crate) fn of_device(fault: DeviceFault) -> Fault
     ensures { result ≡ of_device fault }
 {
     match fault {

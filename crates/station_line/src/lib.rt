@@ -19,7 +19,6 @@ mod validating;
 pub use answers::{Answers, fault_of_book, print_accepted, print_refused, refused_as};
 pub use bad_journal::note_journal;
 pub use commands::serve_commands;
-pub use device_faults::of_device;
 pub use faults::{of_journal, of_open};
 pub use init::init_line;
 pub use loading::{LoadedLine, load};

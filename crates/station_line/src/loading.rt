@@ -10,7 +10,7 @@ ghost use Rattle.station_line.specs.Refusals.{RefusesCommandFiles, RefusesRun};
 use crate::faults::of_journal;
 use crate::session::{Session, load_session};
 use sii_edit::Command;
-use station_files::{Fault, FileNames, Store, keep_separate, load_script};
+use station_files::{Fault, FileNames, Script, Store, keep_separate, load_script};
 use std::alloc::Global;
 
 /// What was read for a run.
@@ -23,7 +23,7 @@ pub struct LoadedLine<L> {
 }
 
 /// Reads the files in this order: line file, images of the slaves, journal, script, images that the script names. None of those that a run
-/// writes may be another one of them, the line file or the script. Then the journal's content is judged.
+/// writes may be another one of them, the line file or the script. Then the journal's content is validated.
 ///
 /// # Errors
 ///
@@ -82,12 +82,15 @@ fn load_commands<S: Store>(
         script.now) }
     ensures same { S.files store.new ≡ S.files store.old }
 {
-    let commands = load_script(alloc, script, store)?;
+    let loaded = load_script(alloc, script, store)?;
     let all = files.with_script(alloc, script)?;
     match keep_separate(alloc, &all, store) {
-        Ok(()) => Ok(commands),
+        Ok(()) => {
+            let Script { commands, .. } = loaded;
+            Ok(commands)
+        }
         Err(fault) => {
-            drop(commands);
+            drop(loaded);
             Err(fault)
         }
     }

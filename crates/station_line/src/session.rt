@@ -25,7 +25,7 @@ pub struct Session<L> {
     pub site: ShadowSite<FaultPlan>,
     /// Whether the journal's version byte is other than 2.
     pub is_old: bool,
-    /// Why the journal is refused, or that memory was refused as it was judged; `None` where it is a journal of the line.
+    /// Why the journal is refused, or that memory was refused as it was validated; `None` where it is a journal of the line.
     pub refusal: Option<JournalFault>,
     /// The lock of the journal, which keeps other stations away.
     pub lock: L,

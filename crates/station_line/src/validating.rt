@@ -1,4 +1,4 @@
-//! Judges the bytes of a journal's file before a file is opened for writing.
+//! Validates the bytes of a journal's file before a file is opened for writing.
 ghost use Rattle.std.specs.Prelude.{◌≡◌, map, length, IfOk, MatchOption};
 ghost use Rattle.jrn_format.specs.Fault.{IsFaultOf};
 ghost use Rattle.station_line.specs.Validating.{HasJournal};
@@ -11,7 +11,7 @@ use station_files::Store;
 use std::alloc::{AllocError, Global};
 
 /// Why these bytes of the file of this name are refused as the journal of a line of slaves with these words, or that memory was refused as they
-/// were judged; `None` where they are its journal.
+/// were validated; `None` where they are its journal.
 ///
 /// # Errors
 ///

@@ -1,5 +1,5 @@
--- The listing of an EEPROM image: whether its check byte is right, and the categories of its chain with their numbers of items.
-use Rattle.std.specs.Prelude.{◌≡◌, ◌≢◌, ◌%◌, ◌⊎◌, ℕ, List, length, slice_index, All}
+-- The listing of an EEPROM image: whether its check byte is right, and the categories of its chain with their items.
+use Rattle.std.specs.Prelude.{◌≡◌, ◌≢◌, ◌%◌, ◌⊎◌, ◌<◌, ◌≤◌, ℕ, List, length, slice_index, All}
 use Rattle.std.specs.List.{AllZip}
 use Rattle.sii_words.specs.CheckByte.{IsChecked, check_byte_of}
 use Rattle.sii_words.specs.Identity.{identity_of}
@@ -7,20 +7,16 @@ use Rattle.sii_words.specs.Words.{alias_of}
 use Rattle.sii_cats.specs.Bytes.{bytes_of}
 use Rattle.sii_cats.specs.Chain.{IsChain, IsCutAt, Member}
 use Rattle.sii_cats.specs.Contents.{AreManagers, AreUnits}
-use Rattle.sii_cats.specs.Pdos.{ArePdos}
-use Rattle.sii_cats.specs.Strings.{AreStrings}
-use Rattle.station_listing.specs.declared.content.Content.{Content}
-use Rattle.station_listing.specs.declared.content.Content.TheVariants.{Strings, Units, Managers, Pdos, Malformed, Opaque}
+use Rattle.sii_cats.specs.Pdos.{ArePdos, views}
+use Rattle.sii_cats.specs.Strings.{AreStrings, texts}
+use Rattle.station_listing.specs.declared.items.Items.{Items}
+use Rattle.station_listing.specs.declared.items.Items.TheVariants as items
 use Rattle.station_listing.specs.declared.listing.CheckByte.{CheckByte}
 use Rattle.station_listing.specs.declared.listing.CheckByte.TheVariants.{Right, Wrong}
 use Rattle.station_listing.specs.declared.listing.ListedCategory.{ListedCategory}
 use Rattle.station_listing.specs.declared.listing.ListedChain.{ListedChain}
 use Rattle.station_listing.specs.declared.listing.ListedChain.TheVariants.{Complete, RunsOut}
 use Rattle.station_listing.specs.declared.listing.Listing.{Listing}
-
--- the bytes of these words spell this number of items
-abbrev pub CountsItems : {X : Type 0} → (List ℕ → List X → Type 0) → List ℕ → ℕ → Type 0
-CountsItems {X} Spell words count = (items : List X) × Spell (bytes_of words) items × (count ≡ length items)
 
 -- the bytes of these words spell no list of items
 abbrev pub SpellsNone : {X : Type 0} → (List ℕ → List X → Type 0) → List ℕ → Type 0
@@ -30,20 +26,30 @@ SpellsNone {X} Spell words = (items : List X) → Spell (bytes_of words) items �
 abbrev pub IsPdoType : ℕ → Type 0
 IsPdoType kind = (kind ≡ 50) ⊎ (kind ≡ 51)
 
--- this is the listing of the content of a category of this type
-abbrev pub SaysContent : ℕ → List ℕ → Content → Type 0
-SaysContent kind words (Strings count) = (kind ≡ 10) × CountsItems AreStrings words count
-SaysContent kind words (Units count) = (kind ≡ 40) × CountsItems AreUnits words count
-SaysContent kind words (Managers count) = (kind ≡ 41) × CountsItems AreManagers words count
-SaysContent kind words (Pdos count) = IsPdoType kind × CountsItems ArePdos words count
-SaysContent kind words Malformed = ((kind ≡ 10) × SpellsNone AreStrings words) ⊎ (IsPdoType kind × SpellsNone ArePdos words)
-SaysContent kind words Opaque = (kind ≢ 10) × (kind ≢ 40) × (kind ≢ 41) × (kind ≢ 50) × (kind ≢ 51)
+-- this content should be readable, and isn't
+abbrev pub IsMalformed : ℕ → List ℕ → Type 0
+IsMalformed kind words = ((kind ≡ 10) × SpellsNone AreStrings words) ⊎ (IsPdoType kind × SpellsNone ArePdos words)
 
--- this is the listing of a category: its type, the number of words of its content, and the content's listing
+-- the content of a category of this type isn't read
+abbrev pub IsOpaque : ℕ → List ℕ → Type 0
+IsOpaque kind words =
+    ((kind ≡ 30) × (length words < 7)) ⊎ ((kind ≢ 10) × (kind ≢ 30) × (kind ≢ 40) × (kind ≢ 41) × (kind ≢ 50) × (kind ≢ 51))
+
+-- these are the items of a content of this type
+abbrev pub SaysItems : ℕ → List ℕ → Items → Type 0
+SaysItems kind words (items.Strings strings) = (kind ≡ 10) × AreStrings (bytes_of words) (texts strings.items)
+SaysItems kind words items.General = (kind ≡ 30) × (7 ≤ length words)
+SaysItems kind words (items.Units units) = (kind ≡ 40) × AreUnits (bytes_of words) units.items
+SaysItems kind words (items.Managers managers) = (kind ≡ 41) × AreManagers (bytes_of words) managers.items
+SaysItems kind words (items.Pdos pdos) = IsPdoType kind × ArePdos (bytes_of words) (views pdos.items)
+SaysItems kind words items.Malformed = IsMalformed kind words
+SaysItems kind words items.Words = IsOpaque kind words
+
+-- this is the listing of a category: its type, the words of its content, and the items in it
 pub record SaysMember (member : Member) (listed : ListedCategory) : Type 0 where
   pub kind : listed.kind ≡ member.kind
-  pub count : listed.count ≡ length member.content
-  pub content : SaysContent member.kind member.content listed.content
+  pub words : listed.words.items ≡ member.content
+  pub items : SaysItems member.kind member.content listed.items
 
 -- this is the listing of the chain: its categories, or the header from which on it can't be read
 abbrev pub SaysChain : List ℕ → ListedChain → Type 0
@@ -65,7 +71,7 @@ pub record SaysImage (words : List ℕ) (listing : Listing) : Type 0 where
 
 -- the chain and all contents can be read
 abbrev pub IsReadable : ListedChain → Type 0
-IsReadable (Complete listed) = All (λ category. category.content ≢ Malformed) listed.items
+IsReadable (Complete listed) = All (λ category. category.items ≢ items.Malformed) listed.items
 IsReadable (RunsOut at) = ⊥
 
 -- the check byte is right, and the chain and all contents can be read

@@ -1,2 +1,1 @@
-pub mod ImageItems
 pub mod ImageListing

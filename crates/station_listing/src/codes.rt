@@ -68,6 +68,7 @@ pub enum Code {
     StationAddress = 113,
     OtherDevice = 114,
     OtherWords = 115,
+    NothingPending = 116,
 }
 
 /// The entry of a code in the table.
@@ -80,7 +81,7 @@ pub struct CodeEntry {
 }
 
 /// All codes, in the order of their numbers.
-pub const CODES: [Code; 60] = [
+pub const CODES: [Code; 61] = [
     Code::OddLength,
     Code::BadSize,
     Code::RunsOut,
@@ -141,6 +142,7 @@ pub const CODES: [Code; 60] = [
     Code::StationAddress,
     Code::OtherDevice,
     Code::OtherWords,
+    Code::NothingPending,
 ];
 
 /// Law: each code stands in the table `CODES`.
@@ -232,7 +234,8 @@ impl Code {
             Code::OtherSize => &wire_explanations::OTHER_SIZE,
             Code::StationAddress => &wire_explanations::STATION_ADDRESS,
             Code::OtherDevice => &wire_explanations::OTHER_DEVICE,
-            _ => &wire_explanations::OTHER_WORDS,
+            Code::OtherWords => &wire_explanations::OTHER_WORDS,
+            _ => &wire_explanations::NOTHING_PENDING,
         }
     }
 }

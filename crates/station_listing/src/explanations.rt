@@ -95,14 +95,15 @@ pub(crate) const IMAGE_OVER_LIMIT: CodeEntry = CodeEntry {
 
 pub(crate) const MEMORY: CodeEntry = CodeEntry {
     name: "Memory",
-    explanation: "There was no memory left. The system refused memory that the work needs. What was asked for wasn't done. Free memory, \
-        and try again.",
+    explanation: "There was no memory left. The system refused memory that the work needs. A refused command changes nothing; where a fault \
+        ended the work, some of it may be done. Free memory, recover the line where a run or a recovery had begun, and try again.",
 };
 
 pub(crate) const WRONG_IDENTITY: CodeEntry = CodeEntry {
     name: "WrongIdentity",
     explanation: "The slave isn't the one that was expected. Its vendor, product code or revision differs from what the edit expects, \
-        just before the edit. Look at the image with show. Check that the slaves stand in the right order, or correct what is expected.",
+        just before the edit. Look at the image with show; with --verbose, and on a wire, a line says both. Check \
+        that the slaves stand in the right order, or correct what is expected.",
 };
 
 pub(crate) const FRAME_FULL: CodeEntry = CodeEntry {
@@ -119,8 +120,8 @@ pub(crate) const BAD_FRAME: CodeEntry = CodeEntry {
 
 pub(crate) const DISK: CodeEntry = CodeEntry {
     name: "Disk",
-    explanation: "The disk failed. A read, a write or a flush of the journal was answered with an error. Look at the disk. Then recover \
-        the line, which ends what the journal holds.",
+    explanation: "The disk failed. A read, a write or a flush of the journal, or of an image file, was answered with an error. Look at the \
+        disk, and whether it is full. Then recover the line, which ends what the journal holds.",
 };
 
 pub(crate) const LOST: CodeEntry = CodeEntry {
@@ -131,14 +132,16 @@ pub(crate) const LOST: CodeEntry = CodeEntry {
 
 pub(crate) const STOPPED: CodeEntry = CodeEntry {
     name: "Stopped",
-    explanation: "The station has stopped. The power was cut. What was journaled before is kept. Recover the line: each command that \
-        the journal holds in whole is completed. Of any other no word was written.",
+    explanation: "The station has stopped. The power was cut, as --fuse plans it. What was journaled before is kept. Recover the line: \
+        each command that the journal holds in whole is completed. Of any other no word was written.",
 };
 
 pub(crate) const SLAVE_DEAD: CodeEntry = CodeEntry {
     name: "SlaveDead",
-    explanation: "A slave doesn't take a word. The word failed three times, or the EEPROM stayed busy. Look at the slave, and recover \
-        the line once it answers. The journal keeps the command until then.",
+    explanation: "A slave can't be worked on. A word of it couldn't be read or written in several tries, its EEPROM stayed busy, or on a \
+        wire it doesn't answer, or not alone. Look at the slave, its power and its cables; on a wire the second line says what was seen. \
+        After a run or a recovery recover the line once it answers: the journal keeps the command until then. On a wire pending \
+        says what the slave is to get, and gives it up where it can't be written any more.",
 };
 
 pub(crate) const NOT_A_JOURNAL: CodeEntry = CodeEntry {
@@ -156,7 +159,7 @@ pub(crate) const BAD_VERSION: CodeEntry = CodeEntry {
 pub(crate) const BAD_JOURNAL: CodeEntry = CodeEntry {
     name: "BadJournal",
     explanation: "The journal is damaged. From the named byte on it isn't spelt as a journal is. A power cut leaves none like that. \
-        Keep the file, look at each slave with show, and start a new journal with init.",
+        Move the file away and keep it, look at each slave with show, and start a new journal with init.",
 };
 
 pub(crate) const WRONG_LINE: CodeEntry = CodeEntry {
@@ -216,8 +219,9 @@ pub(crate) const NO_SHARE: CodeEntry = CodeEntry {
 
 pub(crate) const FILE: CodeEntry = CodeEntry {
     name: "File",
-    explanation: "A file or a stream couldn't be read or written. It isn't there, the system refused it, or it gave no end. Check the \
-        names in the command, in the line file and in the script, and the rights to the files.",
+    explanation: "A file or a stream couldn't be read or written. It isn't there, the system refused it, it gave no end, or the disk is \
+        full. Check the names in the command, in the line file and in the script, the rights to the files, and where the output goes. After a \
+        run or a recovery recover the line.",
 };
 
 pub(crate) const BAD_HEX: CodeEntry = CodeEntry {
@@ -229,13 +233,13 @@ pub(crate) const BAD_HEX: CodeEntry = CodeEntry {
 pub(crate) const BAD_LINE: CodeEntry = CodeEntry {
     name: "BadLine",
     explanation: "The text is no line file. It has the keys journal, area and slave, and each slave has an image. Other keys, missing \
-        keys and values out of range are not taken. Compare it with the line file in the help of run.",
+        keys and values out of range are not taken. Compare it with the line file in the help of sii_station run.",
 };
 
 pub(crate) const BAD_SCRIPT: CodeEntry = CodeEntry {
     name: "BadScript",
     explanation: "The text is no script. The number is the place of the first bad command, counted from 0; it is 0 too where the text \
-        as a whole is bad. Compare that command with the script in the help of run.",
+        as a whole is bad. Compare that command with the script in the help of sii_station run.",
 };
 
 pub(crate) const EXISTS: CodeEntry = CodeEntry {
@@ -247,8 +251,8 @@ pub(crate) const EXISTS: CodeEntry = CodeEntry {
 
 pub(crate) const BUSY: CodeEntry = CodeEntry {
     name: "Busy",
-    explanation: "Another station works on this journal. Two stations that write the same slaves would leave neither's commands. Wait \
-        until it ends, or end it, and try again. Nothing was written.",
+    explanation: "Another station works on this journal, or writes this capture. Two stations that write the same slaves would leave \
+        neither's commands. Wait until it ends, or end it, and try again. Nothing was written.",
 };
 
 pub(crate) const SAME_FILE: CodeEntry = CodeEntry {
@@ -256,7 +260,8 @@ pub(crate) const SAME_FILE: CodeEntry = CodeEntry {
     explanation: "Two names lead to the same file. The journal and the images of the slaves are written, so each has to be a file of \
         its own: under no other name, and under no link, the file of another slave, the line file or the script. An image that a \
         script names is read before, so it may be any file. While NAME is replaced, the new file is called .NAME.new, so no other \
-        file may have that name. Give each slave a file of its own. Nothing was written.",
+        file may have that name. Give each slave a file of its own. Standard output may not go to an image that is read: name \
+        another file, or say alias -i; what a shell has opened by > is empty by then. Nothing was written.",
 };
 
 pub(crate) const NOT_A_FILE: CodeEntry = CodeEntry {

@@ -2,13 +2,11 @@
 #![tactic(auto)]
 
 mod codes;
-mod content;
 mod explanations;
 mod items;
 mod listing;
 mod wire_explanations;
 
 pub use codes::{CODES, Code, CodeEntry, each_code_is_listed, find_code};
-pub use content::Content;
-pub use items::{General, Items, read_items};
-pub use listing::{CheckByte, ListedCategory, ListedChain, Listing, list_image};
+pub use items::Items;
+pub use listing::{CheckByte, ListedCategory, ListedChain, Listing, list_chain, list_image};

@@ -1,10 +1,10 @@
-//! Lists the content of an EEPROM image, as `show` prints it.
+//! Lists what an EEPROM image says.
 ghost use Rattle.std.specs.Prelude.{◌≡◌, ◌≤◌, ◌↔◌, IfOk, IsTrue, length, map};
 ghost use Rattle.std.specs.List.{AllZip};
 ghost use Rattle.sii_cats.specs.Chain.{ArePlaced, end_of, member_of};
 ghost use Rattle.station_listing.specs.ImageListing.{IsReadable, IsSound, SaysChain, SaysCheck, SaysImage, SaysMember};
 
-use crate::content::{Content, read_content};
+use crate::items::{Items, read_items};
 use sii_cats::{Category, ChainFault, chain};
 use sii_words::{Identity, ImageFile};
 use std::alloc::{AllocError, Global};
@@ -43,14 +43,14 @@ pub enum ListedChain {
 }
 
 /// The listing of a category.
-#[derive(Clone, Copy)]
+#[derive(Drop)]
 pub struct ListedCategory {
     /// The type of the category.
     pub kind: u16,
-    /// The number of words of its content.
-    pub count: usize,
-    /// The number of items in its content.
-    pub content: Content,
+    /// Its content, as words.
+    pub words: Vec<u16>,
+    /// What the content was read into.
+    pub items: Items,
 }
 
 /// Lists the content of an EEPROM image.
@@ -83,7 +83,12 @@ fn validate_check(image: &ImageFile) -> CheckByte
     }
 }
 
-fn list_chain(alloc: Global, words: &[u16]) -> Result<ListedChain, AllocError>
+/// Lists the chain of categories of an image with these words, of which there are at least 64.
+///
+/// # Errors
+///
+/// Memory was refused.
+pub fn list_chain(alloc: Global, words: &[u16]) -> Result<ListedChain, AllocError>
     requires { 64 ≤ length words.now }
     ensures { IfOk result (SaysChain words.now) }
 {
@@ -120,8 +125,8 @@ fn list_category(
     let content = category.content(words);
     Ok(ListedCategory {
         kind: category.kind,
-        count: content.len(),
-        content: read_content(alloc, category.kind, content)?,
+        words: content.to_vec(alloc)?,
+        items: read_items(alloc, category.kind, content)?,
     })
 }
 
@@ -141,7 +146,7 @@ impl ListedChain {
         match self {
             ListedChain::Complete(categories) => categories
                 .iter()
-                .all(|category| !category.content.is_malformed()),
+                .all(|category| !category.items.are_malformed()),
             ListedChain::RunsOut { .. } => false,
         }
     }

@@ -22,15 +22,15 @@ pub(crate) const TOO_MANY_SLAVES: CodeEntry = CodeEntry {
 pub(crate) const UNKNOWN_SIZE: CodeEntry = CodeEntry {
     name: "UnknownSize",
     explanation: "The size of a slave's EEPROM can't be told. All words of the slave with this number that were compared are alike, and \
-        word 0x3E tells another size. Blank EEPROMs are like that. Look up the size of the EEPROM in the slave's data sheet, and say it \
-        to backup: --words SLAVE=N. Later calls take it from the image file.",
+        word 0x3E tells another size. Blank EEPROMs are like that. Look up the size of the EEPROM in the slave's data sheet, and say it: \
+        --words SLAVE=N. With a line file later calls take it from the image file.",
 };
 
 pub(crate) const OTHER_COUNT: CodeEntry = CodeEntry {
     name: "OtherCount",
     explanation: "The line file names another number of slaves than the line has. Each slave of the line needs an image file. The \
-        number is that of the slaves of the line. Correct the line file, or give the name of one that isn't there, which is then \
-        written.",
+        number is that of the slaves of the line. Correct the line file, or name one that isn't there to backup, \
+        which writes it.",
 };
 
 pub(crate) const DIFFERS: CodeEntry = CodeEntry {
@@ -99,14 +99,21 @@ pub(crate) const OTHER_DEVICE: CodeEntry = CodeEntry {
     name: "OtherDevice",
     explanation: "An image is that of another device than the slave. Its vendor or product differs from those of the slave with this \
         number, or it has fewer words than its EEPROM. Look at both with show, and name the right slave or the right image. If the \
-        slave is to become this device, say --any-device. Nothing was written.",
+        slave is to become this device, say --any-device, or in a script replace = true with the image. Nothing was written.",
 };
 
 pub(crate) const OTHER_WORDS: CodeEntry = CodeEntry {
     name: "OtherWords",
     explanation: "A slave has other words than its image file. Words that a recovery writes don't count. The slave with this number isn't \
         the one that it was, or was changed by another tool, or its image file was edited; in brackets are how many words differ, and the \
-        first of them. With --verbose a second line says what it usually is. Plug the cables as they were, or say for the slave which is \
+        first of them. A second line says what it usually is. Plug the cables as they were, or say for the slave which is \
         right: --found takes its words into the image file, --file writes those of the image file, and --exchanged gives a new slave of \
         the same type what its place had. Nothing was written.",
+};
+
+pub(crate) const NOTHING_PENDING: CodeEntry = CodeEntry {
+    name: "NothingPending",
+    explanation: "Nothing is pending for the slave that is to be given up. The slave with this number has all words that the journal names for \
+        it, or the line has no such slave. See with pending, without --give-up, for which slaves there is something, and recover the line. \
+        Nothing was written.",
 };

@@ -31,8 +31,7 @@ pub const END: Cell<'static> = Cell {
 pub fn named<'a, T: Into<Value<'a>>>(name: &'a str, value: T) -> Cell<'a> {
     Cell {
         text: Some(name),
-        key: Some(name),
-        value: value.into(),
+        ..data(name, value)
     }
 }
 

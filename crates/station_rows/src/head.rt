@@ -1,33 +1,38 @@
 //! What the first 64 words of an image say beside alias, check byte and identity (ETG.1000.6, slave information interface; ETG.2010).
 ghost use Rattle.std.specs.Prelude.{◌<◌};
 
+use crate::bytes::{byte_at, word_at};
 use crate::cell::{bare, named, said};
+use crate::general::push_bits;
 use crate::rows::Rows;
 use crate::value::Value;
 use std::alloc::AllocError;
 
-/// A word of an image, which has at least 64.
-fn word_at(words: &[u16], at: usize) -> u16 {
-    words.get(at).copied().unwrap_or(0)
-}
+/// The protocols that the bits of word 0x1C say the mailboxes have, lowest first.
+const PROTOCOLS: [&str; 6] = ["aoe", "eoe", "coe", "foe", "soe", "voe"];
 
 /// Puts rows of what the first words of an image say of the PDI, the mailboxes, their protocols, and the EEPROM.
-///
-/// # Errors
-///
-/// Memory was refused.
 pub(crate) fn put_head(rows: &mut Rows, words: &[u16]) -> Result<(), AllocError> {
+    let byte = byte_at(words, 0);
+    let word = pdi_of(byte);
     let pdi = [
         said("", "pdi"),
         named("control", Value::Word(word_at(words, 0))),
         named("configuration", Value::Word(word_at(words, 1))),
         named("second", Value::Word(word_at(words, 3))),
         named("impulse", word_at(words, 2)),
+        named("type", Value::Kind { word, byte }),
+        named("emulation", byte_at(words, 1) % 2 == 1),
     ];
     rows.put("pdi", &pdi)?;
     put_mailbox(rows, words, "bootstrap", 0x14)?;
     put_mailbox(rows, words, "standard", 0x18)?;
-    put_protocols(rows, word_at(words, 0x1c))?;
+    let mut protocols = vec![in rows.alloc();
+        said("", "protocols"),
+        bare("bits", Value::Word(word_at(words, 0x1c))),
+    ]?;
+    push_bits(&mut protocols, byte_at(words, 0x38), &PROTOCOLS)?;
+    rows.put("protocols", &protocols)?;
     let size = 64 * (usize::from(word_at(words, 0x3e)) + 1);
     let eeprom = [
         said("", "eeprom"),
@@ -57,17 +62,18 @@ fn put_mailbox(
     rows.put("mailbox", &row)
 }
 
-/// Puts which protocols the mailboxes have, by the bits of word 0x1C.
-fn put_protocols(rows: &mut Rows, bits: u16) -> Result<(), AllocError> {
-    let row = [
-        said("", "protocols"),
-        bare("bits", Value::Word(bits)),
-        named("aoe", bits % 2 == 1),
-        named("eoe", bits / 2 % 2 == 1),
-        named("coe", bits / 4 % 2 == 1),
-        named("foe", bits / 8 % 2 == 1),
-        named("soe", bits / 16 % 2 == 1),
-        named("voe", bits / 32 % 2 == 1),
-    ];
-    rows.put("protocols", &row)
+/// What the PDI of this type is (ETG.1000.4, register 0x0140).
+fn pdi_of(byte: u8) -> Option<&'static str> {
+    match byte {
+        0x00 => Some("none"),
+        0x04 => Some("digital-io"),
+        0x05 => Some("spi"),
+        0x07 => Some("bridge"),
+        0x08 => Some("async16"),
+        0x09 => Some("async8"),
+        0x0a => Some("sync16"),
+        0x0b => Some("sync8"),
+        0x80 => Some("on-chip"),
+        _ => None,
+    }
 }

@@ -1,34 +1,16 @@
 //! The items of an EEPROM image, each as a row with the strings that it refers to.
-ghost use Rattle.std.specs.Prelude.{◌≤◌, length};
-ghost use Rattle.sii_cats.specs.Chain.{ArePlaced, end_of};
 
+use crate::bytes::{byte_at, long_at, word_at};
 use crate::cell::{Cell, bare, named, said};
+use crate::general::put_details;
 use crate::rows::{Row, Rows};
 use crate::value::Value;
-use sii_cats::{Category, ChainFault, FmmuUnit, FmmuUse, Manager, Pdo, PdoEntry, chain, kind};
-use sii_words::ImageFile;
-use station_listing::{General, Items, read_items};
+use sii_cats::{FmmuUnit, FmmuUse, Manager, Pdo, PdoEntry, kind};
+use station_listing::{Items, ListedCategory};
 use std::alloc::{AllocError, Global};
 
-/// The items of an image, category by category.
-#[derive(Drop)]
-pub struct ItemListing {
-    /// The word of the header at which the chain of categories is cut off; `None` where it can be read.
-    pub runs_out: Option<usize>,
-    /// The categories, in order; none where the chain is cut off.
-    pub categories: Vec<CategoryItems>,
-}
-
-/// The items of a category.
-#[derive(Drop)]
-pub struct CategoryItems {
-    /// The type of the category.
-    pub kind: u16,
-    /// Its content, as words.
-    pub words: Vec<u16>,
-    /// What the content was read into.
-    pub items: Items,
-}
+/// The type of a category DC.
+const CLOCKS: u16 = 60;
 
 /// An item as a row.
 #[derive(Drop)]
@@ -52,106 +34,54 @@ struct Lines<'a> {
     lines: Vec<Line<'a>>,
 }
 
-/// Lists the items of an image.
-///
-/// # Errors
-///
-/// Memory was refused.
-pub fn list_items(alloc: Global, image: &ImageFile) -> Result<ItemListing, AllocError> {
-    match chain(alloc, image.as_slice()) {
-        Ok(categories) => list_all(alloc, image.as_slice(), &categories),
-        Err(ChainFault::RunsOut { at }) => Ok(ItemListing {
-            runs_out: Some(at),
-            categories: Vec::new(alloc),
-        }),
-        Err(ChainFault::Memory) => Err(AllocError),
+/// The strings that items refer to: those of the first category STRINGS, where it can be read.
+fn strings_in(categories: &[ListedCategory]) -> Option<&[Vec<u8>]> {
+    let first = categories
+        .iter()
+        .find(|category| category.kind == kind::STRINGS)?;
+    match &first.items {
+        Items::Strings(strings) => Some(strings.as_slice()),
+        _ => None,
     }
 }
 
-fn list_all(
-    alloc: Global,
-    words: &[u16],
-    categories: &[Category],
-) -> Result<ItemListing, AllocError>
-    requires { ArePlaced words.now categories.now }
-{
-    let mut listed = Vec::new(alloc);
+/// Puts a row for each item of these categories, and what General says in words.
+pub(crate) fn put_items(rows: &mut Rows, categories: &[ListedCategory]) -> Result<(), AllocError> {
     for category in categories {
-        listed.push(list_category(alloc, words, *category)?)?;
-    }
-    Ok(ItemListing {
-        runs_out: None,
-        categories: listed,
-    })
-}
-
-fn list_category(
-    alloc: Global,
-    words: &[u16],
-    category: Category,
-) -> Result<CategoryItems, AllocError>
-    requires { end_of category ≤ length words.now }
-{
-    let content = category.content(words);
-    Ok(CategoryItems {
-        kind: category.kind,
-        words: content.to_vec(alloc)?,
-        items: read_items(alloc, category.kind, content)?,
-    })
-}
-
-impl ItemListing {
-    /// The strings that items refer to: those of the first category STRINGS, where it can be read.
-    fn strings(&self) -> Option<&[Vec<u8>]> {
-        for category in &self.categories {
-            if category.kind == kind::STRINGS {
-                return match &category.items {
-                    Items::Strings(strings) => Some(strings.as_slice()),
-                    _ => None,
-                };
-            }
-        }
-        None
-    }
-}
-
-/// Puts a row for each item of an image.
-///
-/// # Errors
-///
-/// Memory was refused.
-pub(crate) fn put_items(rows: &mut Rows, listing: &ItemListing) -> Result<(), AllocError> {
-    for category in &listing.categories {
-        for line in lines_of(rows.alloc(), listing, category)? {
+        for line in lines_of(rows.alloc(), categories, category)? {
             rows.put(line.row, &line.cells)?;
+        }
+        if matches!(&category.items, Items::General) {
+            put_details(rows, &category.words)?;
         }
     }
     Ok(())
 }
 
-/// The items of a category of this image, a line for each; none where its content isn't read.
+/// The items of one of these categories, a line for each; none where its content isn't read.
 ///
 /// # Errors
 ///
 /// Memory was refused.
 pub fn lines_of<'a>(
     alloc: Global,
-    listing: &'a ItemListing,
-    category: &'a CategoryItems,
+    categories: &'a [ListedCategory],
+    category: &'a ListedCategory,
 ) -> Result<Vec<Line<'a>>, AllocError> {
     let mut lines = Lines {
         alloc,
         kind: category.kind,
-        strings: listing.strings(),
+        strings: strings_in(categories),
         lines: Vec::new(alloc),
     };
     match &category.items {
         Items::Strings(strings) => lines.push_strings(strings)?,
-        Items::General(general) => lines.push_general(*general)?,
+        Items::General => lines.push_general(&category.words)?,
         Items::Units(units) => lines.push_units(units)?,
         Items::Managers(managers) => lines.push_managers(managers)?,
         Items::Pdos(pdos) => lines.push_pdos(pdos)?,
-        Items::Words => {}
+        Items::Words if category.kind == CLOCKS => lines.push_modes(&category.words)?,
+        Items::Malformed | Items::Words => {}
     }
     Ok(lines.lines)
 }
@@ -200,21 +130,21 @@ impl<'a> Lines<'a> {
         Ok(())
     }
 
-    fn push_general(&mut self, general: General) -> Result<(), AllocError> {
-        let current = i16::from_le_bytes(general.current.to_le_bytes());
+    /// Adds what the first fourteen bytes of a category General say (ETG.2010), without byte 4, which is reserved.
+    fn push_general(&mut self, words: &[u16]) -> Result<(), AllocError> {
         let said_of = [
-            named("group", self.name(general.group)),
-            named("image", self.name(general.image)),
-            named("order", self.name(general.order)),
-            named("name", self.name(general.name)),
-            named("coe", Value::Byte(general.coe)),
-            named("foe", Value::Byte(general.foe)),
-            named("eoe", Value::Byte(general.eoe)),
-            named("soe", general.soe),
-            named("ds402", general.ds402),
-            named("sysman", general.sysman),
-            named("flags", Value::Byte(general.flags)),
-            named("current", Value::Signed(current)),
+            named("group", self.name(byte_at(words, 0))),
+            named("image", self.name(byte_at(words, 1))),
+            named("order", self.name(byte_at(words, 2))),
+            named("name", self.name(byte_at(words, 3))),
+            named("coe", Value::Byte(byte_at(words, 5))),
+            named("foe", Value::Byte(byte_at(words, 6))),
+            named("eoe", Value::Byte(byte_at(words, 7))),
+            named("soe", byte_at(words, 8)),
+            named("ds402", byte_at(words, 9)),
+            named("sysman", byte_at(words, 10)),
+            named("flags", Value::Byte(byte_at(words, 11))),
+            named("current", signed(word_at(words, 6))),
         ];
         self.push("general", &[said("", "general")], &said_of)
     }
@@ -310,4 +240,31 @@ impl<'a> Lines<'a> {
         ];
         self.push(row, labels, &said_of)
     }
+
+    /// Adds the operation modes of a category DC (ETG.2010), of twelve words each: times in nanoseconds, of SYNC0 and SYNC1. Words after the
+    /// last whole one are ignored.
+    fn push_modes(&mut self, words: &[u16]) -> Result<(), AllocError> {
+        for (place, mode) in words.chunks(12).enumerate() {
+            if mode.len() < 12 {
+                return Ok(());
+            }
+            let said_of = [
+                named("cycle0", long_at(mode, 0)),
+                named("shift0", long_at(mode, 2)),
+                named("shift1", long_at(mode, 4)),
+                named("factor1", signed(word_at(mode, 6))),
+                named("activate", Value::Word(word_at(mode, 7))),
+                named("factor0", signed(word_at(mode, 8))),
+                named("name", self.name(byte_at(mode, 18))),
+                named("description", self.name(byte_at(mode, 19))),
+            ];
+            self.push("dc", &[named("dc", place)], &said_of)?;
+        }
+        Ok(())
+    }
+}
+
+/// A word as a number in two's complement.
+fn signed<'a>(word: u16) -> Value<'a> {
+    Value::Signed(i16::from_le_bytes(word.to_le_bytes()))
 }

@@ -5,8 +5,8 @@ ghost use Rattle.sii_image.specs.ProcessImage.{ProcessImageParts};
 
 use crate::cell::{bare, data, named};
 use crate::rows::{Form, Rows};
-use sii_image::ProcessImage;
-use station_files::{Fault, Store, image_of_line};
+use sii_image::{ProcessImage, image_of};
+use station_files::{Fault, Store, load_plant};
 use std::alloc::{AllocError, Global};
 use std::io::Write;
 
@@ -15,7 +15,8 @@ use std::io::Write;
 ///
 /// # Errors
 ///
-/// As for `image_of_line`; then `Memory`, with nothing printed; then `File` or `Memory`, as the output answers.
+/// As for `load_plant`; then `ImageOverLimit`, where the line has no process image, or `Memory`, with nothing printed; then `File` or `Memory`, as
+/// the output answers.
 pub fn show_layout<S: Store, W: Write>(
     alloc: Global,
     line: &str,
@@ -27,7 +28,8 @@ pub fn show_layout<S: Store, W: Write>(
     ensures refused { IfErr result (RefusesLayout (S.files store.old) line.now) }
     ensures same { S.files store.new ≡ S.files store.old }
 {
-    let image = image_of_line(alloc, line, store)?;
+    let plant = load_plant(alloc, line, store)?;
+    let image = image_of(alloc, &plant)?;
     let mut rows = Rows::new(alloc, form);
     put_layout(&mut rows, None, &image)?;
     rows.write(output)?;

@@ -97,7 +97,8 @@ impl Rows {
     }
 }
 
-fn spell_json(alloc: Global, row: &Row<'_>) -> Result<String, AllocError> {
+/// A row as JSON.
+pub(crate) fn spell_json(alloc: Global, row: &Row<'_>) -> Result<String, AllocError> {
     // A row has no float and nests once at most: only memory can be missing.
     serde_json::to_string(alloc, row).map_err(|_| AllocError)
 }

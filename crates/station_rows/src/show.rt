@@ -1,17 +1,15 @@
 //! The subcommand `show`.
-ghost use Rattle.std.specs.Prelude.{◌≡◌, ◌↔◌, IfOk, IfErr, IfSome, IsSome, IsTrue, option_map};
+ghost use Rattle.std.specs.Prelude.{◌≡◌, IfOk, IfErr, IfSome, option_map};
 ghost use Rattle.station_files.specs.Faults.{IsOfStream};
 ghost use Rattle.station_files.specs.ImageText.{RefusesInput, text_of};
 ghost use Rattle.station_rows.specs.Show.{IsStatusOf, ShowsImage, ShowsStatus};
 
-use crate::head::put_head;
 use crate::image::put_image;
-use crate::items::{ItemListing, list_items, put_items};
 use crate::rows::{Form, Rows};
 use sii_words::ImageFile;
 use station_files::{ExitStatus, Fault, Store, read_image};
 use station_listing::{Listing, list_image};
-use std::alloc::{AllocError, Global};
+use std::alloc::Global;
 use std::io::{Read, Write};
 
 /// What is shown of which image.
@@ -52,7 +50,7 @@ pub fn show_image<R: Read, S: Store, W: Write>(
     print_image(alloc, shown.all, shown.form, &image, output)
 }
 
-/// Prints the listing of an image, with `all` its items after it, and returns the status.
+/// Prints the listing of an image, with `all` its items after it and what its first words say, and returns the status.
 fn print_image<W: Write>(
     alloc: Global,
     all: bool,
@@ -64,37 +62,10 @@ fn print_image<W: Write>(
     ensures failed { IfErr result IsOfStream }
 {
     let listing = list_image(alloc, image)?;
-    let items = items_of(alloc, all, image)?;
-    let rows = rows_of(alloc, form, &listing, items.as_ref(), image)?;
+    let mut rows = Rows::new(alloc, form);
+    put_image(&mut rows, all, &listing, image.as_slice())?;
     rows.write(output)?;
     Ok(status_of(&listing))
-}
-
-/// The items of an image, if they are asked for.
-fn items_of(alloc: Global, all: bool, image: &ImageFile) -> Result<Option<ItemListing>, AllocError>
-    ensures { IfOk result (λ items. IsSome items ↔ IsTrue all) }
-{
-    if all {
-        return Ok(Some(list_items(alloc, image)?));
-    }
-    Ok(None)
-}
-
-/// The rows of what is listed, and after the items those of the first words of the image.
-fn rows_of(
-    alloc: Global,
-    form: Form,
-    listing: &Listing,
-    items: Option<&ItemListing>,
-    image: &ImageFile,
-) -> Result<Rows, AllocError> {
-    let mut rows = Rows::new(alloc, form);
-    put_image(&mut rows, listing)?;
-    if let Some(items) = items {
-        put_items(&mut rows, items)?;
-        put_head(&mut rows, image.as_slice())?;
-    }
-    Ok(rows)
 }
 
 /// `Done` for a sound listing, `File` for any other.

@@ -1,10 +1,15 @@
 //! Arguments that several subcommands have.
 
 use command_line::{Argument, INPUT, Kind, ParsedArguments};
-use station_rows::Form;
+use line_changes::Compared;
+use station_rows::{Form, ShowOptions};
 
-/// The help text on line files.
-const LINE_FILE: &str = "The line file: the slaves' image files and the journal's, in TOML:
+/// The line file of a subcommand.
+pub(crate) const LINE: Argument = Argument {
+    id: "LINE",
+    kind: Kind::Word,
+    help: "The line file: the slaves' image files and the journal's",
+    long_help: "The line file: the slaves' image files and the journal's, in TOML:
 
   journal = \"journal.bin\"
   area = 65536
@@ -15,11 +20,15 @@ const LINE_FILE: &str = "The line file: the slaves' image files and the journal'
 
 The journal's area has 4096 to 4194304 bytes, 65536 where nothing is said.
 There are 1 to 64 slaves, numbered from 0. Each image is a whole EEPROM of
-64 to 4096 words, a multiple of 64. Names are relative to the current folder.";
+64 to 4096 words, a multiple of 64. Names are relative to the current folder.",
+};
 
-/// The help text on script files.
-const SCRIPT_FILE: &str =
-    "The script file, or - for standard input: the commands, in order, in TOML, here one
+/// The script file of a subcommand.
+pub(crate) const SCRIPT: Argument = Argument {
+    id: "SCRIPT",
+    kind: Kind::WordUnless("command"),
+    help: "The script file: the commands, in order; - for standard input",
+    long_help: "The script file, or - for standard input: the commands, in order, in TOML, here one
 of each kind:
 
   [[command]]
@@ -38,37 +47,22 @@ of each kind:
 
 A category's content is hexadecimal text of whole words; \"\" removes the
 category. A group is 1 to 64 edits, alias, category or image, that are done as
-one act. An edit with expect is refused where the slave has another identity.";
-
-/// The line file of a subcommand.
-pub(crate) const LINE: Argument = Argument {
-    id: "LINE",
-    kind: Kind::Word,
-    help: "The line file: the slaves' image files and the journal's",
-    long_help: LINE_FILE,
+one act. An edit with expect is refused where the slave has another identity.
+Outside a group, expect stands among the fields of the edit:
+  alias = { slave = 0, value = 7, expect = { vendor = 2, product = 0, revision = 0 } }
+With replace = true among its fields, an image may be one of another device, or
+have fewer words than the slave's EEPROM; only sii_wire looks at that.",
 };
-
-/// The script file of a subcommand.
-pub(crate) const SCRIPT: Argument = Argument {
-    id: "SCRIPT",
-    kind: Kind::WordUnless("command"),
-    help: "The script file: the commands, in order; - for standard input",
-    long_help: SCRIPT_FILE,
-};
-
-/// The help text on JSON.
-const JSON_ROWS: &str =
-    "Prints JSON in place of text: an object a line, whose key row says what it is. Numbers
-are JSON numbers, and the other keys are named as in the text. Strings of an EEPROM
-are escaped as in the text. Later versions may add keys and rows; pass over what you
-don't know. Faults and the exit status stay as they are.";
 
 /// The flag.
 pub(crate) const JSON: Argument = Argument {
     id: "json",
     kind: Kind::Flag,
     help: "Prints JSON, one object a line",
-    long_help: JSON_ROWS,
+    long_help: "Prints JSON in place of text: an object a line, whose key row says what it is. Numbers
+are JSON numbers, and the other keys are named as in the text. Strings of an EEPROM
+are escaped as in the text. Later versions may add keys and rows; pass over what you
+don't know. Faults and the exit status stay as they are.",
 };
 
 /// The form that a subcommand with this argument was asked for.
@@ -80,6 +74,38 @@ pub(crate) fn form_of(given: &ParsedArguments<'_>) -> Form {
     }
 }
 
+/// The form in which the subcommands print that print lines: `LineRows` makes rows of these.
+pub(crate) fn lines_form(given: &ParsedArguments<'_>) -> Form {
+    match given.subcommand {
+        "alias" | "backup" | "init" | "pending" | "recover" | "run" | "write" => form_of(given),
+        _ => Form::Text,
+    }
+}
+
+/// What `show` is to print, of this file or of standard input.
+pub(crate) fn shown_in<'a>(given: &ParsedArguments<'a>, file: Option<&'a str>) -> ShowOptions<'a> {
+    ShowOptions {
+        hex: given.has("hex"),
+        all: given.has("all"),
+        form: form_of(given),
+        file,
+    }
+}
+
+/// What `diff` is to compare: the images of these files, or of standard input.
+pub(crate) fn compared_in<'a>(
+    given: &ParsedArguments<'a>,
+    old: Option<&'a str>,
+    new: Option<&'a str>,
+) -> Compared<'a> {
+    Compared {
+        hex: given.has("hex"),
+        form: form_of(given),
+        old,
+        new,
+    }
+}
+
 /// The name of the script; `INPUT` where it is to come from standard input (`-`).
 pub(crate) fn script_of<'a>(given: &ParsedArguments<'a>) -> &'a str {
     match given.script() {
@@ -88,20 +114,16 @@ pub(crate) fn script_of<'a>(given: &ParsedArguments<'a>) -> &'a str {
     }
 }
 
-/// The help text on the line with the progress.
-const QUIET_RUN: &str =
-    "Draws no line with the progress. Without this option, where standard error is a
-terminal and the work takes longer than a second, a line there says how many of
-the script's commands no power cut can undo any more, how many words the slaves
-have written, and how many slaves are writing one. It is drawn over itself ten
-times a second at most, and erased before anything else is printed and at the end.";
-
 /// The flag for no line with the progress.
 pub(crate) const QUIET: Argument = Argument {
     id: "quiet",
     kind: Kind::ShortFlag('q'),
     help: "Draws no line with the progress",
-    long_help: QUIET_RUN,
+    long_help: "Draws no line with the progress. Without this option, where standard error is a
+terminal and the work takes longer than a second, a line there says how many of
+the script's commands no power cut can undo any more, how many words the slaves
+have written, and how many slaves are writing one. It is drawn over itself ten
+times a second at most, and erased before anything else is printed and at the end.",
 };
 
 /// The flag for a report at the end.
@@ -118,5 +140,5 @@ pub(crate) const VERBOSE: Argument = Argument {
     kind: Kind::GlobalFlag,
     help: "Says of a fault which file it is about, or what was seen on the line, and what is wrong",
     long_help: "Says of a fault which file it is about, what is wrong there and where, or of the line what was seen, what it usually is, and what to \
-        do, in a second line. Without this option the line comes where standard error is a terminal.",
+        do, in a second line. Without this option the line comes where standard error is a terminal, or where PILZHOON_VERBOSE is in the environment.",
 };

@@ -6,12 +6,11 @@ mod images;
 mod line_listings;
 mod line_work;
 mod pages;
+mod refusals;
 mod request;
 mod serving;
-mod streams;
 pub mod wire;
 
 pub use command_line::refuse_words;
-pub use serving::serve;
+pub use serving::{Host, Streams, serve};
 pub use station_files::{LockFault, Store};
-pub use streams::Streams;

@@ -1,10 +1,15 @@
 //! The subcommands that say what is so of a line, or would be: `plan`, `journal` and `layout`.
 
 use crate::arguments::{JSON, LINE, SCRIPT};
-use command_line::{Subcommand, TYPED_COMMANDS};
+use command_line::{Subcommand, TYPED_COMMANDS as COMMANDS};
 
-/// The help text on what `plan` prints, and on its exit status.
-const PLAN_ANSWERS: &str = "Answers:
+const PLAN: Subcommand = Subcommand {
+    name: "plan",
+    about: "Says what a script would do to a line, and does nothing",
+    long_about: "Reads what run would read, and prints how run would answer each command, which words of which slaves would change, how much \
+        would be written, and the process image before and after if it would change. No file is written.",
+    after_help: "Examples:\n  sii_station plan line.toml script.toml\n  sii_station plan line.toml - < script.toml",
+    after_long_help: "Answers:
   command I accepted N           as run would answer, see run --help
   command I refused CODE NAME
   accepted A durable D settled S
@@ -33,11 +38,25 @@ of a line on which another station is busy it says fault 95 Busy.
 Exit status, as of run: 0 done, 1 a command was refused, 2 wrong usage, 3 a file
 or its form, 5 no memory. The highest that applies wins.
 
-Example:
-  sii_station plan line.toml script.toml";
+Examples:
+  sii_station plan line.toml script.toml
+  sii_station plan line.toml - < script.toml
+  sii_station plan line.toml script.toml --json",
+    arguments: &[LINE, SCRIPT, COMMANDS, JSON],
+};
 
-/// The help text on what `journal` prints, and on its exit status.
-const JOURNAL_ANSWERS: &str = "Answers:
+pub(crate) fn plan_row() -> Subcommand {
+    PLAN
+}
+
+const JOURNAL: Subcommand = Subcommand {
+    name: "journal",
+    about: "Says what a journal holds, and what a recovery would do",
+    long_about: "Reads a line file, the EEPROM images and the journal that it names, and prints the journal's header, the batches that aren't \
+        done with their commands, and which words of which slaves a recovery would change. Of a damaged journal it prints what its \
+        header says, and where it is damaged. No file is written.",
+    after_help: "Example:\n  sii_station journal line.toml",
+    after_long_help: "Answers:
   journal version V slaves N area A
                    what the header says; the area has A bytes
   half H batches B live L free F
@@ -62,47 +81,7 @@ Exit status: 0 done, 2 wrong usage, 3 a file or its form, or recover refuses the
 journal, 5 no memory.
 
 Example:
-  sii_station journal line.toml";
-
-/// The help text on what `layout` prints, and on its exit status.
-const LAYOUT_ANSWERS: &str = "Answers:
-  slave P sm M out offset O size S bits B
-                   the outputs of sync manager M of slave P: where they begin
-                   in the process image, and their length in bytes and in bits
-  slave P sm M in ..
-                   the same of inputs
-  outputs A inputs B counter C
-                   all outputs and inputs in bytes, and the working counter of
-                   a cycle that every slave takes part in
-
-Exit status: 0 done, 2 wrong usage, 3 a file or its form, or no process image,
-5 no memory.
-
-Example:
-  sii_station layout line.toml";
-
-const PLAN: Subcommand = Subcommand {
-    name: "plan",
-    about: "Says what a script would do to a line, and does nothing",
-    long_about: "Reads what run would read, and prints how run would answer each command, which words of which slaves would change, how much \
-        would be written, and the process image before and after if it would change. No file is written.",
-    after_help: "Example:\n  sii_station plan line.toml script.toml",
-    after_long_help: PLAN_ANSWERS,
-    arguments: &[LINE, SCRIPT, TYPED_COMMANDS, JSON],
-};
-
-pub(crate) fn plan_row() -> Subcommand {
-    PLAN
-}
-
-const JOURNAL: Subcommand = Subcommand {
-    name: "journal",
-    about: "Says what a journal holds, and what a recovery would do",
-    long_about: "Reads a line file, the EEPROM images and the journal that it names, and prints the journal's header, the batches that aren't \
-        done with their commands, and which words of which slaves a recovery would change. Of a damaged journal it prints what its \
-        header says, and where it is damaged. No file is written.",
-    after_help: "Example:\n  sii_station journal line.toml",
-    after_long_help: JOURNAL_ANSWERS,
+  sii_station journal line.toml",
     arguments: &[LINE, JSON],
 };
 
@@ -116,7 +95,21 @@ const LAYOUT: Subcommand = Subcommand {
     long_about: "Reads a line file and the EEPROM images that it names, and prints where the process data of each sync manager lies in the \
         process image, then the sizes of outputs and inputs in bytes and the working counter that is expected. No file is written.",
     after_help: "Example:\n  sii_station layout line.toml",
-    after_long_help: LAYOUT_ANSWERS,
+    after_long_help: "Answers:
+  slave P sm M out offset O size S bits B
+                   the outputs of sync manager M of slave P: where they begin
+                   in the process image, and their length in bytes and in bits
+  slave P sm M in ..
+                   the same of inputs
+  outputs A inputs B counter C
+                   all outputs and inputs in bytes, and the working counter of
+                   a cycle that every slave takes part in
+
+Exit status: 0 done, 2 wrong usage, 3 a file or its form, or no process image,
+5 no memory.
+
+Example:
+  sii_station layout line.toml",
     arguments: &[LINE, JSON],
 };
 

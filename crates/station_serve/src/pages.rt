@@ -100,11 +100,7 @@ pub(crate) fn code_asked(given: &ParsedArguments<'_>) -> Result<Option<Code>, &'
 pub(crate) fn explanation(alloc: Global, asked: Option<Code>) -> Result<String, AllocError> {
     let mut text = String::new(alloc);
     for code in &CODES {
-        let is_asked = match asked {
-            Some(one) => one == *code,
-            None => true,
-        };
-        if is_asked {
+        if asked.is_none_or(|one| one == *code) {
             let gap = if text.is_empty() { "" } else { "\n" };
             let explained = code.entry().explanation;
             let name = code.entry().name;

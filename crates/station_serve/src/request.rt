@@ -1,9 +1,11 @@
 //! What a command line asks for.
 
-use crate::arguments::{VERBOSE, form_of, script_of};
-use crate::images::{alias_row, alias_task, diff_row, diff_task, show_row, show_task};
+use crate::arguments::{VERBOSE, compared_in, form_of, lines_form, script_of, shown_in};
+use crate::images::{
+    alias_row, alias_task, diff_row, file_of, show_row, two_files, verify_row, write_row,
+};
 use crate::line_listings::{journal_row, layout_row, plan_row};
-use crate::line_work::{RunTask, init_row, recover_row, run_row, run_task};
+use crate::line_work::{LineTask, init_row, recover_row, run_row, run_task};
 use crate::pages::{MANUAL_HEAD, code_asked, completions_row, explain_row, man_row, shell_of};
 use command_line::{
     Argument, ParsedArguments, Program, Shell, Subcommand, Unread, completion_script, manual_page,
@@ -12,115 +14,88 @@ use command_line::{
 use line_changes::Compared;
 use station_listing::Code;
 use station_rows::{Form, ShowOptions};
+use station_session::RunNames;
 use std::alloc::{AllocError, Global};
 
-/// What a command line asks for: a subcommand with its arguments.
+/// What a command line asks for: a subcommand with its arguments. The name of an image's file is `None` for standard input, and a line is named by its
+/// line file.
 #[derive(Clone, Copy)]
-pub enum Task<'a> {
-    /// Sets the configured station alias of an image.
+pub(crate) enum Task<'a> {
     Alias {
-        /// The new alias.
         value: u16,
-        /// Whether input and output are hexadecimal text.
         hex: bool,
-        /// The name of the image's file; `None` for standard input.
         file: Option<&'a str>,
     },
-    /// Sets the configured station alias of an image in its file.
     AliasInPlace {
-        /// The new alias.
         value: u16,
-        /// Whether the file is hexadecimal text.
         hex: bool,
-        /// The name of the file.
         name: &'a str,
     },
-    /// Prints the listing of an image.
     Show(ShowOptions<'a>),
-    /// Prints what two images differ in.
     Diff(Compared<'a>),
-    /// Makes an empty journal for a line.
-    Init {
-        /// The name of the line file.
-        line: &'a str,
+    Write {
+        name: &'a str,
+        file: Option<&'a str>,
+        any_device: bool,
     },
-    /// Runs a script on a line.
-    Run(RunTask<'a>),
-    /// Recovers a line.
-    Recover {
-        /// The name of the line file.
-        line: &'a str,
-        /// Whether what has changed is printed at the end.
-        reports: bool,
+    Verify {
+        found: Option<&'a str>,
+        wanted: Option<&'a str>,
     },
-    /// Prints the process image of a line.
-    Layout {
-        /// The name of the line file.
-        line: &'a str,
-        /// Text, or rows of JSON.
-        form: Form,
-    },
-    /// Prints what a script would do to a line.
-    Plan {
-        /// The name of the line file.
-        line: &'a str,
-        /// The name of the script file.
-        script: &'a str,
-        /// Text, or rows of JSON.
-        form: Form,
-    },
-    /// Prints what a journal holds.
-    Journal {
-        /// The name of the line file.
-        line: &'a str,
-        /// Text, or rows of JSON.
-        form: Form,
-    },
-    /// Prints a script that makes a shell complete arguments.
-    Completions {
-        /// The shell.
-        shell: Shell,
-    },
-    /// Prints the manual page.
+    Init(&'a str),
+    Work(LineTask<'a>),
+    Layout(&'a str, Form),
+    Plan(RunNames<'a>, Form),
+    Journal(&'a str, Form),
+    Completions(Shell),
     Man,
     /// Explains one code, or all of them.
-    Explain {
-        /// The code; `None` for all codes.
-        code: Option<Code>,
-    },
+    Explain(Option<Code>),
 }
 
 impl<'a> Task<'a> {
-    /// The name of the script, if the subcommand reads one.
-    pub(crate) fn script(self) -> Option<&'a str> {
+    /// The files of a run, or of the plan of one.
+    pub(crate) fn run_files(self) -> Option<RunNames<'a>> {
         match self {
-            Task::Run(run) => Some(run.names.script),
-            Task::Plan { script, .. } => Some(script),
+            Task::Work(LineTask { line, script, .. }) => Some(RunNames {
+                line,
+                script: script?,
+            }),
+            Task::Plan(names, _) => Some(names),
             _ => None,
         }
     }
 }
 
+/// A task, and how it is told.
+#[derive(Clone, Copy)]
+pub(crate) struct Call<'a> {
+    pub task: Task<'a>,
+    /// How its lines are printed: as text, or as rows of JSON.
+    pub form: Form,
+    /// Whether a fault or a refusal has a second line.
+    pub is_reported: bool,
+}
+
 /// A command line that was read.
 #[derive(Drop)]
 pub(crate) struct Request<'a> {
-    /// The subcommand with its arguments.
-    pub task: Task<'a>,
+    pub call: Call<'a>,
     /// The text of the script `TYPED`, where commands are typed in place of a script file.
     pub typed: Option<Vec<u8>>,
-    /// Whether a second line is to follow the line of a fault.
-    pub is_verbose: bool,
     /// Whether no line is to be drawn with the progress.
     pub is_quiet: bool,
 }
 
 /// The subcommands, in the order of the help. A table that a function names becomes part of what is proved of it, so each row stands in a
 /// function of its own.
-fn rows() -> [Subcommand; 12] {
+fn rows() -> [Subcommand; 14] {
     [
         show_row(),
         diff_row(),
         alias_row(),
+        write_row(),
+        verify_row(),
         init_row(),
         plan_row(),
         run_row(),
@@ -172,9 +147,12 @@ pub(crate) fn read_arguments<'a>(
     let given = read_words(alloc, program, words)?;
     match task_of(&given) {
         Ok(task) => Ok(Request {
-            task,
+            call: Call {
+                task,
+                form: lines_form(&given),
+                is_reported: given.has("verbose"),
+            },
             typed: read_typed(alloc, program, &given)?,
-            is_verbose: given.has("verbose"),
             is_quiet: given.has("quiet"),
         }),
         Err(text) => Err(refuse(alloc, program, given.subcommand, text)),
@@ -186,28 +164,39 @@ fn task_of<'a>(given: &ParsedArguments<'a>) -> Result<Task<'a>, &'static str> {
     let line = given.word("LINE");
     let form = form_of(given);
     let task = match given.subcommand {
-        "show" => show_task(given),
+        "show" => Task::Show(shown_in(given, file_of(given, "FILE"))),
         "alias" => alias_task(given)?,
-        "diff" => diff_task(given)?,
-        "run" => Task::Run(run_task(given)?),
-        "init" => Task::Init { line },
-        "recover" => Task::Recover {
+        "write" => Task::Write {
+            name: given.word("IMAGE"),
+            file: file_of(given, "FILE"),
+            any_device: given.has("any-device"),
+        },
+        "verify" => {
+            let refusal = "only one of IMAGE and FILE can be standard input";
+            let (found, wanted) = two_files(given, "IMAGE", "FILE", refusal)?;
+            Task::Verify { found, wanted }
+        }
+        "diff" => {
+            let refusal = "only one of A and B can be standard input";
+            let (old, new) = two_files(given, "A", "B", refusal)?;
+            Task::Diff(compared_in(given, old, new))
+        }
+        "run" => Task::Work(run_task(given)?),
+        "init" => Task::Init(line),
+        "recover" => Task::Work(LineTask {
             line,
+            script: None,
+            fuse: None,
             reports: given.has("report"),
-        },
-        "plan" => Task::Plan {
-            line,
-            script: script_of(given),
-            form,
-        },
-        "journal" => Task::Journal { line, form },
-        "layout" => Task::Layout { line, form },
-        "explain" => Task::Explain {
-            code: code_asked(given)?,
-        },
-        "completions" => Task::Completions {
-            shell: shell_of(given),
-        },
+        }),
+        "plan" => {
+            let script = script_of(given);
+            Task::Plan(RunNames { line, script }, form)
+        }
+        "journal" => Task::Journal(line, form),
+        "layout" => Task::Layout(line, form),
+        "explain" => Task::Explain(code_asked(given)?),
+        "completions" => Task::Completions(shell_of(given)),
         "man" => Task::Man,
         _ => return Err("a subcommand is needed"),
     };

@@ -1,17 +1,20 @@
 //! The program as a function of its arguments and streams.
 
-use crate::images::alias_in_place;
-use crate::line_work::{serve_recovery, serve_run};
+use crate::images::{alias_in_place, keep_images_separate, verify_image};
+use crate::line_work::work_on_line;
 use crate::pages::{explanation, print_page};
-use crate::request::{Request, Task, completions_for, manual_of, read_arguments};
-use crate::streams::Streams;
+use crate::refusals::tell_refused;
+use crate::request::{Call, Request, Task, completions_for, manual_of, read_arguments};
 use command_line::{INPUT, InputScript, Script, Unread};
 use line_changes::{Compared, diff_images};
 use line_watch::Progress;
-use station_files::{ExitStatus, Failure, Failures, Fault, Store, report_fault, set_alias};
+use station_files::{
+    ExitStatus, Failure, Failures, Fault, Store, report_fault, set_alias, write_complete,
+    write_slave,
+};
 use station_line::init_line;
 use station_plan::{plan_script, show_journal};
-use station_rows::{ShowOptions, show_image, show_layout};
+use station_rows::{LineRows, ShowOptions, show_image, show_layout};
 use station_session::{AnswerStreams, Watch};
 use station_troubles::{INPUT_OR_OUTPUT, Noting, OUTPUT, tell_more};
 use std::io::{Read, Write};
@@ -19,19 +22,26 @@ use std::rt::Clock;
 use std::sync::Wait;
 use std::thread::Threads;
 
+/// What a program runs on: threads that wait for each other, clocks and memory.
+pub trait Host: Wait + Threads + Clock + AllocGlobal + Sync {}
+
+impl<H: Wait + Threads + Clock + AllocGlobal + Sync> Host for H {}
+
+/// Where the program prints.
+#[derive(Drop)]
+pub struct Streams<'a, W, E> {
+    /// What was asked for.
+    pub output: &'a mut W,
+    /// Its faults.
+    pub faults: &'a mut E,
+}
+
 /// Carries out a command line and returns the exit status: 0 done, 1 a command was refused or two images differ, 2 wrong
 /// usage, 3 a file or its form, 4 a device or a power cut, 5 out of memory. The first argument is the program's name.
 ///
 /// Where faults are printed to a terminal, `terminal` writes to it too. Then a second line follows the line of a fault, as with `--verbose`,
 /// and without `--quiet` a line is drawn with the progress of `run` and `recover`.
-pub fn serve<
-    H: Wait + Threads + Clock + AllocGlobal + Sync,
-    R: Read,
-    S: Store,
-    W: Write,
-    E: Write,
-    T: Write + Send + Drop,
->(
+pub fn serve<H: Host, R: Read, S: Store, W: Write, E: Write, T: Write + Send + Drop>(
     rt: &H,
     args: &[String],
     input: &mut R,
@@ -41,23 +51,13 @@ pub fn serve<
 ) -> u8 {
     let status = match read_arguments(rt.alloc(), args) {
         Ok(request) => serve_request(rt, request, input, store, streams, terminal),
-        Err(unread) => {
-            let Streams { output, faults } = streams;
-            show_usage(&unread, output, faults)
-        }
+        Err(unread) => show_usage(&unread, streams),
     };
     status as u8
 }
 
 /// Carries out a command line that was read. A script that is typed or comes from standard input is handed on as a file.
-fn serve_request<
-    H: Wait + Threads + Clock + AllocGlobal + Sync,
-    R: Read,
-    S: Store,
-    W: Write,
-    E: Write,
-    T: Write + Send + Drop,
->(
+fn serve_request<H: Host, R: Read, S: Store, W: Write, E: Write, T: Write + Send + Drop>(
     rt: &H,
     request: Request<'_>,
     input: &mut R,
@@ -66,22 +66,20 @@ fn serve_request<
     terminal: Option<T>,
 ) -> ExitStatus {
     let Request {
-        task,
+        mut call,
         typed,
-        is_verbose,
         is_quiet,
     } = request;
-    let is_reported = terminal.is_some() || is_verbose;
-    let terminal = if is_quiet { None } else { terminal };
-    let begun = Progress::begin(rt, terminal);
+    call.is_reported = call.is_reported || terminal.is_some();
+    let begun = Progress::begin(rt, if is_quiet { None } else { terminal });
     let watch = watch_of(rt, begun.as_ref());
-    let script = match (typed, task.script()) {
+    let script = match (typed, call.task.run_files()) {
         (Some(text), _) => Some(Script::typed(text)),
-        (None, Some(name)) if name == INPUT => Some(Script::read(rt.alloc(), input)),
+        (None, Some(files)) if files.script == INPUT => Some(Script::read(rt.alloc(), input)),
         _ => None,
     };
     let mut joined = InputScript::new(store, script);
-    serve_and_tell(watch, task, is_reported, input, &mut joined, streams)
+    serve_and_tell(watch, call, input, &mut joined, streams)
 }
 
 /// The runtime, and the progress that counts what a task does.
@@ -89,32 +87,36 @@ fn watch_of<'a, T, H>(rt: &'a H, progress: Option<&'a Progress<T>>) -> Watch<'a,
     Watch { rt, progress }
 }
 
-/// Carries out a task, and then prints what has gone wrong. Where `is_reported` and that is a fault or a refusal of its own, a line more says what the
-/// first was about.
-fn serve_and_tell<
-    H: Wait + Threads + Clock + AllocGlobal + Sync,
-    R: Read,
-    S: Store,
-    W: Write,
-    E: Write,
-    T: Write + Send,
->(
+/// Carries out a task, and then prints what has gone wrong. Where that has a second line, it says what the first was about, and one for each command
+/// that was refused says what to do. Rows of JSON say too what has gone wrong.
+fn serve_and_tell<H: Host, R: Read, S: Store, W: Write, E: Write, T: Write + Send>(
     watch: Watch<'_, T, H>,
-    task: Task<'_>,
-    is_reported: bool,
+    call: Call<'_>,
     input: &mut R,
     store: &mut S,
     streams: Streams<'_, W, E>,
 ) -> ExitStatus {
+    let Call {
+        task,
+        form,
+        is_reported,
+    } = call;
+    let alloc = watch.rt.alloc();
     let Streams { output, faults } = streams;
-    let mut noting = Noting::new(watch.rt.alloc(), store, is_reported);
+    let files = task.run_files();
+    let mut lines = LineRows::new(alloc, form, is_reported && files.is_some(), output);
+    let mut noting = Noting::new(alloc, store, is_reported);
     let mut failures = Failures::none();
     let answers = AnswerStreams {
-        output,
+        output: &mut lines,
         failures: &mut failures,
     };
-    let status = serve_task(watch, task, input, &mut noting, answers);
+    let status = serve_task(watch, call, input, &mut noting, answers);
     failures.print(faults);
+    if lines.is_json() {
+        failures.print(&mut lines);
+        let _ = lines.flush();
+    }
     match failures.first() {
         Some(failure) if is_reported => {
             let reported = noting.reported(failure.code(), streams_of(task));
@@ -122,45 +124,44 @@ fn serve_and_tell<
         }
         _ => {}
     }
+    if let Some(files) = files {
+        let refused = lines.refused();
+        tell_refused(alloc, "sii_station", files, refused, &mut noting, faults);
+    }
     status
 }
 
-/// What is told of the streams of a task, where one of them fails.
+/// What is reported of the streams of a task, where one of them fails.
 fn streams_of(task: Task<'_>) -> &'static str {
     match task {
         Task::Alias { file: None, .. }
         | Task::Show(ShowOptions { file: None, .. })
+        | Task::Write { file: None, .. }
+        | Task::Verify { found: None, .. }
+        | Task::Verify { wanted: None, .. }
         | Task::Diff(Compared { old: None, .. } | Compared { new: None, .. }) => INPUT_OR_OUTPUT,
         _ => OUTPUT,
     }
 }
 
 /// Carries out a task.
-fn serve_task<
-    H: Wait + Threads + Clock + AllocGlobal + Sync,
-    R: Read,
-    S: Store,
-    W: Write,
-    T: Write + Send,
->(
+fn serve_task<H: Host, R: Read, S: Store, W: Write, T: Write + Send>(
     watch: Watch<'_, T, H>,
-    task: Task<'_>,
+    call: Call<'_>,
     input: &mut R,
     store: &mut S,
     answers: AnswerStreams<'_, W>,
 ) -> ExitStatus {
     let alloc = watch.rt.alloc();
+    let form = call.form;
     let AnswerStreams { output, failures } = answers;
-    let ended = match task {
-        Task::Run(run) => return serve_run(watch, run, store, AnswerStreams { output, failures }),
-        Task::Recover { line, reports } => {
-            return serve_recovery(
-                watch,
-                line,
-                reports,
-                store,
-                AnswerStreams { output, failures },
-            );
+    if let Err(fault) = keep_images_separate(alloc, call.task, store) {
+        return failures.note(fault);
+    }
+    let ended = match call.task {
+        Task::Work(asked) => {
+            let lent = AnswerStreams { output, failures };
+            return work_on_line(watch, asked, form, store, lent);
         }
         Task::Alias { value, hex, file } => {
             done(set_alias(alloc, value, hex, file, input, store, output))
@@ -168,21 +169,29 @@ fn serve_task<
         Task::AliasInPlace { value, hex, name } => {
             done(alias_in_place(alloc, value, hex, name, input, store))
         }
+        Task::Write {
+            name,
+            file,
+            any_device,
+        } => done(write_slave(alloc, name, file, any_device, input, store)),
+        Task::Verify { found, wanted } => {
+            verify_image(alloc, found, wanted, input, store, output).map_err(Failure::from)
+        }
         Task::Show(shown) => {
             show_image(alloc, shown, input, store, output).map_err(Failure::from)
         }
         Task::Diff(compared) => {
             diff_images(alloc, compared, input, store, output).map_err(Failure::from)
         }
-        Task::Layout { line, form } => done(show_layout(alloc, line, form, store, output)),
-        Task::Explain { code } => done(print_page(explanation(alloc, code), output)),
-        Task::Completions { shell } => done(print_page(completions_for(alloc, shell), output)),
+        Task::Layout(line, form) => done(show_layout(alloc, line, form, store, output)),
+        Task::Explain(code) => done(print_page(explanation(alloc, code), output)),
+        Task::Completions(shell) => done(print_page(completions_for(alloc, shell), output)),
         Task::Man => done(print_page(manual_of(alloc), output)),
-        Task::Init { line } => done(init_line(alloc, line, store, output)),
-        Task::Plan { line, script, form } => {
-            plan_script(alloc, line, script, form, store, output).map_err(Failure::from)
+        Task::Init(line) => done(init_line(alloc, line, store, output)),
+        Task::Plan(names, form) => {
+            plan_script(alloc, names.line, names.script, form, store, output).map_err(Failure::from)
         }
-        Task::Journal { line, form } => done(show_journal(alloc, line, form, store, output)),
+        Task::Journal(line, form) => done(show_journal(alloc, line, form, store, output)),
     };
     match ended {
         Ok(status) => status,
@@ -200,14 +209,12 @@ where
 }
 
 /// Prints the help or the version that was asked for, or what is wrong with the arguments.
-fn show_usage<W: Write, E: Write>(unread: &Unread, output: &mut W, faults: &mut E) -> ExitStatus {
+fn show_usage<W: Write, E: Write>(unread: &Unread, streams: Streams<'_, W, E>) -> ExitStatus {
+    let Streams { output, faults } = streams;
     let Unread::Asked(text) = unread else {
         return unread.report(faults);
     };
-    match output
-        .write_all(text.as_bytes())
-        .and_then(|()| output.flush())
-    {
+    match write_complete(text.as_bytes(), output) {
         Ok(()) => ExitStatus::Done,
         Err(_) => report_fault(Fault::File, faults),
     }

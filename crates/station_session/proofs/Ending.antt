@@ -60,17 +60,6 @@ ends-station old new line commands opened left served saved state status one oth
       saves-by new line commands opened left served saved state status one other final so is held no_fault no_other both.0 both.1 (λ done. (done_too done).0);
 }
 
--- the station was served without a fault
-pub ends-alone : (old new : Known) (line : LineFile) (commands : List Command) (opened left : Station) (served : Result (Unit {0}) Fault) (status saved final : ExitStatus) → served ≡ Ok tt → ServesSo commands served Done status opened left
-    → (IsFaultless saved → HoldsSite new line left.seen.state) → ChangesAmong old new (files_of line) → (final ≡ Done → (status ≡ Done) × (saved ≡ Done)) → (IsFaultless final → IsFaultless status × IsFaultless saved)
-    → EndsStation true old new line opened commands final
-ends-alone old new line commands opened left served status saved final reported so held others done_too faultless_too = record {
-  others = others;
-  saved = λ good.
-      let served_so = subst (λ (r : Result (Unit {0}) Fault). ServesSo commands r Done status opened left) reported so in
-      saves-by new line commands opened left (Ok tt) (Ok tt) left.seen.state status Done saved final served_so refl (held (faultless_too good).1) tt tt tt (faultless_too good).1 (λ done. (done_too done).0);
-}
-
 pub ends-opened : (is_cut : Bool) (old new : Known) (line : LineFile) (site : SiteValue) (was_old : Bool) (opened : Station) (commands : List Command) (status : ExitStatus) → was_old ≡ is_old site.seen.state.disk.bytes → StartsFrom was_old site opened
     → EndsStation is_cut old new line opened commands status → EndsRun is_cut old new line site commands status
 ends-opened is_cut old new line site was_old opened commands status by_version starts ends = record {
@@ -116,9 +105,6 @@ ends-unrecovered old new line before asked status keeps others bad =
 on-saved : (P : Type 0) (saved : Result (Unit {0}) Fault) (one : ExitStatus) → OnOk saved P → OnErr saved (¬ IsFaultless one) → IsFaultless one → P
 on-saved P (Ok kept) one holds bad good = holds
 on-saved P (Err fault) one holds bad good = absurd (bad good)
-
-pub saved-still : (new : Known) (line : LineFile) (saved : Result (Unit {0}) Fault) (state : State) (one : ExitStatus) → OnOk saved (HoldsSite new line state) → OnErr saved (¬ IsFaultless one) → IsFaultless one → HoldsSite new line state
-saved-still new line saved state one held bad good = on-saved (HoldsSite new line state) saved one held bad good
 
 -- what the files keep through the calls of a station
 pub keeps-files : (before now : Seen) (is_sound : Bool) (asked : Option (List Asked)) → IfSome asked (λ calls. FilesOf calls now is_sound) → before.past ≡ [] → Follows before now → KeepsThroughout before now

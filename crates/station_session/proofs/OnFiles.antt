@@ -20,11 +20,6 @@ pub sound_by : (is_sound had_stopped stopped had_failed failed : Bool) → had_s
 sound_by is_sound had_stopped stopped had_failed failed stop_is going fail_is sound_is is =
     (sym fail_is ∙ not_true had_failed (sym sound_is ∙ is), λ stops. absurd (let e : true ≡ false = sym stops ∙ sym stop_is ∙ going in cc))
 
--- where the line was saved
-pub saved_so : {T E : Type 0} (saved : Result T E) (is_sound : Bool) → is_sound ≡ true → OnOk saved (IsTrue is_sound)
-saved_so (Ok kept) is_sound is = is
-saved_so (Err fault) is_sound is = tt
-
 -- all that was asked of files, if it is told
 abbrev pub log_of : {F : Type 0} → Option (Finished F) → Option (List Asked)
 log_of files = option_map (λ done. done.log) files

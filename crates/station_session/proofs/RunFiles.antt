@@ -424,14 +424,6 @@ after_failed says true sound commands left status is bad last stage = after_driv
 after_failed says false sound commands left status is bad last stage = after_alone says false sound commands left status is refl
     (unrecovered last stage bad)
 
--- the parts didn't end soundly
-pub after_unsound : (says : Says) (is_driven : Bool) (sound : Result (Unit {0}) Fault) (fault : Fault) (commands : List Command) (left : Seen)
-    (status : ExitStatus) → sound ≡ Err fault → ¬ IsFaultless status → GoesAfter says is_driven sound commands left status
-after_unsound says true sound fault commands left status is bad = subst
-    (λ (r : Result (Unit {0}) Fault). GoesAfter says true r commands left status) (sym is) bad
-after_unsound says false sound fault commands left status is bad = subst
-    (λ (r : Result (Unit {0}) Fault). GoesAfter says false r commands left status) (sym is) bad
-
 -- the commands that were left are those of the run
 pub after_unserved : (says : Says) (is_driven : Bool) (sound : Result (Unit {0}) Fault) (unserved commands : List Command) (left : Seen)
     (status : ExitStatus) → (is_driven ≡ false → unserved ≡ commands) → GoesAfter says is_driven sound unserved left status

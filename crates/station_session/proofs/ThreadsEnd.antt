@@ -19,10 +19,6 @@ use Rattle.station_session.specs.Session.{EndsStation}
 use Rattle.script_session.specs.Saving.{SavesAfter, SavesLeft}
 use Rattle.script_session.proofs.SavingLaws.{after-unserved, after-worse}
 
--- nothing was served, and nothing is saved
-pub ends-unserved : (is_cut : Bool) (files : Known) (line : LineFile) (opened : Station) (commands : List Command) (status : ExitStatus) → ¬ IsFaultless status → EndsStation is_cut files files line opened commands status
-ends-unserved is_cut files line opened commands status bad = record { others = λ other out. refl; saved = λ good. absurd (bad good) }
-
 pub ends-left : {T : Type 0} (old new : Known) (line : LineFile) (opened : Station) (commands : List Command) (left : Left SiteValue T) (status : ExitStatus) → LeavesSo opened commands left.ending left.site
     → (left.ending.is_driven ≡ false → left.unserved.items ≡ commands) → ChangesAmong old new (files_of line)
     → (IsFaultless status → SavesLeft new line left status) → EndsStation false old new line opened commands status
@@ -44,13 +40,6 @@ ends-left old new line opened commands left status served same others saved = re
 well-reported : (reported : Result (Unit {0}) Fault) (one : ExitStatus) → OnErr reported (¬ IsFaultless one) → IsFaultless one → reported ≡ Ok tt
 well-reported (Ok done) one bad good = refl
 well-reported (Err fault) one bad good = absurd (bad good)
-
--- Of a desk that isn't closed a fault is told.
-pub not-closed : {F : Type 0} (closed : Result (Unit {0}) F) (why : F) (reported : Result (Unit {0}) Fault) (one : ExitStatus) → closed ≡ Err why → OnOk reported (closed ≡ Ok tt) → OnErr reported (¬ IsFaultless one) → ¬ IsFaultless one
-not-closed closed why reported one failed closes bad good =
-    let is : closed ≡ Ok tt = subst (λ (r : Result (Unit {0}) Fault). OnOk r (closed ≡ Ok tt)) (well-reported reported one bad good) closes in
-    let never : Err why ≡ Ok tt = sym failed ∙ is in
-    absurd cc
 
 -- The status of the answers, that of what is told and that of saving are at most that of the run.
 pub saves-left : {T : Type 0} (files : Known) (line : LineFile) (left : Left SiteValue T) (one saved both final : ExitStatus) → OnErr left.ending.reported (¬ IsFaultless one)

@@ -23,7 +23,7 @@ pub struct RunLog<T> {
 }
 
 impl<T> RunLog<T> {
-    /// Nothing is told.
+    /// Nothing is reported.
     pub(crate) fn nothing() -> RunLog<T>
         ensures { IsNoneReported result }
     {
@@ -34,7 +34,7 @@ impl<T> RunLog<T> {
         }
     }
 
-    /// Of the devices of a line that was not served, or not put together again behind that.
+    /// Of the devices of a line that was not served, or not put together again after that.
     pub(crate) fn of_unserved(reported: UnservedLog<T>) -> RunLog<T>
         ensures opening { result.opening ≡ opening_of reported }
         ensures desk { result.desk ≡ desk_of reported }
@@ -71,14 +71,14 @@ impl<T> RunLog<T> {
     }
 }
 
-/// How the commands were served, and what is told of the devices.
+/// How the commands were served, and what is reported of the devices.
 #[derive(Drop)]
 pub(crate) struct Served<T> {
     pub(crate) status: ExitStatus,
     pub(crate) reported: RunLog<T>,
 }
 
-/// The same, or `Unserved` where no fault is told and a log is missing.
+/// The same, or `Unserved` where no fault is reported and a log is missing.
 pub(crate) fn with_all_reported(served: Served<FileLog>, failures: &mut Failures) -> Served<FileLog>
     ensures reported { result.reported ≡ served.reported }
     ensures status { (result.status ≡ served.status) ⊎ (¬ IsFaultless result.status) }
@@ -91,17 +91,13 @@ pub(crate) fn with_all_reported(served: Served<FileLog>, failures: &mut Failures
     if is_enough {
         return served;
     }
-    let Served {
-        status: _,
-        reported,
-    } = served;
     Served {
         status: failures.note(Fault::Unserved),
-        reported,
+        reported: served.reported,
     }
 }
 
-/// Whether the logs of all devices are told, those of a desk's each of its own part.
+/// Whether the logs of all devices are reported, those of a desk's each of its own part.
 fn is_all_reported(reported: &FilesLog) -> bool
     ensures { IsTrue result → IsAllReported reported.now }
 {
@@ -111,7 +107,7 @@ fn is_all_reported(reported: &FilesLog) -> bool
     }
 }
 
-/// Whether the logs of the devices at a desk are told, each of its own part.
+/// Whether the logs of the devices at a desk are reported, each of its own part.
 fn are_logs_reported(reported: &DeskLog<FileLog>) -> bool
     ensures { IsTrue result → AreLogsReported reported.now }
 {
@@ -124,7 +120,7 @@ fn are_logs_reported(reported: &DeskLog<FileLog>) -> bool
     reported.line.reported.calls.is_some()
 }
 
-/// Whether the log of each slave's device is told.
+/// Whether the log of each slave's device is reported.
 fn are_slaves_reported(reported: &[PartLog<FileLog>]) -> bool
     ensures { IsTrue result → AreSlavesReported reported.now }
 {
@@ -136,7 +132,7 @@ fn are_slaves_reported(reported: &[PartLog<FileLog>]) -> bool
     true
 }
 
-/// Whether the log of the device of this part is told.
+/// Whether the log of the device of this part is reported.
 fn is_part_reported(reported: &FileLog, part: LinePart) -> bool
     ensures { IsTrue result → IsPartReported part reported.now }
 {

@@ -32,7 +32,7 @@ pub struct Recovery<F> {
 ///
 /// The files are read in this order: line file, images of the slaves, journal. After any later fault, which is noted, the files hold what
 /// was written so far, and another recovery completes it. What a power cut leaves in the open files at any moment, all of them together, is kept
-/// for each machine for which what was read is kept; behind `Done` each image has the contents, synced.
+/// for each machine for which what was read is kept; after `Done` each image has the contents, synced.
 ///
 /// The progress of `watch` counts what is done, if there is one. Its line is erased before anything is printed, and at the end.
 ///

@@ -10,7 +10,7 @@ ghost use Rattle.script_session.specs.Saving.{SavesAfter, SavesLeft};
 
 use crate::answers::AnswerStreams;
 use crate::logs::{RunLog, Served};
-use script_session::{DeskLeft, DeskLog, Left, Work, end_line, serve_by_threads};
+use script_session::{DeskLeft, Left, Task, Work, end_line, serve_task};
 use sii_edit::Command;
 use site_shadow::{Lends, ShadowSite};
 use station_alone::Alone;
@@ -41,18 +41,15 @@ pub(crate) fn run_threads<
     ensures followed { IsFollowed (TellsOf D.follows D.tells (line_reported result.reported.desk result.reported.opening)) alone.seen }
     ensures serves { ServesFollowedBy D.follows D.well D.tells alone commands.items result.status result.reported }
 {
-    let work = Work {
-        commands,
-        tells_events: false,
+    let task = Task {
+        work: Work {
+            commands,
+            tells_events: false,
+        },
+        turns: true,
     };
-    match serve_by_threads(
-        rt,
-        rt.alloc(),
-        alone,
-        line.images.len(),
-        work,
-        answers.output,
-    ) {
+    let slaves = line.images.len();
+    match serve_task(rt, rt.alloc(), alone, slaves, task, answers.output) {
         Ok(left) => end_threads(rt.alloc(), line, left, store, answers),
         Err(why) => Served {
             status: answers.failures.note(why.fault),
@@ -88,28 +85,14 @@ fn end_threads<D: Lends, S: Store, W: Write>(
                 reported: saved.reported,
             }
         }
-        Err(_) => Served {
-            status: worse(status, reported),
-            reported: RunLog::of_desk(desk_reported(left), None),
-        },
+        Err(_) => {
+            let Left { reported: desk, .. } = left;
+            Served {
+                status: worse(status, reported),
+                reported: RunLog::of_desk(desk, None),
+            }
+        }
     }
-}
-
-/// What is told of the devices of a line that isn't worked on any more.
-fn desk_reported<D: Lends>(left: Left<ShadowSite<D>, D::Logged>) -> DeskLog<D::Logged>
-    ensures { result ≡ left.reported }
-{
-    let Left {
-        site,
-        unserved,
-        ending,
-        sound: _,
-        reported,
-    } = left;
-    drop(site);
-    drop(unserved);
-    drop(ending);
-    reported
 }
 
 /// Recovers the line whose parts ended soundly, and saves what it holds. If the commands were not submitted yet, they are served between the

@@ -1,7 +1,7 @@
 -- The values at the keys of a document's tables.
-use Rattle.std.specs.Prelude.{bytes_eq, ◌≡◌, ℕ, ◌<◌, ◌&&◌, Bool, true, List, [], ◌∷◌, Option, Some, option_map, option_and_then, pos, IsSomeAnd, IsTrue}
+use Rattle.std.specs.Prelude.{bytes_eq, ◌≡◌, ℕ, ◌<◌, ◌&&◌, Bool, true, false, List, [], ◌∷◌, Option, Some, None, option_map, option_and_then, pos, IsSomeAnd, IsTrue}
 use Rattle.std.specs.List.{list_any}
-use Rattle.toml.specs.Data.{Data, Items, no_items, item, Members, no_members, member, get_member, as_str, as_integer, as_array, as_table}
+use Rattle.toml.specs.Data.{Data, Items, no_items, item, Members, no_members, member, get_member, as_str, as_bool, as_integer, as_array, as_table}
 
 -- the key is one of the known ones
 abbrev pub is_known : List (List ℕ) → List ℕ → Bool
@@ -40,3 +40,8 @@ IsNumberBelow limit value number = (as_integer value ≡ Some (pos number)) × (
 -- the value at the key is this integer, which is at least 0 and below the limit
 abbrev pub HasNumberBelow : ℕ → List ℕ → Members → ℕ → Type 0
 HasNumberBelow limit key table number = IsSomeAnd (get_member key table) (λ value. IsNumberBelow limit value number)
+
+-- the value, if there is one, is this boolean; false where there is none
+abbrev pub IsFlag : Option Data → Bool → Type 0
+IsFlag None flag = flag ≡ false
+IsFlag (Some value) flag = as_bool value ≡ Some flag

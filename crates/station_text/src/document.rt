@@ -3,7 +3,7 @@ ghost use Rattle.std.specs.Prelude.{◌≡◌, Some, map, option_map};
 ghost use Rattle.toml.specs.Data.{as_array, get_member};
 ghost use Rattle.toml.specs.Parse.{parse_document};
 ghost use Rattle.toml.specs.View.{view, table_view};
-ghost use Rattle.station_text.specs.Document.{HasNumberBelow, IsNumberBelow, has_only, is_known, table_at, text_at, values_at, values_of};
+ghost use Rattle.station_text.specs.Document.{HasNumberBelow, IsFlag, IsNumberBelow, has_only, is_known, table_at, text_at, values_at, values_of};
 ghost use Rattle.station_text.specs.Reading.{Finds, Reads};
 
 use crate::fault::ValueFault;
@@ -117,5 +117,15 @@ pub(crate) fn find_number(table: &Table, key: &str) -> Option<u16>
     match find(table, key) {
         Some(value) => read_number(value),
         None => None,
+    }
+}
+
+/// The boolean at a key, false where the key is absent; `None` where its value is of another type.
+pub(crate) fn find_flag(table: &Table, key: &str) -> Option<bool>
+    ensures { Finds (IsFlag (get_member key.now (table_view table.now))) result }
+{
+    match find(table, key) {
+        Some(value) => value.as_bool(),
+        None => Some(false),
     }
 }

@@ -38,13 +38,19 @@ pub(crate) enum Flaw<'a> {
     /// None of these keys is there, and one must be.
     #[error("one of the keys {0} is missing")]
     NoneOf(Form),
+    /// What an edit outside a group expects stands beside it.
+    #[error("outside a group expect stands among the fields of the edit, as in alias = {{ slave = 0, value = 1, expect = {{ .. }} }}")]
+    Beside,
+    /// What an edit expects stands beside it and among its fields.
+    #[error("expect stands both beside the edit and among its fields")]
+    Twice,
     /// Two keys that exclude each other.
     #[error("{0} and {1} can't stand side by side")]
     Two(&'static str, &'static str),
-    /// The text is no line file, for no reason that is told here.
+    /// The text is no line file, for no reason that is reported here.
     #[error("no line file")]
     NoLine,
-    /// The command of this place is none, for no reason that is told here.
+    /// The command of this place is none, for no reason that is reported here.
     #[error("command {0} is none that the program knows")]
     NoCommand(usize),
 }
@@ -89,13 +95,14 @@ impl<'a> Flaw<'a> {
             Flaw::Unknown(key, _) => part.from_key(key).from,
             Flaw::Wrong(key, ..) => part.from_key(key).from,
             Flaw::Slaves(_) => part.from_key("slave").from,
+            Flaw::Beside => part.from_key("expect").from,
             _ => part.from,
         };
         Spot { flaw: self, at }
     }
 }
 
-/// Judges the entry of an array, which has to be a table of this form and stands in this part of a text.
+/// Validates the entry of an array, which has to be a table of this form and stands in this part of a text.
 pub(crate) fn validate_entry<'a>(
     part: Part<'_>,
     value: &'a Value,
@@ -108,7 +115,7 @@ pub(crate) fn validate_entry<'a>(
     Ok(table)
 }
 
-/// Judges a table of this form, in this part of a text. Its first flaw is an unknown key, else the first key in the form's order that is missing
+/// Validates a table of this form, in this part of a text. Its first flaw is an unknown key, else the first key in the form's order that is missing
 /// or has a value of another shape.
 pub(crate) fn validate_table<'a>(
     part: Part<'_>,

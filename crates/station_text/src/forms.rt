@@ -12,6 +12,8 @@ pub(crate) enum Shape {
     /// An integer, at least and at most these.
     #[error("an integer of {0} to {1}")]
     Number(i64, i64),
+    #[error("true or false")]
+    Flag,
     #[error("a table")]
     Table,
     #[error("an array of tables")]
@@ -83,11 +85,18 @@ pub(crate) const EXPECT: Form = Form(&[
     Field::Needed("revision", LARGE),
 ]);
 
+/// What an edit expects may stand among its fields.
+const GUARD: Field = Field::Optional("expect", Shape::Table);
+
 /// What stands at the key of each kind of edit.
 pub(crate) const EDITS: &[(&str, Form)] = &[
     (
         "alias",
-        Form(&[Field::Needed("slave", SMALL), Field::Needed("value", SMALL)]),
+        Form(&[
+            Field::Needed("slave", SMALL),
+            Field::Needed("value", SMALL),
+            GUARD,
+        ]),
     ),
     (
         "category",
@@ -95,6 +104,7 @@ pub(crate) const EDITS: &[(&str, Form)] = &[
             Field::Needed("slave", SMALL),
             Field::Needed("kind", SMALL),
             Field::Needed("content", Shape::Words),
+            GUARD,
         ]),
     ),
     (
@@ -102,6 +112,8 @@ pub(crate) const EDITS: &[(&str, Form)] = &[
         Form(&[
             Field::Needed("slave", SMALL),
             Field::Needed("file", Shape::Text),
+            Field::Optional("replace", Shape::Flag),
+            GUARD,
         ]),
     ),
 ];
@@ -147,6 +159,7 @@ impl Shape {
         match self {
             Shape::Text => value.is_str(),
             Shape::Number(least, most) => is_number(value, least, most),
+            Shape::Flag => value.as_bool().is_some(),
             Shape::Table => value.is_table(),
             Shape::Array => value.is_array(),
             Shape::Pair => match value.as_array() {

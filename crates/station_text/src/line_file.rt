@@ -11,6 +11,7 @@ ghost use Rattle.station_text.specs.Reading.{Reads};
 use crate::document::{find, find_text, find_values, has_only, read_document};
 use crate::fault::ValueFault;
 use crate::flaws::{TextKind, TextTrouble, trouble_of};
+use sii_words::MAX_SLAVES;
 use std::alloc::Global;
 use thiserror::Error;
 use toml::{Table, Value};
@@ -39,7 +40,7 @@ pub enum LineFault {
     /// Memory was refused.
     #[error("out of memory")]
     Memory,
-    /// The text is not a line file. What is wrong there is told, unless memory was refused for that.
+    /// The text is not a line file. What is wrong there is reported, unless memory was refused for that.
     #[error("the text is no line file")]
     BadLine(Option<TextTrouble>),
 }
@@ -130,7 +131,7 @@ fn read_images(alloc: Global, table: &Table) -> Result<Vec<String>, ValueFault>
 fn read_image_names(alloc: Global, slaves: &[Value]) -> Result<Vec<String>, ValueFault>
     ensures { Reads ValueFault.Memory (λ images. images.items) (AreImages (map view slaves.now)) result }
 {
-    if slaves.is_empty() || slaves.len() > 64 {
+    if slaves.is_empty() || slaves.len() > MAX_SLAVES {
         return Err(ValueFault::Malformed);
     }
     let mut images = Vec::with_capacity(alloc, slaves.len())?;

@@ -1,14 +1,16 @@
 //! Reads one command of a script file.
-ghost use Rattle.std.specs.Prelude.{◌≡◌, codes, map, IsSomeAnd};
+ghost use Rattle.std.specs.Prelude.{◌≡◌, codes, map, option_map, IsSomeAnd, Some};
 ghost use Rattle.std.specs.List.{AllZip};
 ghost use Rattle.toml.specs.Data.{as_table, get_member};
 ghost use Rattle.toml.specs.View.{view, table_view};
 ghost use Rattle.station_text.specs.Document.{IsNumberBelow, table_at};
 ghost use Rattle.station_text.specs.Reading.{Finds, Reads};
-ghost use Rattle.station_text.specs.ScriptText.{SpellsAlias, SpellsCategory, SpellsCommand, SpellsEdit, SpellsExpect, SpellsGroup, SpellsGroupEdit, SpellsGuard, SpellsGuarded, SpellsImage, SpellsSwap, SpellsTableCommand};
+ghost use Rattle.station_text.specs.ScriptText.{SpellsAlias, SpellsCategory, SpellsCommand, SpellsEdit, SpellsExpect, SpellsGroup, SpellsGroupEdit, SpellsGuard, SpellsGuards, SpellsGuarded, SpellsImage, SpellsSwap, SpellsTableCommand};
+ghost use Rattle.station_text.specs.ScriptText.{own_guard, own_guard_at};
 
 use crate::document::{
-    find, find_number, find_table, find_text, find_values, find_wide_number, has_only, read_number,
+    find, find_flag, find_number, find_table, find_text, find_values, find_wide_number, has_only,
+    read_number,
 };
 use crate::fault::ValueFault;
 use crate::hexadecimal::read_hex_words;
@@ -23,7 +25,7 @@ pub enum ScriptCommand {
     One(ScriptEdit),
     /// Swaps the aliases of the slaves `a` and `b`, each a position on the line, from 0.
     Swap { a: u16, b: u16 },
-    /// Several edits that are accepted or refused as one command.
+    /// Several edits that are accepted or refused as one command; or one that expects an identity.
     Group(Vec<ScriptGroupEdit>),
 }
 
@@ -52,6 +54,8 @@ pub enum ScriptEdit {
         slave: u16,
         /// The name of the image file.
         file: String,
+        /// Whether it may be that of another device than the slave is, or shorter.
+        replace: bool,
     },
 }
 
@@ -64,7 +68,7 @@ pub struct ScriptGroupEdit {
     pub edit: ScriptEdit,
 }
 
-/// Reads a command: a table with one key, which names the kind of the command.
+/// Reads a command: a table with one key, which names the kind of the command. An edit that expects an identity is a group of one.
 ///
 /// # Errors
 ///
@@ -78,6 +82,7 @@ pub(crate) fn read_command(alloc: Global, value: &Value) -> Result<ScriptCommand
     }
 }
 
+#[tactic(auto, using(crate::proofs::ScriptRefusals::one_plain, crate::proofs::ScriptRefusals::one_guarded, crate::proofs::ScriptRefusals::expect_beside))]
 fn read_table_command(alloc: Global, table: &Table) -> Result<ScriptCommand, ValueFault>
     ensures { Reads ValueFault.Memory (λ command. command) (SpellsTableCommand (table_view table.now)) result }
 {
@@ -90,10 +95,19 @@ fn read_table_command(alloc: Global, table: &Table) -> Result<ScriptCommand, Val
     if has_only(table, &["group"]) {
         return Ok(ScriptCommand::Group(read_group(alloc, table)?));
     }
-    if find(table, "expect").is_some() {
+    if let Some(_guard) = find(table, "expect") {
         return Err(ValueFault::Malformed);
     }
-    Ok(ScriptCommand::One(read_edit(alloc, table)?))
+    let ScriptGroupEdit { expect, edit } = read_guarded_edit(alloc, table)?;
+    let Some(guard) = expect else {
+        return Ok(ScriptCommand::One(edit));
+    };
+    let mut edits = Vec::with_capacity(alloc, 1)?;
+    edits.push(ScriptGroupEdit {
+        expect: Some(guard),
+        edit,
+    })?;
+    Ok(ScriptCommand::Group(edits))
 }
 
 /// Reads `swap = [0, 1]`.
@@ -133,7 +147,7 @@ fn read_group_edits(alloc: Global, values: &[Value]) -> Result<Vec<ScriptGroupEd
     Ok(edits)
 }
 
-/// Reads an edit of a group: a table with one edit, and `expect` beside it if the edit is guarded.
+/// Reads an edit of a group: a table with one edit, and `expect` beside it or among its fields if the edit is guarded.
 fn read_group_edit(alloc: Global, value: &Value) -> Result<ScriptGroupEdit, ValueFault>
     ensures { Reads ValueFault.Memory (λ one. one) (SpellsGroupEdit (view value.now)) result }
 {
@@ -151,16 +165,52 @@ fn read_guarded_edit(alloc: Global, table: &Table) -> Result<ScriptGroupEdit, Va
     Ok(ScriptGroupEdit { expect, edit })
 }
 
-/// The identity at the key `expect`, if there is such a key.
+/// The identity that an edit expects, if there is one: at the key `expect` beside the edit, or among its fields, and not in both places.
+#[tactic(auto, using(crate::proofs::ScriptRefusals::no_guards, crate::proofs::ScriptRefusals::guard_beside, crate::proofs::ScriptRefusals::guard_inside, crate::proofs::ScriptRefusals::two_guards))]
 fn read_guard(table: &Table) -> Result<Option<Expect>, ValueFault>
-    ensures { Reads ValueFault.Memory (λ expect. expect) (SpellsGuard (get_member (codes "expect") (table_view table.now))) result }
+    ensures { Reads ValueFault.Memory (λ expect. expect)
+        (SpellsGuards (get_member (codes "expect") (table_view table.now)) (own_guard (table_view table.now))) result }
 {
-    let Some(guard) = find(table, "expect") else {
-        return Ok(None);
-    };
+    match (find(table, "expect"), find_own_guard(table)) {
+        (None, None) => Ok(None),
+        (Some(guard), None) => read_identity(guard),
+        (None, Some(guard)) => read_identity(guard),
+        (Some(_), Some(_)) => Err(ValueFault::Malformed),
+    }
+}
+
+/// Reads the identity that is expected.
+#[tactic(auto, using(crate::proofs::ScriptRefusals::no_identity))]
+fn read_identity(guard: &Value) -> Result<Option<Expect>, ValueFault>
+    ensures { Reads ValueFault.Memory (λ expect. expect) (SpellsGuard (Some (view guard.now))) result }
+{
     match read_expect(guard) {
         Some(expect) => Ok(Some(expect)),
         None => Err(ValueFault::Malformed),
+    }
+}
+
+/// The value at the key `expect` among the fields of the edit.
+#[tactic(auto, using(crate::proofs::ScriptRefusals::guard_first, crate::proofs::ScriptRefusals::guard_second, crate::proofs::ScriptRefusals::guard_third))]
+fn find_own_guard(table: &Table) -> Option<&Value>
+    ensures { option_map (λ value. view value.now) result ≡ own_guard (table_view table.now) }
+{
+    if let Some(guard) = find_own_guard_at(table, "alias") {
+        return Some(guard);
+    }
+    match find_own_guard_at(table, "category") {
+        Some(guard) => Some(guard),
+        None => find_own_guard_at(table, "image"),
+    }
+}
+
+/// The value at the key `expect` of the table at a key.
+fn find_own_guard_at<'a>(table: &'a Table, key: &str) -> Option<&'a Value>
+    ensures { option_map (λ value. view value.now) result ≡ own_guard_at key.now (table_view table.now) }
+{
+    match find_table(table, key) {
+        Some(fields) => find(fields, "expect"),
+        None => None,
     }
 }
 
@@ -203,7 +253,7 @@ fn read_alias(table: &Table) -> Result<ScriptEdit, ValueFault>
     let Some(fields) = find_table(table, "alias") else {
         return Err(ValueFault::Malformed);
     };
-    if !has_only(fields, &["slave", "value"]) {
+    if !has_only(fields, &["slave", "value", "expect"]) {
         return Err(ValueFault::Malformed);
     }
     match (find_number(fields, "slave"), find_number(fields, "value")) {
@@ -220,7 +270,7 @@ fn read_category(alloc: Global, table: &Table) -> Result<ScriptEdit, ValueFault>
     let Some(fields) = find_table(table, "category") else {
         return Err(ValueFault::Malformed);
     };
-    if !has_only(fields, &["slave", "kind", "content"]) {
+    if !has_only(fields, &["slave", "kind", "content", "expect"]) {
         return Err(ValueFault::Malformed);
     }
     let (Some(slave), Some(kind), Some(content)) = (
@@ -234,7 +284,7 @@ fn read_category(alloc: Global, table: &Table) -> Result<ScriptEdit, ValueFault>
     Ok(ScriptEdit::Category { slave, kind, words })
 }
 
-/// Reads `image = { slave = 0, file = "new.bin" }`.
+/// Reads `image = { slave = 0, file = "new.bin" }`. With `replace = true` the image may be that of another device.
 fn read_image_edit(alloc: Global, table: &Table) -> Result<ScriptEdit, ValueFault>
     ensures { Reads ValueFault.Memory (λ edit. edit) (λ edit.
         IsSomeAnd (table_at (codes "image") (table_view table.now)) (λ fields. SpellsImage fields edit)) result }
@@ -242,12 +292,20 @@ fn read_image_edit(alloc: Global, table: &Table) -> Result<ScriptEdit, ValueFaul
     let Some(fields) = find_table(table, "image") else {
         return Err(ValueFault::Malformed);
     };
-    if !has_only(fields, &["slave", "file"]) {
+    if !has_only(fields, &["slave", "file", "replace", "expect"]) {
         return Err(ValueFault::Malformed);
     }
-    let (Some(slave), Some(name)) = (find_number(fields, "slave"), find_text(fields, "file")) else {
+    let (Some(slave), Some(name), Some(replace)) = (
+        find_number(fields, "slave"),
+        find_text(fields, "file"),
+        find_flag(fields, "replace"),
+    ) else {
         return Err(ValueFault::Malformed);
     };
     let file = String::from_str(alloc, name)?;
-    Ok(ScriptEdit::Image { slave, file })
+    Ok(ScriptEdit::Image {
+        slave,
+        file,
+        replace,
+    })
 }

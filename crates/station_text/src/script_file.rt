@@ -53,7 +53,7 @@ fn bad_script(alloc: Global, text: &str, command: usize) -> ScriptFault {
     ScriptFault::BadScript { command, trouble }
 }
 
-/// The commands of a script. What is wrong in it isn't told.
+/// The commands of a script. What is wrong in it isn't reported.
 fn script_in(alloc: Global, text: &str) -> Result<Vec<ScriptCommand>, ValueFault>
     ensures { Reads ValueFault.Memory (λ commands. commands.items) (SpellsScriptFile text.now) result }
 {

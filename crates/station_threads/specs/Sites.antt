@@ -1,10 +1,9 @@
--- The sites of a line, the parts in which they are served, and the ends of their threads.
+-- The sites of a line, and the ends of the threads that serve them.
 use Rattle.std.specs.Prelude.{◌≡◌, ℕ, List, Option, Some, None, slice_get, IsTrue, IfSome}
 use Rattle.site_core.specs.Line.{Line, Owns}
 use Rattle.station_jobs.specs.declared.log.SlaveLog.{SlaveLog}
 use Rattle.station_jobs.specs.Ends.{Stay}
-use Rattle.station_threads.specs.Parts.{Part, PartOf, IsEndOfSlave}
-use Rattle.station_threads.specs.Sides.{RomHands}
+use Rattle.station_threads.specs.Parts.{IsEndOfSlave}
 use Rattle.station_threads.specs.Places.{AllPlaced}
 
 -- Each site owns the EEPROM half of the slave at its place.
@@ -16,24 +15,6 @@ pub record OwnParts {S : Type 0} (line : S → Line) (disk : S) (slaves : List S
   pub of_disk : IsTrue (line disk).has_disk
   pub of_slaves : OwnSlaves line slaves
   pub of_cycle : IfSome cycle (λ site. IsTrue (line site).has_process)
-
--- ---- parts
-
--- The part is this slave's, has this site, and its dispatch hands out this slave's jobs.
-pub record IsPartOf {S : Type 0} (slave : ℕ) (site : S) (part : PartOf S RomHands) : Type 0 where
-  pub slave_is : part.slave ≡ slave
-  pub site_is : part.site ≡ site
-  pub words : part.dispatch.slave ≡ slave
-
--- a part for each slave, in order
-abbrev pub ArePartsOf : {S : Type 0} → List S → List (PartOf S RomHands) → Type 0
-ArePartsOf {S} sites parts = AllPlaced (λ slave (site : S) (part : PartOf S RomHands). IsPartOf slave site part) 0 sites parts
-
--- The process data has a part exactly where there is a site for it.
-abbrev pub IsPartOfTurns : {S D : Type 0} → Option S → Option (Part S D) → Type 0
-IsPartOfTurns None None = Unit {0}
-IsPartOfTurns (Some site) (Some part) = part.site ≡ site
-IsPartOfTurns site part = ⊥
 
 -- ---- ends
 

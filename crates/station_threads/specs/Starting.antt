@@ -6,7 +6,8 @@ use Rattle.station_jobs.specs.declared.log.SlaveLog.{SlaveLog}
 use Rattle.station_jobs.specs.Ends.{Stay}
 use Rattle.station_threads.specs.declared.starting.Since.{Since}
 use Rattle.station_threads.specs.declared.starting.SinceOf.{SinceOf}
-use Rattle.station_threads.specs.Parts.{Part, PartOf, IsEndOfSlave}
+use Rattle.station_threads.specs.Parts.{IsEndOfSlave}
+use Rattle.station_threads.specs.Places.{AllPlaced}
 
 -- ---- the disk, and the process data
 
@@ -22,11 +23,11 @@ IsStarted site started = MatchResult started (λ handle. handle.promise.site.val
 abbrev pub ComesTo : {S L : Type 0} → Started S L → Stay S L → Type 0
 ComesTo started end = MatchResult started (λ handle. end.start ≡ handle.promise.site.value) (λ ended. end ≡ ended)
 
--- The process data was started exactly where there is a part for it,
-abbrev pub IsTurning : {S D L : Type 0} → Option (Part S D) → Option (Started S L) → Type 0
+-- The process data was started exactly where there is a site for it,
+abbrev pub IsTurning : {S L : Type 0} → Option S → Option (Started S L) → Type 0
 IsTurning None None = Unit {0}
-IsTurning (Some part) (Some started) = IsStarted part.site started
-IsTurning part started = ⊥
+IsTurning (Some site) (Some started) = IsStarted site started
+IsTurning site started = ⊥
 
 -- and has an end exactly where it was started.
 abbrev pub TurnsInto : {S L : Type 0} → Option (Started S L) → Option (Stay S L) → Type 0
@@ -45,9 +46,9 @@ abbrev pub IsWorkerOf : {S : Type 0} → ℕ → S → Worker S → Type 0
 IsWorkerOf slave site worker =
     MatchResult worker (λ handle. (handle.promise.slave ≡ slave) × (handle.promise.site.value ≡ site)) (λ end. IsEndOfSlave slave site end)
 
--- one worker for each slave's part, in order
-abbrev pub AreWorkersOfParts : {S D : Type 0} → List (PartOf S D) → List (Worker S) → Type 0
-AreWorkersOfParts {S} {D} parts workers = AllZip (λ (part : PartOf S D) (worker : Worker S). IsWorkerOf part.slave part.site worker) parts workers
+-- one worker for each slave's site, in order
+abbrev pub AreWorkersOf : {S : Type 0} → List S → List (Worker S) → Type 0
+AreWorkersOf {S} sites workers = AllPlaced (λ slave (site : S) (worker : Worker S). IsWorkerOf slave site worker) 0 sites workers
 
 -- This is the worker's end.
 abbrev pub EndsAs : {S : Type 0} → Worker S → Stay S SlaveLog → Type 0

@@ -48,70 +48,12 @@ impl<T: Tickets, R: Refusals> Model for Desk<T, R> {
     ghost invariant = { λ _. AppendsNext T.opened };
 }
 
-/// The book under a desk's lock, with nothing given out, those who will wait at the desk, and the byte of the file at which the journal's
-/// area ends.
-fn open_book<T: Tickets, R: Refusals>(
-    alloc: Global,
-    core: Core,
-    tickets: BlankLedger,
-    refusals: BlankLedger,
-) -> Result<(Served<T, R>, Sleepers, usize), AllocError>
-    requires core { core ≡ T.opened }
-    requires none { core.accepted ≡ [] }
-    requires tickets { (tickets.name ≡ T.name) × (tickets.count ≡ T.parts) }
-    requires refusals { (refusals.name ≡ R.name) × (refusals.count ≡ R.parts) }
-    ensures pool { IfOk result (λ opened. opened.0.pool ≡ record { tickets = tickets.count; refusals = refusals.count; given = 0 }) }
-    ensures limit { IfOk result (λ opened. opened.2 ≡ 8 + core.capacity) }
-    ensures next { AppendsNext T.opened }
-{
-    // Its contract says that what the book is appending are the accepted commands right after the durable ones.
-    let _commands = core.accepted();
-    let limit = AREA_START + core.capacity() as usize;
-    let Ok(sleepers) = Sleepers::new(alloc, core.contents().len()) else {
-        drop(core);
-        return Err(AllocError);
-    };
-    match Served::of(alloc, core, tickets, refusals) {
-        Ok(served) => Ok((served, sleepers, limit)),
-        Err(AllocError) => {
-            drop(sleepers);
-            Err(AllocError)
-        }
-    }
-}
-
 impl<T: Tickets, R: Refusals> Desk<T, R> {
-    /// Makes a desk of a book that has accepted no command yet, with a ledger for its tickets and one for its refusals.
+    /// Makes a desk of a book that has accepted no command yet, with a ledger for its tickets and one for its refusals, and gives out its first
+    /// share, which a new desk never refuses.
     ///
-    /// The book has to be `T.opened`, and the ledgers those of `T` and `R`, with as many parts as these say.
-    ///
-    /// # Errors
-    ///
-    /// `AllocError`: memory was refused. The book is dropped.
-    pub fn of(
-        alloc: Global,
-        core: Core,
-        tickets: BlankLedger,
-        refusals: BlankLedger,
-    ) -> Result<Desk<T, R>, AllocError>
-        requires core { core ≡ T.opened }
-        requires none { core.accepted ≡ [] }
-        requires tickets { (tickets.name ≡ T.name) × (tickets.count ≡ T.parts) }
-        requires refusals { (refusals.name ≡ R.name) × (refusals.count ≡ R.parts) }
-        ensures { IfOk result (λ desk. desk.limit ≡ 8 + core.capacity) }
-    {
-        let (served, sleepers, limit) = open_book(alloc, core, tickets, refusals)?;
-        Ok(Desk {
-            served: Mutex::new(served),
-            sleepers,
-            alloc,
-            limit,
-        })
-    }
-
-    /// Makes a desk as `of` does, and gives out its first share, which a new desk never refuses.
-    ///
-    /// Each ledger needs two parts: one for the share, and one that the desk keeps.
+    /// The book has to be `T.opened`, and the ledgers those of `T` and `R`, with as many parts as these say: two at least, one for the share,
+    /// and one that the desk keeps.
     ///
     /// # Errors
     ///
@@ -130,17 +72,31 @@ impl<T: Tickets, R: Refusals> Desk<T, R> {
         ensures limit { IfOk result (λ made. made.0.limit ≡ 8 + core.capacity) }
         ensures share { IfOk result (λ made. made.1 ≡ record { tickets = 0; refusals = 0 }) }
     {
-        let (mut served, sleepers, limit) = open_book(alloc, core, tickets, refusals)?;
-        let Some(share) = served.share() else {
-            unreachable!()
+        // Its contract says that what the book is appending are the accepted commands right after the durable ones.
+        let _commands = core.accepted();
+        let limit = AREA_START + core.capacity() as usize;
+        let Ok(sleepers) = Sleepers::new(alloc, core.contents().len()) else {
+            drop(core);
+            return Err(AllocError);
         };
-        let desk = Desk {
-            served: Mutex::new(served),
-            sleepers,
-            alloc,
-            limit,
-        };
-        Ok((desk, share))
+        match Served::of(alloc, core, tickets, refusals) {
+            Ok(mut served) => {
+                let Some(share) = served.share() else {
+                    unreachable!()
+                };
+                let desk = Desk {
+                    served: Mutex::new(served),
+                    sleepers,
+                    alloc,
+                    limit,
+                };
+                Ok((desk, share))
+            }
+            Err(AllocError) => {
+                drop(sleepers);
+                Err(AllocError)
+            }
+        }
     }
 
     /// Gives out a share, the right to submit. It counts no tickets and no refusals yet.

@@ -4,8 +4,6 @@
 mod client;
 mod closing;
 mod desk;
-mod line_serving;
-mod parts;
 mod patience;
 mod serving;
 mod sides;
@@ -20,8 +18,6 @@ pub use desk_book::{
     BlankLedger, Call, Heard, Recalled, Receipt, Refusals, Refused, Served, Share, ShareFault,
     Ticket, Tickets, Unacknowledged,
 };
-pub use line_serving::serve_line;
-pub use parts::{CyclePart, DiskPart, LineEnds, LineParts, PerDevice, SlavePart};
-pub use serving::{Meanwhile, Room, serve};
+pub use serving::serve_line;
 pub use sides::{CycleSide, DiskSide, RomSide};
 pub use sites::{Sites, own_parts};

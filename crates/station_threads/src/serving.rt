@@ -1,91 +1,48 @@
-//! Serves all parts of a line at the same time.
+//! Serves a line from a desk, all its parts at the same time.
 
-ghost use Rattle.std.specs.Prelude.{◌≡◌, ◌≤◌, [], vec_len, vec_capacity, IfOk, MatchResult};
-ghost use Rattle.station_threads.specs.Parts.{IsEndOf, IsEndOfCycle, AreSlaveEndsOf};
-ghost use Rattle.station_threads.specs.Starting.{IsTurning, TurnsInto, AreWorkersOfParts, EndAs};
+ghost use Rattle.std.specs.Prelude.{◌≡◌, ◌≤◌, [], length, vec_len, vec_capacity, IfOk, IfErr, MatchResult};
+ghost use Rattle.station_threads.specs.Sites.{OwnParts, OwnSlaves, AreEndsOfSites, IsEndOfTurns};
+ghost use Rattle.station_threads.specs.Starting.{TurnsInto, AreWorkersOf, EndAs};
 
-use crate::parts::{CyclePart, LineEnds, LineParts, PerDevice, SlavePart};
-use crate::starting::{Since, SinceOf, start_cycle, start_flusher, start_worker};
+use crate::client::Client;
+use crate::closing::Ends;
+use crate::desk::Desk;
+use crate::sites::Sites;
+use crate::starting::{Turning, Worker, start_cycle, start_flusher, start_worker};
+use desk_book::{Refusals, Tickets};
 use site_core::Site;
-use station_jobs::{CycleLog, DiskLog, Dispatch, End, Hook, RomLog, SlaveLog};
-use std::alloc::{AllocError, Global};
-use std::marker::Model;
+use station_jobs::{CycleLog, End, Hook, SlaveLog};
+use std::alloc::Global;
 use std::sync::Wait;
 use std::thread;
 use std::thread::{Promise, PromisedHandle, Scope, Threads};
-
-/// What the calling thread does while the line is served.
-pub trait Meanwhile {
-    /// Drives the work, once all threads are started. It may start more threads. It isn't called if a thread couldn't be created.
-    fn drive<R: Wait + Threads + Sync>(&mut self, rt: &R);
-
-    /// Tells the dispatches that no more work will come, so that each part ends. It may be called more than once.
-    fn finish<R: Wait>(&mut self, rt: &R);
-}
-
-/// The thread of a worker. If it couldn't be created, the end of the work, which was then done on the calling thread.
-type Worker<S> = Result<PromisedHandle<End<S, SlaveLog>, SinceOf<S>>, End<S, SlaveLog>>;
-
-/// Memory for the workers of a line and their ends. Contracts see for how many slaves.
-#[derive(Drop)]
-pub struct Room<S: Site> {
-    slaves: usize,
-    workers: Vec<Worker<S>>,
-    ends: Vec<End<S, SlaveLog>>,
-}
-
-impl<S: Site> Model for Room<S> {
-    ghost use Rattle.std.specs.Prelude.{ℕ, ◌≡◌, ◌≤◌, [], vec_capacity};
-
-    ghost Value = { ℕ };
-
-    ghost view = { λ room. room.slaves };
-
-    ghost invariant = { λ room. (room.workers.items ≡ []) × (room.slaves ≤ vec_capacity room.workers)
-        × (room.ends.items ≡ []) × (room.slaves ≤ vec_capacity room.ends) };
-}
-
-impl<S: Site + Drop> Room<S> {
-    /// Takes the memory for this many slaves.
-    ///
-    /// # Errors
-    ///
-    /// `AllocError`: memory was refused.
-    pub fn new(alloc: Global, slaves: usize) -> Result<Self, AllocError>
-        ensures { IfOk result (λ room. room ≡ slaves) }
-    {
-        Ok(Room {
-            slaves,
-            workers: Vec::with_capacity(alloc, slaves)?,
-            ends: Vec::with_capacity(alloc, slaves)?,
-        })
-    }
-}
 
 /// Starts the workers, in order. False if a thread couldn't be created, and that slave was served on this thread.
 fn start_workers<
     's,
     E,
+    T: Tickets + Send + Sync,
+    R: Refusals + Send + Sync,
     S: Site + Send + Drop + 's,
-    D: Dispatch<RomLog> + Drop + 's,
     G: Hook + Sync,
-    M: Meanwhile,
-    R: Wait + Threads + Sync,
+    W: Wait + Threads + Sync,
 >(
     scope: &'s Scope<'s, E>,
-    rt: &'s R,
+    rt: &'s W,
+    desk: &'s Desk<T, R>,
     hook: &'s G,
-    parts: Vec<SlavePart<S, D>>,
+    sites: Vec<S>,
     workers: &mut Vec<Worker<S>>,
-    meanwhile: &mut M,
 ) -> bool
+    requires owned { OwnSlaves S.line sites.items }
     requires empty { workers.old.items ≡ [] }
-    requires room { vec_len parts ≤ vec_capacity workers.old }
-    ensures { AreWorkersOfParts parts.items workers.new.items }
+    requires room { vec_len sites ≤ vec_capacity workers.old }
+    ensures { AreWorkersOf sites.items workers.new.items }
 {
     let mut all_there = true;
-    for part in parts {
-        let worker = start_worker(scope, rt, hook, part, meanwhile);
+    for site in sites {
+        let slave = workers.len() as u16;
+        let worker = start_worker(scope, rt, desk, hook, slave, site);
         all_there = all_there && worker.is_ok();
         workers.push_reserved(worker);
     }
@@ -117,31 +74,6 @@ fn join_workers<S: Site + Drop, R: Threads>(
     }
 }
 
-/// The process data thread. If it couldn't be created, the end of its work. `None` without process data.
-type Turning<S> = Option<Result<PromisedHandle<End<S, CycleLog>, Since<S>>, End<S, CycleLog>>>;
-
-/// Starts the process data thread, if there is a part for it.
-fn start_turning<
-    's,
-    E,
-    S: Site + Send + Drop + 's,
-    C: Dispatch<CycleLog> + Drop + 's,
-    M: Meanwhile,
-    R: Wait + Threads + Sync,
->(
-    scope: &'s Scope<'s, E>,
-    rt: &'s R,
-    part: Option<CyclePart<S, C>>,
-    meanwhile: &mut M,
-) -> Turning<S>
-    ensures { IsTurning part result }
-{
-    match part {
-        Some(part) => Some(start_cycle(scope, rt, part, meanwhile)),
-        None => None,
-    }
-}
-
 /// Waits for the end of the process data thread, if there is one.
 fn join_turning<S: Site + Drop, R: Threads>(rt: &R, turning: Turning<S>) -> Option<End<S, CycleLog>>
     ensures { TurnsInto turning result }
@@ -152,99 +84,130 @@ fn join_turning<S: Site + Drop, R: Threads>(rt: &R, turning: Turning<S>) -> Opti
     }
 }
 
-/// The parts of a line, with memory for its workers and their ends.
+/// The sites of a line, with memory for its workers and their ends.
 #[derive(Drop)]
-struct PreparedLine<S: Site, F: Dispatch<DiskLog>, D: Dispatch<RomLog>, C: Dispatch<CycleLog>> {
-    line: LineParts<S, F, D, C>,
-    room: Room<S>,
-    ghost fits: { vec_len line.slaves ≤ room },
+struct PreparedLine<S: Site> {
+    sites: Sites<S>,
+    workers: Vec<Worker<S>>,
+    ends: Vec<End<S, SlaveLog>>,
+    ghost empty: { (workers.items ≡ []) × (ends.items ≡ []) },
+    ghost room: { (vec_len sites.slaves ≤ vec_capacity workers) × (vec_len sites.slaves ≤ vec_capacity ends) },
 }
 
 /// Serves all parts, with threads of this scope. The process data comes last: if it has to be served on this thread, all workers are there.
 fn serve_in<
     's,
     E,
+    T: Tickets + Send + Sync,
+    R: Refusals + Send + Sync,
     S: Site + Send + Drop + 's,
-    F: Dispatch<DiskLog> + Drop + 's,
-    D: Dispatch<RomLog> + Drop + 's,
-    C: Dispatch<CycleLog> + Drop + 's,
     G: Hook + Sync,
-    M: Meanwhile,
-    R: Wait + Threads + Sync,
+    C: Client<T, R>,
+    W: Wait + Threads + Sync,
 >(
     scope: &'s Scope<'s, E>,
-    rt: &'s R,
-    prepared: PreparedLine<S, F, D, C>,
+    rt: &'s W,
+    desk: &'s Desk<T, R>,
+    prepared: PreparedLine<S>,
     hook: &'s G,
-    meanwhile: &mut M,
-) -> LineEnds<S>
-    ensures disk { IsEndOf prepared.line.disk result.disk }
-    ensures slaves { AreSlaveEndsOf prepared.line.slaves.items result.slaves.items }
-    ensures cycle { IsEndOfCycle prepared.line.cycle result.cycle }
+    client: &mut C,
+) -> Ends<S>
+    requires owned { OwnParts S.line prepared.sites.disk prepared.sites.slaves.items prepared.sites.cycle }
+    requires long { desk.now.limit ≤ length (S.seen prepared.sites.disk).state.disk.bytes }
+    ensures flusher { result.flusher.start ≡ prepared.sites.disk }
+    ensures workers { AreEndsOfSites prepared.sites.slaves.items result.workers.items }
+    ensures cycle { IsEndOfTurns prepared.sites.cycle result.cycle }
 {
-    let PreparedLine { line, room } = prepared;
-    let Room {
+    let PreparedLine {
+        sites,
         mut workers,
         mut ends,
-        ..
-    } = room;
-    let PerDevice {
+    } = prepared;
+    let Sites {
         disk,
         slaves,
         cycle,
-    } = line;
-    let flusher = start_flusher(scope, rt, disk, meanwhile);
-    let all_work = start_workers(scope, rt, hook, slaves, &mut workers, meanwhile);
-    let turning = start_turning(scope, rt, cycle, meanwhile);
+    } = sites;
+    let flusher = start_flusher(scope, rt, desk, disk);
+    let all_work = start_workers(scope, rt, desk, hook, slaves, &mut workers);
+    let turning = start_cycle(scope, rt, desk, cycle);
     if all_work && flusher.is_ok() && !matches!(&turning, Some(Err(_))) {
-        meanwhile.drive(rt);
+        client.drive(rt, desk);
     }
-    meanwhile.finish(rt);
+    desk.finish(rt);
     join_workers(rt, workers, &mut ends);
-    let disk = join(rt, flusher);
+    let flusher = join(rt, flusher);
     let cycle = join_turning(rt, turning);
-    PerDevice {
-        disk,
-        slaves: ends,
+    Ends {
+        flusher,
+        workers: ends,
         cycle,
     }
 }
 
-/// Serves a line, each part on its own thread, while `meanwhile` drives the work on the calling thread. Then it finishes the work, and
-/// waits for the end of each part. The hook is for tests.
+/// Serves a line: threads do what the desk hands out, while the client drives the desk on this thread.
 ///
-/// If a thread can't be created, the work is finished, that part is served on the calling thread, and `drive` isn't called. The process
-/// data thread is started last: its cycles may end only once the others have done their work. The room has to be for at least as many
-/// slaves as the line has.
-pub fn serve<
+/// The disk, each slave and, if it has a site, the process data get a thread each. Once the client returns, the desk is finished, and
+/// this waits for the end of each thread. The hook is for tests.
+///
+/// Each site has to own what it is served for, as `own_parts` checks. The disk has to reach at least to the end of the journal's area.
+///
+/// If a thread can't be created, the desk is finished, that part is served on this thread, and the client isn't called. The process data
+/// thread is started last, so that the threads whose work ends its cycles are there by then.
+///
+/// # Errors
+///
+/// The sites are handed back, and nothing was started: there isn't one site for each slave of the desk's book (`Desk::slaves`), or
+/// memory was refused for the workers or their ends.
+pub fn serve_line<
     'e,
+    T: Tickets + Send + Sync,
+    R: Refusals + Send + Sync,
     S: Site + Send + Drop + 'e,
-    F: Dispatch<DiskLog> + Drop + 'e,
-    D: Dispatch<RomLog> + Drop + 'e,
-    C: Dispatch<CycleLog> + Drop + 'e,
     G: Hook + Sync,
-    M: Meanwhile,
-    R: Wait + Threads + Sync,
+    C: Client<T, R>,
+    W: Wait + Threads + Sync,
 >(
-    rt: &'e R,
-    room: Room<S>,
-    line: LineParts<S, F, D, C>,
+    rt: &'e W,
+    alloc: Global,
+    desk: &'e Desk<T, R>,
+    sites: Sites<S>,
     hook: &'e G,
-    meanwhile: &'e mut M,
-) -> LineEnds<S>
-    requires { vec_len line.slaves ≤ room }
-    ensures disk { IsEndOf line.disk result.disk }
-    ensures slaves { AreSlaveEndsOf line.slaves.items result.slaves.items }
-    ensures cycle { IsEndOfCycle line.cycle result.cycle }
+    client: &'e mut C,
+) -> Result<Ends<S>, Sites<S>>
+    requires owned { OwnParts S.line sites.disk sites.slaves.items sites.cycle }
+    requires long { desk.now.limit ≤ length (S.seen sites.disk).state.disk.bytes }
+    ensures count { IfOk result (λ _. length sites.slaves.items ≡ length T.opened.words) }
+    ensures flusher { IfOk result (λ ends. ends.flusher.start ≡ sites.disk) }
+    ensures workers { IfOk result (λ ends. AreEndsOfSites sites.slaves.items ends.workers.items) }
+    ensures cycle { IfOk result (λ ends. IsEndOfTurns sites.cycle ends.cycle) }
+    ensures handed_back { IfErr result (λ same. same ≡ sites) }
 {
-    let prepared = PreparedLine { line, room };
-    thread::scope(
+    let slaves = sites.slaves.len();
+    if slaves != desk.slaves(rt) {
+        return Err(sites);
+    }
+    let Ok(workers) = Vec::with_capacity(alloc, slaves) else {
+        return Err(sites);
+    };
+    let Ok(ends) = Vec::with_capacity(alloc, slaves) else {
+        drop(workers);
+        return Err(sites);
+    };
+    let prepared = PreparedLine {
+        sites,
+        workers,
+        ends,
+    };
+    Ok(thread::scope(
         thread::scope_env(),
         rt,
-        move |scope| -> LineEnds<S>
-            ensures disk { IsEndOf prepared.line.disk result.disk }
-            ensures slaves { AreSlaveEndsOf prepared.line.slaves.items result.slaves.items }
-            ensures cycle { IsEndOfCycle prepared.line.cycle result.cycle }
-        { serve_in(scope, rt, prepared, hook, meanwhile) },
-    )
+        move |scope| -> Ends<S>
+            requires owned { OwnParts S.line prepared.sites.disk prepared.sites.slaves.items prepared.sites.cycle }
+            requires long { desk.now.limit ≤ length (S.seen prepared.sites.disk).state.disk.bytes }
+            ensures flusher { result.flusher.start ≡ prepared.sites.disk }
+            ensures workers { AreEndsOfSites prepared.sites.slaves.items result.workers.items }
+            ensures cycle { IsEndOfTurns prepared.sites.cycle result.cycle }
+        { serve_in(scope, rt, desk, prepared, hook, client) },
+    ))
 }

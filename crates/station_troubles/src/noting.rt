@@ -9,7 +9,7 @@ use std::fmt::Display;
 use std::io;
 use thiserror::Error;
 
-/// The files of a store. What is noted beside a fault is kept, so that the fault can be told without another look at the files.
+/// The files of a store. What is noted beside a fault is kept, so that the fault can be reported without another look at the files.
 #[derive(Drop)]
 pub struct Noting<'s, S> {
     store: &'s mut S,

@@ -5,7 +5,7 @@ use station_files::Place;
 use std::fmt;
 
 /// A place, as it is printed before what is wrong there. The name of a file stands between quotes, on one line whatever it has. `INPUT` is
-/// standard input, and `TYPED` the commands behind `-e`.
+/// standard input, and `TYPED` the commands after `-e`.
 #[derive(Clone, Copy)]
 pub(crate) struct Shown<'a> {
     pub place: Place<'a>,

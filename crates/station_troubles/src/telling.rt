@@ -6,7 +6,7 @@ use station_listing::Code;
 use std::io::Write;
 use thiserror::Error;
 
-/// What is told of a fault `File` behind calls that all succeeded.
+/// What is reported of a fault `File` after calls that all succeeded.
 pub const OUTPUT: &str = "standard output can't be written";
 
 /// The same where standard input is read too.
@@ -16,7 +16,7 @@ pub const INPUT_OR_OUTPUT: &str =
 /// The same where a capture is written too.
 pub const CAPTURE_OR_OUTPUT: &str = "the capture or standard output can't be written";
 
-/// What is told of a fault or a refusal: where it comes from, and what is wrong there.
+/// What is reported of a fault or a refusal: where it comes from, and what is wrong there.
 #[derive(Clone, Copy, Debug, Error)]
 pub enum Reported<'a> {
     #[error("{0}")]
@@ -27,7 +27,7 @@ pub enum Reported<'a> {
 }
 
 impl<S: Store> Noting<'_, S> {
-    /// What is told of a fault or a refusal of this code; `streams` of the fault `File` where no call has failed. `None` where nothing was
+    /// What is reported of a fault or a refusal of this code; `streams` of the fault `File` where no call has failed. `None` where nothing was
     /// noted beside it, or memory was refused for a note.
     pub fn reported<'a>(&'a self, code: Code, streams: &'a str) -> Option<Reported<'a>> {
         if !self.notes.is_kept {
@@ -46,17 +46,20 @@ impl<S: Store> Noting<'_, S> {
     }
 }
 
-/// Writes one line on a fault or a refusal of this code: what is told of it, and how `program` explains the code. An error of `faults` is
-/// ignored.
+/// Writes one line on a fault or a refusal of this code: what is reported of it, and how `program` explains the code; or else what the code means
+/// and what to do. An error of `faults` is ignored.
 pub fn tell_more<E: Write>(
     program: &str,
     code: Code,
     reported: Option<Reported<'_>>,
     faults: &mut E,
 ) {
-    let number = code.number();
     let _ = match reported {
-        Some(reported) => writeln!(faults, "{reported}; see {program} explain {number}"),
-        None => writeln!(faults, "see {program} explain {number}"),
+        Some(reported) => writeln!(
+            faults,
+            "{reported}; see {program} explain {}",
+            code.number()
+        ),
+        None => writeln!(faults, "{}", code.entry().explanation),
     };
 }

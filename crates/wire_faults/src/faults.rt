@@ -1,15 +1,14 @@
 //! Why a subcommand on a wire failed, as it is printed, and the exit status.
-ghost use Rattle.std.specs.Prelude.{◌≡◌};
+ghost use Rattle.std.specs.Prelude.{◌≡◌, None};
 ghost use Rattle.wire_faults.specs.Faults.{IsOfStream};
 ghost use Rattle.wire_faults.specs.declared.faults.WireFault.TheVariants as wire;
 
-use site_wire::StopReason;
+use site_wire::{LineSeen, OpenWord, StopReason};
 use slave_match::{Difference, Reason};
-use station_files::{ExitStatus, Fault};
+use station_files::{DeviceDiffers, ExitStatus, Fault};
 use station_listing::Code;
 use std::alloc::{AllocError, AllocFailed};
 use std::{fmt, io};
-use thiserror::Error;
 use wire_frames::{LineFault, Sighting, SlaveFault};
 
 /// Why a subcommand on a wire failed.
@@ -21,12 +20,18 @@ pub enum WireFault {
     OtherCount {
         slaves: usize,
     },
-    /// The site on the wire has stopped. What was seen of a slave, if anything was.
+    /// The site on the wire has stopped. What was seen of a slave, if anything was, and the word that was in flight to it.
     Stopped {
         reason: StopReason,
         seen: Option<Sighting>,
+        word: Option<OpenWord>,
     },
-    /// The size of this slave's EEPROM can't be told; so many words are there by its word 0x3E.
+    /// This slave has been given up with this word, which isn't as it was to be.
+    Unwritten {
+        slave: u16,
+        word: OpenWord,
+    },
+    /// The size of this slave's EEPROM can't be found; so many words are there by its word 0x3E.
     UnknownSize {
         slave: usize,
         says: u32,
@@ -61,19 +66,12 @@ pub enum WireFault {
         difference: Difference,
         reason: Reason,
     },
+    /// This slave is to be given up, and has all words that it is to have.
+    NothingPending {
+        slave: usize,
+    },
     /// A file, a stream or memory failed, or a file has a wrong form.
     Station(Fault),
-}
-
-/// What tells an image from that of a slave: the number of the slave, and then the one of the image.
-#[derive(Clone, Copy, Debug, Error)]
-pub enum DeviceDiffers {
-    #[error("vendor 0x{0:08x}, and the image 0x{1:08x}")]
-    Vendor(u32, u32),
-    #[error("product 0x{0:08x}, and the image 0x{1:08x}")]
-    Product(u32, u32),
-    #[error("{0} words, and the image {1}")]
-    Words(usize, usize),
 }
 
 /// How a fault is printed.
@@ -116,16 +114,48 @@ fn printed_stop(reason: StopReason) -> Printed {
 }
 
 /// Why work on a wire ended early: the fault of a file or stream, or want of memory; or else the reason for which its site has stopped, if
-/// it has; or else the fault.
-pub fn why_ended(reason: Option<StopReason>, seen: Option<Sighting>, fault: WireFault) -> WireFault
+/// it has; or else the fault, with the word of a slave that was given up. `seen` is what was seen of the slaves.
+pub fn why_ended(reason: Option<StopReason>, seen: LineSeen, fault: WireFault) -> WireFault
     ensures { IsOfStream fault → IsOfStream result }
 {
     match (fault, reason) {
         (WireFault::Station(Fault::File), _) => fault,
         (WireFault::Station(Fault::Memory), _) => fault,
-        (_, Some(reason)) => WireFault::Stopped { reason, seen },
-        (_, None) => fault,
+        (_, Some(reason)) => WireFault::Stopped {
+            reason,
+            seen: seen.stopped,
+            word: reason.slave().and_then(|slave| word_of(&seen, slave)),
+        },
+        (_, None) => with_word(fault, &seen),
     }
+}
+
+/// The fault, with the word of the slave that was given up, if one was.
+fn with_word(fault: WireFault, seen: &LineSeen) -> WireFault
+    ensures { IsOfStream fault → IsOfStream result }
+{
+    let Some(slave) = given_up(fault) else {
+        return fault;
+    };
+    match word_of(seen, usize::from(slave)) {
+        Some(word) => WireFault::Unwritten { slave, word },
+        None => fault,
+    }
+}
+
+/// The slave that was given up, if that is the fault.
+fn given_up(fault: WireFault) -> Option<u16>
+    ensures { IsOfStream fault → result ≡ None }
+{
+    match fault {
+        WireFault::Station(Fault::SlaveDead { slave }) => Some(slave),
+        _ => None,
+    }
+}
+
+/// The last word of a slave that wasn't seen as written, if there was one.
+fn word_of(seen: &LineSeen, slave: usize) -> Option<OpenWord> {
+    *seen.words.get(slave)?
 }
 
 impl WireFault {
@@ -134,6 +164,9 @@ impl WireFault {
             WireFault::Station(fault) => return Printed::Station(fault),
             WireFault::Line(fault) => return printed_line(fault),
             WireFault::Stopped { reason, .. } => return printed_stop(reason),
+            WireFault::Unwritten { slave, .. } => return Printed::Station(Fault::SlaveDead {
+                slave,
+            }),
             WireFault::OtherCount { slaves } => (Code::OtherCount, slaves),
             WireFault::UnknownSize { slave, .. } => (Code::UnknownSize, slave),
             WireFault::Running { slave } => (Code::Running, slave),
@@ -142,6 +175,7 @@ impl WireFault {
             WireFault::OtherDevice { slave, .. } => (Code::OtherDevice, slave),
             WireFault::NotOne { .. } => return Printed::Wire(Code::NoSlave, None),
             WireFault::OtherWords { slave, .. } => (Code::OtherWords, slave),
+            WireFault::NothingPending { slave } => (Code::NothingPending, slave),
         };
         Printed::Wire(code, Some(number))
     }
@@ -165,7 +199,8 @@ impl WireFault {
                 | Code::OtherSize
                 | Code::SmallerChip
                 | Code::OtherDevice
-                | Code::OtherWords,
+                | Code::OtherWords
+                | Code::NothingPending,
                 _,
             ) => ExitStatus::File,
             Printed::Wire(..) => ExitStatus::Device,

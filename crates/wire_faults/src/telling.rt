@@ -1,10 +1,11 @@
-//! What is told of a fault beside its code: what was seen, what it usually is, and what to do.
+//! What is reported of a fault beside its code: what was seen, what it usually is, and what to do.
 
 use crate::faults::WireFault;
 use esc_rom::TRIES;
-use site_wire::StopReason;
+use site_wire::{LeftAs, OpenWord, StopReason};
 use slave_match::Reason;
 use station_files::Fault;
+use station_listing::Code;
 use std::io;
 use std::io::Write;
 use wire_frames::{LineFault, Sighting, SlaveFault, SlaveTrouble};
@@ -57,8 +58,13 @@ fn tell_answering<E: Write>(answering: Option<u16>, faults: &mut E) -> io::Resul
     }
 }
 
-/// Tells what was seen of a slave.
-fn tell_seen<E: Write>(slave: u16, seen: Sighting, faults: &mut E) -> io::Result<()> {
+/// Tells what was seen of a slave, with the word that was in flight to it, if there was one.
+fn tell_seen<E: Write>(
+    slave: u16,
+    seen: Sighting,
+    word: Option<OpenWord>,
+    faults: &mut E,
+) -> io::Result<()> {
     let way = way_of(seen.command);
     let register = seen.register;
     let cause = seen.cause();
@@ -81,8 +87,43 @@ fn tell_seen<E: Write>(slave: u16, seen: Sighting, faults: &mut E) -> io::Result
         write!(faults, "; station address 0x{station:04x} at its place")?;
     }
     tell_answering(seen.answering, faults)?;
+    tell_taken(cause, word, faults)?;
     let remedy = remedy_of(cause);
     writeln!(faults, "; {remedy}")
+}
+
+/// Tells which word of a slave others with its station address may have taken.
+fn tell_taken<E: Write>(
+    cause: SlaveTrouble,
+    word: Option<OpenWord>,
+    faults: &mut E,
+) -> io::Result<()> {
+    match (cause, word) {
+        (SlaveTrouble::Shared, Some(OpenWord { write, .. })) => {
+            let (at, value) = (write.word, write.value);
+            write!(
+                faults,
+                "; a slave that was plugged in may have taken its word 0x{at:04x}, 0x{value:04x}: scan finds which"
+            )
+        }
+        _ => Ok(()),
+    }
+}
+
+/// Tells with which word a slave was given up.
+fn tell_word<E: Write>(slave: u16, word: OpenWord, faults: &mut E) -> io::Result<()> {
+    let OpenWord { write, left } = word;
+    let (at, value) = (write.word, write.value);
+    match left {
+        LeftAs::Kept(has) => writeln!(
+            faults,
+            "slave {slave}: word 0x{at:04x} keeps 0x{has:04x} and doesn't take 0x{value:04x}, though it is idle and acknowledges: its EEPROM is write protected: end that, and recover the line, or give the slave up: pending --give-up {slave}"
+        ),
+        LeftAs::InFlight => writeln!(
+            faults,
+            "slave {slave}: word 0x{at:04x} wasn't seen as 0x{value:04x}: switch it off and on, and recover the line"
+        ),
+    }
 }
 
 /// Tells that the PDI of a slave has the EEPROM.
@@ -93,11 +134,16 @@ fn tell_held<E: Write>(slave: usize, faults: &mut E) -> io::Result<()> {
     )
 }
 
+/// Tells what a code means, and what to do.
+fn tell_code<E: Write>(code: Code, faults: &mut E) -> io::Result<()> {
+    writeln!(faults, "{}", code.entry().explanation)
+}
+
 /// Tells why a line can't be brought up.
 fn tell_line<E: Write>(fault: LineFault, faults: &mut E) -> io::Result<()> {
     match fault {
         LineFault::Slave { slave, why } => match why {
-            SlaveFault::Dead(seen) => tell_seen(slave, seen, faults),
+            SlaveFault::Dead(seen) => tell_seen(slave, seen, None, faults),
             SlaveFault::Smaller { given, found } => writeln!(
                 faults,
                 "slave {slave}: its image file has {given} words, and its EEPROM {found}: make the backup anew, or say --trust-images"
@@ -128,23 +174,29 @@ fn tell_line<E: Write>(fault: LineFault, faults: &mut E) -> io::Result<()> {
             faults,
             "a broadcast came back with counter {slaves}: work on 64 slaves at a time"
         ),
-        LineFault::Memory => Ok(()),
+        LineFault::Memory => tell_code(Code::Memory, faults),
     }
 }
 
 /// Tells why a site has stopped.
 fn tell_stop<E: Write>(
+    code: Code,
     reason: StopReason,
     seen: Option<Sighting>,
+    word: Option<OpenWord>,
     faults: &mut E,
 ) -> io::Result<()> {
     match (reason, seen) {
         (StopReason::Differs { slave, .. }, Some(seen))
         | (StopReason::WordFailed { slave }, Some(seen)) => {
-            tell_seen(u16::try_from(slave).unwrap_or(u16::MAX), seen, faults)
+            tell_seen(u16::try_from(slave).unwrap_or(u16::MAX), seen, word, faults)
         }
-        (StopReason::Journal, _) => Ok(()),
-        _ => writeln!(faults, "{reason}: recover the line; see sii_wire explain"),
+        (StopReason::Journal, _) => tell_code(code, faults),
+        _ => writeln!(
+            faults,
+            "{reason}: recover the line; see sii_wire explain {}",
+            code.number()
+        ),
     }
 }
 
@@ -176,7 +228,7 @@ fn tell_reason<E: Write>(slave: usize, reason: Reason, faults: &mut E) -> io::Re
 }
 
 impl WireFault {
-    /// Prints what there is to tell of the fault beside its code, on a line of its own; nothing where there is nothing more than `explain` says.
+    /// Prints what there is to tell of the fault beside its code, on a line of its own; what `explain` says where there is nothing more.
     ///
     /// # Errors
     ///
@@ -184,7 +236,18 @@ impl WireFault {
     pub fn tell<E: Write>(self, faults: &mut E) -> io::Result<()> {
         match self {
             WireFault::Line(fault) => tell_line(fault, faults),
-            WireFault::Stopped { reason, seen } => tell_stop(reason, seen, faults),
+            WireFault::Stopped { reason, seen, word } => tell_stop(
+                self.code(),
+                reason,
+                seen,
+                word,
+                faults,
+            ),
+            WireFault::Unwritten { slave, word } => tell_word(slave, word, faults),
+            WireFault::NothingPending { slave } => writeln!(
+                faults,
+                "slave {slave} has all words that it is to have: pending lists what each slave is to get"
+            ),
             WireFault::OtherCount { slaves } => writeln!(
                 faults,
                 "the line has {slaves} slaves, and the line file names another number of them"
@@ -221,9 +284,9 @@ impl WireFault {
             WireFault::OtherWords { slave, reason, .. } => tell_reason(slave, reason, faults),
             WireFault::Station(Fault::SlaveDead { slave }) => writeln!(
                 faults,
-                "slave {slave}: it stays busy, or its EEPROM doesn't acknowledge: switch it off and on, and recover the line"
+                "slave {slave}: it stays busy, or its EEPROM doesn't acknowledge, or keeps another value: switch it off and on, and recover the line, or give it up: pending --give-up {slave}"
             ),
-            WireFault::Station(_) => Ok(()),
+            WireFault::Station(fault) => tell_code(fault.code(), faults),
         }
     }
 }

@@ -1,6 +1,7 @@
 -- What is done with the image files, one call after the other.
-use Rattle.std.proofs.Common.{◌≡◌, ℕ, suc, ◌+◌, ◌<◌, Bool, true, false, List, [], ◌∷◌, ◌++◌, length, get_or, Option, Some, None, slice_get, refl, sym, ap, subst, ◌∙◌, append_assoc, arith}
+use Rattle.std.proofs.Common.{◌≡◌, ℕ, suc, ◌+◌, ◌*◌, ◌<◌, Bool, true, false, List, [], ◌∷◌, ◌++◌, length, get_or, Option, Some, None, slice_get, refl, sym, ap, subst, ◌∙◌, append_assoc, arith}
 use Rattle.std.proofs.lemmas.Option.{slice_get-get_or}
+use Rattle.std.specs.Int.{w16, to_le_bytes}
 use Rattle.esc_model.specs.declared.rest.WordWrite.{WordWrite}
 use Rattle.site_file.specs.Owned.{file_at}
 use Rattle.wire_mirror.specs.declared.images.ImageCall.{ImageCall}
@@ -21,14 +22,16 @@ puts (Some here) file slave write succeeded old new is calls = (succeeded, calls
 puts None file slave write succeeded old new is calls = absurd cc
 
 -- and its file was marked
-pub marked : (slave : ℕ) (write : WordWrite) (succeeded : Bool) (old mid new : List ImageCall) → succeeded ≡ true → mid ≡ old ++ call.Writes slave write succeeded ∷ []
+pub marked : (slave : ℕ) (write : WordWrite) (word : ℕ) (bytes : List ℕ) (succeeded : Bool) (old mid new : List ImageCall)
+    → word ≡ write.word → bytes ≡ to_le_bytes w16 write.value → succeeded ≡ true → mid ≡ old ++ call.Writes slave (word * 2) bytes succeeded ∷ []
     → new ≡ mid ++ call.Marks slave ∷ [] → new ≡ old ++ put slave write true
-marked slave write succeeded old mid new is written marks = rw (marks, written, is, append_assoc) refl
+marked slave write word bytes succeeded old mid new word_is bytes_are is written marks = rw (marks, written, word_is, bytes_are, is, append_assoc) refl
 
 -- or it failed
-pub unmarked : (slave : ℕ) (write : WordWrite) (succeeded : Bool) (old new : List ImageCall) → succeeded ≡ false → new ≡ old ++ call.Writes slave write succeeded ∷ []
+pub unmarked : (slave : ℕ) (write : WordWrite) (word : ℕ) (bytes : List ℕ) (succeeded : Bool) (old new : List ImageCall)
+    → word ≡ write.word → bytes ≡ to_le_bytes w16 write.value → succeeded ≡ false → new ≡ old ++ call.Writes slave (word * 2) bytes succeeded ∷ []
     → new ≡ old ++ put slave write false
-unmarked slave write succeeded old new is written = rw (written, is) refl
+unmarked slave write word bytes succeeded old new word_is bytes_are is written = rw (written, word_is, bytes_are, is) refl
 
 -- the file was looked up
 pub there : {F : Type 0} (files items : List (Option F)) (slave : ℕ) (place : Option F) (file : F) → items ≡ files → slave < length items

@@ -1,6 +1,6 @@
 -- What a device does with the image files of its slaves.
-use Rattle.std.specs.Prelude.{◌≡◌, ◌⊎◌, ℕ, zero, suc, ◌%◌, Bool, true, false, List, [], ◌∷◌, ◌++◌, length, Option, Some, None, slice_get, is_some}
-use Rattle.std.specs.Int.{bit_at}
+use Rattle.std.specs.Prelude.{◌≡◌, ◌⊎◌, ℕ, zero, suc, ◌*◌, ◌%◌, Bool, true, false, List, [], ◌∷◌, ◌++◌, length, Option, Some, None, slice_get, is_some}
+use Rattle.std.specs.Int.{bit_at, w16, to_le_bytes}
 use Rattle.esc_model.specs.declared.rest.WordWrite.{WordWrite}
 use Rattle.site_shadow.specs.declared.device.Resting.{Resting}
 use Rattle.site_shadow.specs.declared.device.Resting.TheVariants.{InTime, Stays, Well, Failed, FailedWith}
@@ -8,10 +8,14 @@ use Rattle.site_file.specs.Owned.{file_at}
 use Rattle.wire_mirror.specs.declared.images.ImageCall.{ImageCall}
 use Rattle.wire_mirror.specs.declared.images.ImageCall.TheVariants as call
 
+-- a word is written to the file of a slave: its two bytes at its place, the low byte first
+abbrev pub writes_word : (slave : ℕ) → WordWrite → (succeeded : Bool) → ImageCall
+writes_word slave write succeeded = call.Writes slave (write.word * 2) (to_le_bytes w16 write.value) succeeded
+
 -- a word is written to the file of a slave, which is marked as unsynced if that succeeds
 abbrev pub put : (slave : ℕ) → WordWrite → (succeeded : Bool) → List ImageCall
-put slave write true = call.Writes slave write true ∷ call.Marks slave ∷ []
-put slave write false = call.Writes slave write false ∷ []
+put slave write true = writes_word slave write true ∷ call.Marks slave ∷ []
+put slave write false = writes_word slave write false ∷ []
 
 -- A word is written to the file of its slave, if there is one, and nothing else is done.
 abbrev pub PutsWord : {F : Type 0} → Option F → (slave : ℕ) → WordWrite → (old new : List ImageCall) → Type 0

@@ -1,5 +1,5 @@
 //! The open image files of the slaves on a wire.
-ghost use Rattle.std.specs.Prelude.{◌≡◌, ◌++◌, ◌∷◌, [], slice_get};
+ghost use Rattle.std.specs.Prelude.{◌≡◌, ◌++◌, ◌∷◌, [], Some, slice_get};
 ghost use Rattle.site_file.specs.Owned.{file_at};
 ghost use Rattle.wire_mirror.specs.Mirroring.{PutsWord, SyncsFile, SyncsMarked};
 ghost use Rattle.wire_mirror.specs.declared.images.ImageCall.TheVariants as call;
@@ -20,18 +20,20 @@ pub struct Images<F> {
     has_failed: AtomicBool,
 }
 
-// What is done with image files. Each is noted: contracts say what was done with which file, and in which order. That what is noted is what is done is
-// read from the four functions that do it.
+// What is done with image files. Each is noted: contracts say what was done with which file, at which place, and in which order. That what is noted is
+// what is done is read from the four functions that do it: `mark`, `take_marks`, `write_at` and `sync_file`.
 
 /// What is done with the image files of a line.
 #[derive(Drop)]
 pub enum ImageCall {
-    /// A word is written at its place in the file of a slave, the low byte first.
+    /// Two bytes are written to the file of a slave from a place on.
     Writes {
         /// The slave.
         slave: usize,
-        /// The word.
-        write: WordWrite,
+        /// The place, in bytes.
+        at: u64,
+        /// The bytes.
+        bytes: [u8; 2],
         /// Whether that succeeds.
         succeeded: bool,
     },
@@ -89,26 +91,29 @@ impl<F: RandomAccessFile> Images<F> {
         let Some(Some(file)) = self.files.get(slave) else {
             return;
         };
-        if self.write(file, slave, write, calls) {
+        let place = u64::from(write.word) * 2;
+        if self.write_at(file, slave, place, write.value.to_le_bytes(), calls) {
             self.mark(slave, calls);
         }
     }
 
-    /// Writes a word to the file of a slave.
-    fn write(
+    /// Writes two bytes to the file of a slave from byte `at` on.
+    fn write_at(
         &self,
         file: &F,
         slave: usize,
-        write: WordWrite,
+        at: u64,
+        bytes: [u8; 2],
         calls: &mut History<ImageCall>,
     ) -> bool
-        ensures { calls.new ≡ calls.old ++ call.Writes slave write result ∷ [] }
+        requires { file_at (slice_get self.now.files.items slave) ≡ Some file.now }
+        ensures { calls.new ≡ calls.old ++ call.Writes slave at bytes result ∷ [] }
     {
-        let place = u64::from(write.word) * 2;
-        let succeeded = file.write_all_at(&write.value.to_le_bytes(), place).is_ok();
+        let succeeded = file.write_all_at(&bytes, at).is_ok();
         calls.note(&ImageCall::Writes {
             slave,
-            write,
+            at,
+            bytes,
             succeeded,
         });
         if !succeeded {
@@ -141,6 +146,7 @@ impl<F: RandomAccessFile> Images<F> {
 
     /// Syncs the file of a slave.
     fn sync_file(&self, file: &F, slave: usize, calls: &mut History<ImageCall>) -> bool
+        requires { file_at (slice_get self.now.files.items slave) ≡ Some file.now }
         ensures { calls.new ≡ calls.old ++ call.Syncs slave result ∷ [] }
     {
         let succeeded = file.sync_data().is_ok();

@@ -12,7 +12,7 @@ pub(crate) struct Chip {
 }
 
 impl Chip {
-    /// A chip with these words. If it has another size, words are left out, or blank ones stand behind them.
+    /// A chip with these words. If it has another size, words are left out, or blank ones stand after them.
     ///
     /// # Errors
     ///

@@ -6,7 +6,7 @@ use std::sync::atomic::AtomicU64;
 use std::sync::atomic::Ordering::SeqCst;
 use std::time::Duration;
 
-/// A clock that goes on only as it is told to: whoever sleeps by it passes the time at once.
+/// A clock that goes on only as it is set: whoever sleeps by it passes the time at once.
 #[derive(Drop)]
 pub struct PracticeClock {
     /// The moment, in microseconds.

@@ -37,7 +37,7 @@ enum End {
 /// A command that the controller is busy with.
 #[derive(Clone, Copy)]
 struct BusyCommand {
-    /// How many datagrams came since it was told.
+    /// How many datagrams came since it was given.
     since: u32,
     /// How many datagrams find it busy yet.
     left: u32,
@@ -112,8 +112,11 @@ impl Eeprom {
         self.is_loaded_wrong = !self.chip.is_checked();
     }
 
-    /// The word in flight: the controller is busy with it, or the chip programs it.
+    /// The word in flight: the controller is busy with it, or the chip programs it. A write protected chip has none.
     pub(crate) fn in_flight(&self) -> Option<WordWrite> {
+        if self.quirks.is_protected {
+            return None;
+        }
         if let Some(programming) = self.programming {
             return Some(programming.write);
         }

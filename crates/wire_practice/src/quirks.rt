@@ -6,7 +6,7 @@ use site_shadow::Pattern;
 #[derive(Clone, Copy)]
 pub enum PowerLoss {
     Never,
-    /// Behind so many frames.
+    /// After so many frames.
     After(u32),
     /// In the midst of the word with this number, counted from 1, as the slave begins to write them.
     InWord(u32),

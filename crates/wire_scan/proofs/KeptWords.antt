@@ -16,13 +16,13 @@ use Rattle.station_line.specs.Site.{files_of}
 use Rattle.station_line.proofs.Saved.{changes_line}
 use Rattle.wire_scan.specs.declared.asked.Mend.{Mend}
 use Rattle.wire_scan.specs.declared.asked.Mend.TheVariants as mend
-use Rattle.wire_scan.specs.Keeping.{AreAlike, AreKept, KeepsEach}
+use Rattle.wire_scan.specs.Keeping.{AreAlike, AreKept, IsOwn, KeepsEach}
 
 -- ---- the words of each image file, or of its slave
 
 -- one more of them
 keeps_snoc : (plant : List (List ℕ)) (images : List (Option (List ℕ))) (kept : List (List ℕ)) (words : List ℕ) (image : Option (List ℕ)) (own : List ℕ)
-    → KeepsEach plant images kept → IfSome image (λ i. length i ≡ length words → own ≡ i) → KeepsEach (plant ++ words ∷ []) (images ++ image ∷ []) (kept ++ own ∷ [])
+    → KeepsEach plant images kept → IsOwn words image own → KeepsEach (plant ++ words ∷ []) (images ++ image ∷ []) (kept ++ own ∷ [])
 keeps_snoc [] [] [] words image own before here = (here, tt)
 keeps_snoc (w ∷ plant) (i ∷ images) (o ∷ kept) words image own before here = (before.0, keeps_snoc plant images kept words image own before.1 here)
 keeps_snoc [] [] (o ∷ kept) words image own before here = absurd before
@@ -32,7 +32,7 @@ keeps_snoc (w ∷ plant) (i ∷ images) [] words image own before here = absurd 
 
 pub keeps_more : (plant : List (List ℕ)) (images : List (Option (List ℕ))) (kept : List (List ℕ)) (n : ℕ) (words : List ℕ) (image : Option (List ℕ)) (own : List ℕ)
     → n < length plant → n < length images → words ≡ get_or plant n words → image ≡ get_or images n image → KeepsEach (take n plant) (take n images) kept
-    → IfSome image (λ i. length i ≡ length words → own ≡ i) → KeepsEach (take (n + 1) plant) (take (n + 1) images) (kept ++ own ∷ [])
+    → IsOwn words image own → KeepsEach (take (n + 1) plant) (take (n + 1) images) (kept ++ own ∷ [])
 keeps_more plant images kept n words image own in_plant in_images words_are image_is before here =
     let P : List (List ℕ) → Type 0 = λ p. KeepsEach p (take (n + 1) images) (kept ++ own ∷ []) in
     let Q : List (Option (List ℕ)) → Type 0 = λ i. KeepsEach (take n plant ++ words ∷ []) i (kept ++ own ∷ []) in
@@ -50,12 +50,12 @@ each_at (w ∷ plant) (Some i ∷ images) (o ∷ kept) zero words image each her
     let first : w ≡ words = cc in
     let second : i ≡ image = cc in
     let long : length i ≡ length w = ap length second ∙ same ∙ ap length (sym first) in
-    ap (λ (x : List ℕ). Some x) (each.0 long ∙ second)
+    ap (λ (x : List ℕ). Some x) (each.0.0 long ∙ second)
 each_at (w ∷ plant) (i ∷ images) (o ∷ kept) (suc slave) words image each here there same = each_at plant images kept slave words image each.1 here there same
 
 -- ---- what a recovery makes of them
 
-words_at : (plant : List (List ℕ)) (slave : ℕ) (words : List ℕ) → slice_get plant slave ≡ Some words → words_of plant slave ≡ words
+pub words_at : (plant : List (List ℕ)) (slave : ℕ) (words : List ℕ) → slice_get plant slave ≡ Some words → words_of plant slave ≡ words
 words_at [] slave words here = absurd cc
 words_at (first ∷ plant) zero words here = cc
 words_at (first ∷ plant) (suc slave) words here = words_at plant slave words here

@@ -1,3 +1,5 @@
+mod GivingUp
 mod Kept
 pub mod KeptWords
+mod Mending
 mod Writing

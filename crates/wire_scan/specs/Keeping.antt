@@ -1,10 +1,14 @@
 -- Whether each slave is the one that its image file was written of.
-use Rattle.std.specs.Prelude.{◌≡◌, ℕ, List, [], ◌∷◌, length, map, Option, Some, None, slice_get, IfSome, ⊤}
+use Rattle.std.specs.Prelude.{◌≡◌, ℕ, zero, suc, List, [], ◌∷◌, ◌++◌, length, map, Option, Some, None, slice_get, slice_index, slice_set, unwrap_or, ⊤}
 use Rattle.std.specs.List.{AllZip}
 use Rattle.sii_words.specs.declared.run.Run.{Run}
 use Rattle.sii_words.specs.Plant.{words_of}
-use Rattle.sii_words.specs.Redo.{redone_words}
+use Rattle.sii_words.specs.Redo.{redone, redone_words}
+use Rattle.sii_words.specs.Words.{bytes_of}
 use Rattle.sii_edit.specs.declared.command.Command.{Command}
+use Rattle.sii_edit.specs.declared.command.Command.TheVariants.{Group}
+use Rattle.sii_edit.specs.declared.command.Edit.{Edit}
+use Rattle.sii_edit.specs.declared.command.Edit.TheVariants.{Image}
 use Rattle.station_files.specs.Files.{Known, IsAbsent}
 use Rattle.jrn_format.specs.declared.journal.Journal.{Journal}
 use Rattle.jrn_format.specs.Journal.{IsJournal}
@@ -13,6 +17,7 @@ use Rattle.station_text.specs.declared.line_file.LineFile.{LineFile}
 use Rattle.station_files.specs.LineFiles.{SpellsWords, names_of}
 use Rattle.wire_scan.specs.declared.asked.Mend.{Mend}
 use Rattle.wire_scan.specs.declared.asked.Mend.TheVariants as mend
+use Rattle.wire_scan.specs.declared.asked.Mend.TheVariants.{Unsaid, Slave, File, Exchanged}
 
 -- these are the words of an image file; for None, it isn't there
 abbrev pub IsImageOf : Known → List ℕ → Option (List ℕ) → Type 0
@@ -30,10 +35,15 @@ abbrev pub AreAlike : List Mend → List (List ℕ) → List (Option (List ℕ))
 AreAlike mends plant images found kept = (slave : ℕ) (words image : List ℕ) → slice_get mends slave ≡ Some mend.Unsaid → slice_get plant slave ≡ Some words
     → slice_get images slave ≡ Some (Some image) → (length image ≡ length words) × (words_of found slave ≡ words_of kept slave)
 
--- these have the words of each image file that is as long as its slave
+-- the words of an image file, or those of its slave where it isn't there or has another number of them
+abbrev pub IsOwn : (words : List ℕ) → (image : Option (List ℕ)) → (own : List ℕ) → Type 0
+IsOwn words None own = own ≡ words
+IsOwn words (Some image) own = (length image ≡ length words → own ≡ image) × (¬ (length image ≡ length words) → own ≡ words)
+
+-- the same for each slave of a line
 abbrev pub KeepsEach : List (List ℕ) → List (Option (List ℕ)) → List (List ℕ) → Type 0
 KeepsEach [] [] [] = ⊤
-KeepsEach (words ∷ plant) (image ∷ images) (own ∷ kept) = IfSome image (λ i. length i ≡ length words → own ≡ i) × KeepsEach plant images kept
+KeepsEach (words ∷ plant) (image ∷ images) (own ∷ kept) = IsOwn words image own × KeepsEach plant images kept
 KeepsEach plant images kept = ⊥
 
 -- the same with the live batches of a journal with these bytes
@@ -55,3 +65,80 @@ IsUnsaid mends = (slave : ℕ) (said : Mend) → slice_get mends slave ≡ Some 
 -- commands that write image files to their slaves: none, where nothing is said
 abbrev pub AreMends : List Mend → List Command → Type 0
 AreMends mends commands = IsUnsaid mends → commands ≡ []
+
+-- what is said of a slave
+abbrev pub said_of : List Mend → ℕ → Mend
+said_of mends slave = unwrap_or (slice_get mends slave) mend.Unsaid
+
+-- the words of an image file, with the serial number of its slave (ETG.1000.6: words 14 and 15)
+abbrev pub with_serial : (found kept : List ℕ) → List ℕ
+with_serial found kept = slice_set (slice_set kept 14 (slice_index found 14)) 15 (slice_index found 15)
+
+-- What the image file of a slave with `words` holds as the work begins, where a recovery makes `found` of the slave and `kept` of the file: where the file
+-- is right, its own words, with the serial number of a slave that was exchanged; else those of the slave.
+abbrev pub wanted_words : (words found kept : List ℕ) → Mend → List ℕ
+wanted_words words found kept Unsaid = words
+wanted_words words found kept Slave = words
+wanted_words words found kept File = kept
+wanted_words words found kept Exchanged = with_serial found kept
+
+-- the image file is right
+abbrev pub IsOfFile : Mend → Type 0
+IsOfFile Unsaid = ⊥
+IsOfFile Slave = ⊥
+IsOfFile File = ⊤
+IsOfFile Exchanged = ⊤
+
+-- the edit writes an image with these words to this slave
+abbrev pub WritesImage : (slave : ℕ) → (words : List ℕ) → Edit → Type 0
+WritesImage slave words (Image at image) = (at ≡ slave) × (bytes_of image ≡ bytes_of words)
+WritesImage slave words edit = ⊥
+
+-- The edit for a slave of which a recovery makes `found`: where the image file is right, it writes the words that the file then holds, and is missing only
+-- where these are `found`. Where it isn't right there is none.
+abbrev pub IsEditOf : (slave : ℕ) → (found image : List ℕ) → Mend → Option Edit → Type 0
+IsEditOf slave found image said None = IsOfFile said → found ≡ image
+IsEditOf slave found image said (Some edit) = IsOfFile said × WritesImage slave image edit
+
+abbrev pub with_edit : List Edit → Option Edit → List Edit
+with_edit edits None = edits
+with_edit edits (Some edit) = edits ++ edit ∷ []
+
+-- what the image files of the slaves below this one hold as the work begins, and the edits for these slaves, in order
+abbrev pub MendsBelow : ℕ → List Mend → (plant found kept images : List (List ℕ)) → List Edit → Type 0
+MendsBelow zero mends plant found kept images edits = edits ≡ []
+MendsBelow (suc slave) mends plant found kept images edits =
+    (before : List Edit) × (edit : Option Edit) × MendsBelow slave mends plant found kept images before
+    × (words_of images slave ≡ wanted_words (words_of plant slave) (words_of found slave) (words_of kept slave) (said_of mends slave))
+    × IsEditOf slave (words_of found slave) (words_of images slave) (said_of mends slave) edit × (edits ≡ with_edit before edit)
+
+-- one command with these edits, if there are any
+abbrev pub together : List Edit → List Command
+together [] = []
+together (edit ∷ edits) = Group (edit ∷ edits) ∷ []
+
+-- The same of all slaves. The commands have all edits.
+pub record MendsAll (mends : List Mend) (plant found kept images : List (List ℕ)) (commands : List Command) : Type 0 where
+  pub edits : List Edit
+  pub each : MendsBelow (length plant) mends plant found kept images edits
+  pub all : commands ≡ together edits
+
+-- What the image files hold as the work begins (`begun`), and the commands that write them to their slaves, as was said, where a recovery redoes these runs.
+pub record Mends (mends : List Mend) (runs : List Run) (plant : List (List ℕ)) (images : List (Option (List ℕ))) (begun : List (List ℕ)) (commands : List Command)
+    : Type 0 where
+  pub own : List (List ℕ)
+  pub keeps : KeepsEach plant images own
+  pub mended : MendsAll mends plant (redone plant runs) (redone own runs) begun commands
+
+-- the same with the live batches of a journal with these bytes
+pub record MendsImages (mends : List Mend) (bytes : List ℕ) (plant : List (List ℕ)) (images : List (Option (List ℕ))) (begun : List (List ℕ)) (commands : List Command)
+    : Type 0 where
+  pub journal : Journal
+  pub read : IsJournal bytes (map length plant) journal
+  pub mended : Mends mends (live_runs journal.batches) plant images begun commands
+
+-- the same of the image files of a line
+pub record MendsFiles (files : Known) (line : LineFile) (mends : List Mend) (bytes : List ℕ) (plant begun : List (List ℕ)) (commands : List Command) : Type 0 where
+  pub images : List (Option (List ℕ))
+  pub loaded : AllZip (IsImageOf files) (names_of line) images
+  pub mended : MendsImages mends bytes plant images begun commands

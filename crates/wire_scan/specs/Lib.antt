@@ -1,4 +1,4 @@
 pub mod Backup
-pub mod Validating
 pub mod Keeping
 pub mod Opening
+pub mod Pending

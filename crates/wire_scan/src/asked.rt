@@ -1,5 +1,7 @@
 //! What a user asks for that isn't done where nothing is said.
 
+use station_rows::Form;
+
 /// What a call on a line is to do that it doesn't do, or refuses, where nothing is said.
 #[derive(Clone, Copy)]
 pub struct ScanOptions {
@@ -13,7 +15,7 @@ pub struct ScanOptions {
     pub any_device: bool,
     /// For each slave, what is right where its words differ from those of its image file.
     pub mends: Mends,
-    /// What is to be told.
+    /// What is to be reported.
     pub tells: Tells,
 }
 
@@ -33,11 +35,13 @@ pub enum Mend {
 /// What is right for each slave of a line.
 pub type Mends = [Mend; 64];
 
-/// What is told of the work on a line, beside its answers.
+/// What is reported of the work on a line, beside its answers.
 #[derive(Clone, Copy)]
 pub struct Tells {
     /// What has changed, at the end.
     pub report: bool,
     /// How many commands are durable and settled, as it happens, and at the end whether the process image is another one.
     pub events: bool,
+    /// Whether what has changed is told as text, or as rows of JSON.
+    pub form: Form,
 }

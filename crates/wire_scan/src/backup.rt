@@ -30,7 +30,7 @@ use wire_frames::{NumberedWire, Wire};
 ///
 /// # Errors
 ///
-/// As for `bring_up`; for the first slave, `Line` where it can't be worked on, and `UnknownSize` where its size can't be told and isn't among
+/// As for `bring_up`; for the first slave, `Line` where it can't be worked on, and `UnknownSize` where its size can't be found and isn't among
 /// the given ones; as for `load_line` and `keep_line_separate`; `OtherCount` where the line file names another number of slaves; `Exists` for the
 /// first image file that is there with other words, and then for a journal that is there and is that of another number of slaves, or damaged,
 /// or has live batches. Nothing is written up to there. Then `File` or `Memory`, as the store answers.

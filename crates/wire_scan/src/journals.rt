@@ -1,4 +1,4 @@
-//! Judges the bytes of a journal's file.
+//! Validates the bytes of a journal's file.
 ghost use Rattle.std.specs.Prelude.{◌≡◌, length, map, IfOk, OnOk};
 ghost use Rattle.jrn_format.specs.Journal.{IsJournal};
 ghost use Rattle.wire_scan.specs.Backup.{IsWithoutPast};

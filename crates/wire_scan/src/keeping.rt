@@ -5,7 +5,7 @@ ghost use Rattle.sii_words.specs.Redo.{redone};
 ghost use Rattle.jrn_format.specs.Batch.{IsWithin};
 ghost use Rattle.book_model.specs.Entries.{live_runs};
 ghost use Rattle.station_files.specs.FileNames.{spelt};
-ghost use Rattle.wire_scan.specs.Keeping.{AreAlike, AreKept, AreMends, IsImageOf, KeepsEach};
+ghost use Rattle.wire_scan.specs.Keeping.{AreAlike, AreKept, AreMends, IsEditOf, IsImageOf, IsOwn, KeepsEach, Mends, MendsAll, said_of, together, with_edit, wanted_words, with_serial};
 ghost use Rattle.wire_scan.specs.declared.asked.Mend.TheVariants.{Unsaid};
 
 use crate::asked::{Mend, Mends};
@@ -18,9 +18,6 @@ use slave_match::{Difference, Reason, difference_between, reason_of, redo_batche
 use station_files::{Fault, Store, load_slave};
 use std::alloc::{AllocError, Global};
 use wire_faults::WireFault;
-
-/// The words of the serial number (ETG.1000.6).
-const SERIAL: [usize; 2] = [14, 15];
 
 /// A line whose slaves are those of their image files, but for what was said.
 #[derive(Drop)]
@@ -86,6 +83,7 @@ pub(crate) fn validate_kept(
     ensures kept { OnOk result (AreKept mends.now (live_runs batches.now) slaves.now images.now) }
     ensures images { IfOk result (λ kept. length kept.images.items ≡ length slaves.now) }
     ensures commands { IfOk result (λ kept. AreMends mends.now kept.commands.items) }
+    ensures mends { IfOk result (λ kept. Mends mends.now (live_runs batches.now) slaves.now images.now kept.images.items kept.commands.items) }
 {
     let copies = copies_of(alloc, slaves)?;
     let found = recovered(copies, batches);
@@ -102,7 +100,7 @@ pub(crate) fn validate_kept(
 }
 
 /// What a recovery with these live batches makes of slaves with these words.
-fn recovered(words: Vec<Words>, batches: &[Batch]) -> Plant
+pub(crate) fn recovered(words: Vec<Words>, batches: &[Batch]) -> Plant
     requires some { 1 ≤ length words.items }
     requires most { length words.items ≤ 64 }
     requires within { AllByRecursion (IsWithin (map length words.items)) batches.now }
@@ -149,7 +147,7 @@ fn first_refused(
 
 /// What is said of a slave.
 fn said_of(mends: &Mends, slave: usize) -> Mend
-    ensures { result ≡ unwrap_or (slice_get mends.now slave) Unsaid }
+    ensures { result ≡ said_of mends.now slave }
 {
     mends.get(slave).copied().unwrap_or(Mend::Unsaid)
 }
@@ -262,7 +260,7 @@ fn kept_words(
 /// The words of an image file, or those of its slave where it isn't there or has another number of them.
 fn kept_of(words: &Words, image: &Option<Words>) -> Result<Words, AllocError>
     ensures size { IfOk result (λ own. length own ≡ length words.now) }
-    ensures own { IfOk result (λ own. IfSome image.now (λ i. length i ≡ length words.now → own ≡ i)) }
+    ensures own { IfOk result (IsOwn words.now image.now) }
 {
     match image {
         Some(image) if image.len() == words.len() => image.try_copy(),
@@ -284,20 +282,15 @@ fn mended(
     requires kept { length kept.now ≡ length slaves.now }
     ensures images { IfOk result (λ kept. length kept.images.items ≡ length slaves.now) }
     ensures commands { IfOk result (λ kept. AreMends mends.now kept.commands.items) }
+    ensures all { IfOk result (λ begun. MendsAll mends.now slaves.now found.now kept.now begun.images.items begun.commands.items) }
 {
     let mut images = Vec::new(alloc);
     let mut edits = Vec::new(alloc);
     for slave in 0..slaves.len() {
-        let words = wanted(
-            &slaves[slave],
-            found.slave(slave),
-            kept.slave(slave),
-            mends[slave],
-        )?;
-        match written(alloc, slave, found.slave(slave), &words, mends[slave])? {
-            Some(edit) => edits.push(edit)?,
-            None => {}
-        }
+        let mend = said_of(mends, slave);
+        let (has, own) = (found.slave(slave), kept.slave(slave));
+        let words = wanted(&slaves[slave], has, own, mend)?;
+        push_edit(&mut edits, written(alloc, slave, has, &words, mend)?)?;
         images.push(words)?;
     }
     Ok(Kept {
@@ -306,9 +299,19 @@ fn mended(
     })
 }
 
-/// One command with all these edits, if there are any: so that none of them is judged on slaves that the others have yet to mend.
+/// Puts an edit behind these, if there is one.
+fn push_edit(edits: &mut Vec<Edit>, edit: Option<Edit>) -> Result<(), AllocError>
+    ensures { OnOk result (edits.new.items ≡ with_edit edits.old.items edit) }
+{
+    if let Some(edit) = edit {
+        edits.push(edit)?;
+    }
+    Ok(())
+}
+
+/// One command with all these edits, if there are any: so that none of them is validated on slaves that the others have yet to mend.
 fn grouped(alloc: Global, edits: Vec<Edit>) -> Result<Vec<Command>, AllocError>
-    ensures { IfOk result (λ commands. edits.items ≡ [] → commands.items ≡ []) }
+    ensures { IfOk result (λ commands. commands.items ≡ together edits.items) }
 {
     let mut commands = Vec::new(alloc);
     if !edits.is_empty() {
@@ -318,20 +321,26 @@ fn grouped(alloc: Global, edits: Vec<Edit>) -> Result<Vec<Command>, AllocError>
 }
 
 /// What the image file of a slave with these words holds as the work begins.
-fn wanted(words: &Words, found: &Words, kept: &Words, mend: Mend) -> Result<Words, AllocError> {
+fn wanted(words: &Words, found: &Words, kept: &Words, mend: Mend) -> Result<Words, AllocError>
+    ensures { IfOk result (λ image. image ≡ wanted_words words.now found.now kept.now mend) }
+{
     match mend {
         Mend::Unsaid | Mend::Slave => words.try_copy(),
         Mend::File => kept.try_copy(),
-        Mend::Exchanged => {
-            let mut image = kept.try_copy()?;
-            for at in SERIAL {
-                if at < found.len() && at < image.len() {
-                    image.set(at, found.get(at));
-                }
-            }
-            Ok(image)
-        }
+        Mend::Exchanged => own_serial(found, kept),
     }
+}
+
+/// The words of an image file, with the serial number of its slave (ETG.1000.6: words 14 and 15).
+fn own_serial(found: &Words, kept: &Words) -> Result<Words, AllocError>
+    ensures { IfOk result (λ image. image ≡ with_serial found.now kept.now) }
+{
+    let mut image = kept.try_copy()?;
+    if found.len() >= 64 && image.len() >= 64 {
+        image.set(14, found.get(14));
+        image.set(15, found.get(15));
+    }
+    Ok(image)
 }
 
 /// The edit that writes its image file to a slave of which a recovery makes `found`, if that is said and changes anything.
@@ -342,7 +351,7 @@ fn written(
     image: &Words,
     mend: Mend,
 ) -> Result<Option<Edit>, AllocError>
-    ensures { IfOk result (λ edit. mend ≡ Unsaid → edit ≡ None) }
+    ensures { IfOk result (IsEditOf slave found.now image.now mend) }
 {
     if !matches!(mend, Mend::File | Mend::Exchanged) {
         return Ok(None);

@@ -1,4 +1,4 @@
-//! A line on a wire is found, read and judged: its slaves are listed or backed up, or handed to the work on them.
+//! A line on a wire is found, read and validated: its slaves are listed or backed up, or handed to the work on them.
 #![tactic(auto)]
 
 mod asked;
@@ -9,6 +9,7 @@ mod keeping;
 mod measures;
 mod naming;
 mod opening;
+mod pending;
 mod plan;
 mod scan;
 mod scan_beside;
@@ -21,6 +22,7 @@ pub use journals::require_empty;
 pub use measures::validate_measures;
 pub use naming::{CaptureNames, Named, keep_capture_separate, keep_script_separate};
 pub use opening::{FoundWire, find_line, open_line};
+pub use pending::{PendingOrder, list_pending};
 pub use scan::scan_line;
 pub use scan_beside::scan_files;
 pub use sizes::sizes_of_images;

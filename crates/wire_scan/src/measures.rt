@@ -7,7 +7,7 @@ use wire_faults::WireFault;
 use wire_frames::LineFault;
 use wire_words::{Extent, SizeFound};
 
-/// Looks whether each slave can be worked on, and has a size that can be told or was given.
+/// Looks whether each slave can be worked on, and has a size that can be found or was given.
 ///
 /// # Errors
 ///

@@ -1,15 +1,13 @@
-//! Keeps the files of a call apart: none may be lost where another one is written.
+//! Keeps the files of a call separate: none may be lost where another one is written.
 ghost use Rattle.std.specs.Prelude.{◌≡◌, [], ◌∷◌, ◌++◌, length, None, OnOk};
 ghost use Rattle.station_files.specs.FileNames.{files_with, written_of};
 ghost use Rattle.station_files.specs.Locations.{AreSeparate};
 
 use crate::plan::{is_there, new_plan};
+use sii_words::MAX_SLAVES;
 use station_files::{Fault, FileNames, Store, keep_separate, load_line};
 use station_text::LineFile;
 use std::alloc::Global;
-
-/// The most slaves of a line.
-const MOST_SLAVES: usize = 64;
 
 /// The names of the line file and of the script of a run, as it is given them.
 #[derive(Clone, Copy)]
@@ -68,7 +66,7 @@ pub fn keep_capture_separate<S: Store>(
     let planned = if is_there(names.line, store)? {
         load_line(alloc, names.line, store)
     } else {
-        new_plan(alloc, names.line, MOST_SLAVES).map(|plan| plan.line)
+        new_plan(alloc, names.line, MAX_SLAVES).map(|plan| plan.line)
     };
     let line = match planned {
         Ok(line) => line,

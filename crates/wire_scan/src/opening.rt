@@ -8,7 +8,7 @@ ghost use Rattle.station_files.specs.Faults as station;
 ghost use Rattle.station_line.specs.Validating.{HasJournal};
 ghost use Rattle.station_line.specs.OpenFiles.{AreOpenedAs};
 ghost use Rattle.station_line.specs.Site.{files_of};
-ghost use Rattle.wire_scan.specs.Keeping.{AreMends, AreOfImages, KeepsImages};
+ghost use Rattle.wire_scan.specs.Keeping.{AreMends, AreOfImages, KeepsImages, MendsFiles, MendsImages};
 ghost use Rattle.wire_scan.specs.Opening.{IsFound};
 
 use crate::asked::{ScanOptions, Tells};
@@ -48,11 +48,11 @@ pub struct FoundWire<L> {
     pub journal: Vec<u8>,
     /// The lock of the journal, which keeps other stations away.
     pub lock: L,
-    /// What is to be told of the work.
+    /// What is to be reported of the work.
     pub tells: Tells,
 }
 
-/// Reads the line file `name`, locks the journal, brings up the line on this wire, and reads and judges the journal. No file changes, and no
+/// Reads the line file `name`, locks the journal, brings up the line on this wire, and reads and validates the journal. No file changes, and no
 /// word of a slave is written. Each slave has the size of its image file, where there is one. After a fault the EEPROMs are handed back.
 ///
 /// # Errors
@@ -75,6 +75,8 @@ pub fn find_line<R: Clock + AllocGlobal, W: Wire, S: Store>(
     ensures kept { IfOk result (λ found. AreOfImages (S.files store.old) found.line asked.mends found.journal.items found.slaves.items) }
     ensures images { IfOk result (λ found. length found.images.items ≡ length found.slaves.items) }
     ensures mends { IfOk result (λ found. AreMends asked.mends found.mends.items) }
+    ensures mended { IfOk result (λ found.
+        MendsFiles (S.files store.old) found.line asked.mends found.journal.items found.slaves.items found.images.items found.mends.items) }
     ensures some { IfOk result (λ found. 1 ≤ length found.slaves.items) }
     ensures most { IfOk result (λ found. length found.slaves.items ≤ 64) }
     ensures same { S.files store.new ≡ S.files store.old }
@@ -121,7 +123,7 @@ fn bring_up_validated<R: Clock + AllocGlobal, W: Wire>(
     ensures most { IfOk result (λ found. length found.slaves.items ≤ 64) }
 {
     let sizes = sizes_of(images, asked.trusts_images);
-    // On a wire that is lent slaves may be in any state, and who has their EEPROMs is judged as they are opened.
+    // On a wire that is lent slaves may be in any state, and who has their EEPROMs is looked at as they are opened.
     if !asked.is_forced && !wire.is_lent() {
         let seen = look_along(wire)?;
         validate_states(&seen.states, usize::from(seen.slaves))?;
@@ -160,6 +162,8 @@ fn read_found<S: Store>(
     ensures kept { IfOk result (λ read. KeepsImages asked.mends read.journal.items read.slaves.items images.now) }
     ensures wanted { IfOk result (λ read. length read.kept.images.items ≡ length read.slaves.items) }
     ensures mends { IfOk result (λ read. AreMends asked.mends read.kept.commands.items) }
+    ensures mended { IfOk result (λ read.
+        MendsImages asked.mends read.journal.items read.slaves.items images.now read.kept.images.items read.kept.commands.items) }
     ensures same { S.files store.new ≡ S.files store.old }
 {
     let slaves = validate_slaves(alloc, found, line.images.len())?;

@@ -96,7 +96,7 @@ fn fault_cells<'a>(text: &'a str, fault: WireFault) -> [Cell<'a>; 5] {
     ]
 }
 
-/// Puts the row of a slave of which this is said: its state, the size of its EEPROM, and what is seen of its image file stand behind it.
+/// Puts the row of a slave of which this is said: its state, the size of its EEPROM, and what is seen of its image file stand after it.
 fn put_found(
     rows: &mut Rows,
     slave: u16,

@@ -8,7 +8,7 @@ use crate::scan::rows_of;
 use crate::sizes::sizes_of;
 use crate::validating::validate_slaves;
 use jrn_format::scan;
-use sii_words::Words;
+use sii_words::{MAX_SLAVES, Words};
 use station_files::{Fault, MOST_OF_JOURNAL, Store, load_line, read_file};
 use station_rows::Form;
 use station_text::LineFile;
@@ -64,7 +64,7 @@ fn beside_files<S: Store>(
             Err(_) => return Ok(Vec::new(alloc)),
         }
     }
-    if slaves.len() != images.len() || slaves.is_empty() || slaves.len() > 64 {
+    if slaves.len() != images.len() || slaves.is_empty() || slaves.len() > MAX_SLAVES {
         return Ok(Vec::new(alloc));
     }
     let name = line.journal.as_str();

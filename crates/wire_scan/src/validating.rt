@@ -1,13 +1,15 @@
 //! What is looked at once a line is found, before a word is written.
 ghost use Rattle.std.specs.Prelude.{◌≡◌, ◌≤◌, length, IfOk, OnOk};
-ghost use Rattle.wire_scan.specs.Validating.{IsForSlave};
+ghost use Rattle.station_files.specs.Devices.{IsForSlave};
 
 use line_changes::resizes;
 use sii_edit::{Command, Edit};
 use sii_words::{ImageFile, Plant, Words};
+use station_files::{Script, validate_device};
+use station_text::{ScriptCommand, ScriptEdit};
 use std::alloc::{AllocError, Global};
 use wire_bringup::{FoundLine, SlaveState};
-use wire_faults::{DeviceDiffers, WireFault};
+use wire_faults::WireFault;
 
 /// The words of the slaves of a line that was found, of which the line file names so many.
 ///
@@ -49,8 +51,7 @@ pub fn validate_states(states: &[SlaveState], slaves: usize) -> Result<(), WireF
     Ok(())
 }
 
-/// Looks whether an image is that of this slave, which has these words: it has the same vendor and product, and as many words at least. A slave
-/// whose check byte is wrong, as that of a blank EEPROM, doesn't tell what it is, so only the number of words counts.
+/// Looks whether an image is that of this slave, which has these words, as `validate_device` does.
 ///
 /// # Errors
 ///
@@ -58,53 +59,47 @@ pub fn validate_states(states: &[SlaveState], slaves: usize) -> Result<(), WireF
 pub fn validate_image(slave: usize, words: &Words, image: &ImageFile) -> Result<(), WireFault>
     ensures { OnOk result (IsForSlave words.now image.now) }
 {
-    let (own, other) = (words.identity(), image.identity());
-    let is_known = words.check_ok();
-    let why = if is_known && own.vendor != other.vendor {
-        DeviceDiffers::Vendor(own.vendor, other.vendor)
-    } else if is_known && own.product != other.product {
-        DeviceDiffers::Product(own.product, other.product)
-    } else if image.as_slice().len() < words.len() {
-        DeviceDiffers::Words(words.len(), image.as_slice().len())
-    } else {
-        return Ok(());
-    };
-    Err(WireFault::OtherDevice { slave, why })
+    match validate_device(words, image) {
+        Ok(()) => Ok(()),
+        Err(why) => Err(WireFault::OtherDevice { slave, why }),
+    }
 }
 
-/// Looks whether each image that a command writes is that of its slave, as `validate_image` does.
+/// Looks whether each image that a script writes is that of its slave, as `validate_image` does, unless the script says that it may replace the
+/// device.
 ///
 /// # Errors
 ///
 /// As for `validate_image`, of the first image that isn't.
-pub fn validate_images(slaves: &[Words], commands: &[Command]) -> Result<(), WireFault> {
-    for command in commands {
-        match command {
-            Command::One(edit) => validate_edit(slaves, edit)?,
-            Command::Group(edits) => {
-                for edit in edits.as_slice() {
-                    validate_edit(slaves, edit)?;
+pub fn validate_images(slaves: &[Words], script: &Script) -> Result<(), WireFault> {
+    for (command, spelt) in script.commands.iter().zip(&script.spelt) {
+        match (command, spelt) {
+            (Command::One(edit), ScriptCommand::One(spelt)) => validate_edit(slaves, edit, spelt)?,
+            (Command::Group(edits), ScriptCommand::Group(spelt)) => {
+                for (edit, spelt) in edits.as_slice().iter().zip(spelt) {
+                    validate_edit(slaves, edit, &spelt.edit)?;
                 }
             }
-            Command::Guarded(edits) => {
-                for guarded in edits.as_slice() {
-                    validate_edit(slaves, &guarded.edit)?;
+            (Command::Guarded(edits), ScriptCommand::Group(spelt)) => {
+                for (guarded, spelt) in edits.as_slice().iter().zip(spelt) {
+                    validate_edit(slaves, &guarded.edit, &spelt.edit)?;
                 }
             }
-            Command::Swap { .. } => {}
+            _ => {}
         }
     }
     Ok(())
 }
 
-/// The same of one edit. One that names no slave of the line is refused later.
-fn validate_edit(slaves: &[Words], edit: &Edit) -> Result<(), WireFault> {
-    match edit {
-        Edit::Image { slave, image } => match slaves.get(usize::from(*slave)) {
+/// The same of one edit, which is spelt so. One that names no slave of the line is refused later.
+fn validate_edit(slaves: &[Words], edit: &Edit, spelt: &ScriptEdit) -> Result<(), WireFault> {
+    match (edit, spelt) {
+        (_, ScriptEdit::Image { replace: true, .. }) => Ok(()),
+        (Edit::Image { slave, image }, _) => match slaves.get(usize::from(*slave)) {
             Some(words) => validate_image(usize::from(*slave), words, image),
             None => Ok(()),
         },
-        Edit::Alias { .. } | Edit::Category { .. } => Ok(()),
+        _ => Ok(()),
     }
 }
 

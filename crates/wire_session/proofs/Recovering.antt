@@ -102,7 +102,8 @@ pub refuses_early : (fault : WireFault) (old new : Known) (leads : Leads) (name 
 refuses_early (wire.Station fault) old new leads name same = inl same
 refuses_early (wire.Line fault) old new leads name same = same
 refuses_early (wire.OtherCount slaves) old new leads name same = same
-refuses_early (wire.Stopped reason seen) old new leads name same = same
+refuses_early (wire.Stopped reason seen word) old new leads name same = same
+refuses_early (wire.Unwritten slave word) old new leads name same = same
 refuses_early (wire.UnknownSize slave says) old new leads name same = same
 refuses_early (wire.Running slave) old new leads name same = same
 refuses_early (wire.Held slave) old new leads name same = same
@@ -110,6 +111,7 @@ refuses_early (wire.OtherSize command slave words) old new leads name same = sam
 refuses_early (wire.NotOne found slaves) old new leads name same = same
 refuses_early (wire.OtherDevice slave why) old new leads name same = same
 refuses_early (wire.OtherWords slave difference reason) old new leads name same = same
+refuses_early (wire.NothingPending slave) old new leads name same = same
 
 -- the line, the words and the journal were read one after the other
 pub begun_by : (old first second : Known) (name : List ℕ) (line : LineFile) (plant : List (List ℕ)) (bytes : List ℕ) → SpellsLine old name line → first ≡ old → SpellsSlaves first line plant → second ≡ first

@@ -1,4 +1,4 @@
-//! What is told of the devices of a line on a wire.
+//! What is reported of the devices of a line on a wire.
 ghost use Rattle.std.specs.Prelude.{◌≡◌, Err, None, IsTrue};
 ghost use Rattle.wire_faults.specs.declared.faults.WireFault.TheVariants as wire;
 ghost use Rattle.wire_session.specs.Slaves.{AreOfParts, AreOfSlaves};
@@ -9,7 +9,7 @@ use site_wire::TellsPart;
 use station_files::Fault;
 use wire_faults::WireFault;
 
-/// What is told of the devices of a line that was served at a desk. `T` is what one device tells.
+/// What is reported of the devices of a line that was served at a desk. `T` is what one device tells.
 #[derive(Drop)]
 pub struct LineLog<T> {
     /// Of the line's device as the station was opened, and of its parts' at the desk.
@@ -18,7 +18,7 @@ pub struct LineLog<T> {
     pub after: T,
 }
 
-/// Whether this is told of the devices of the disk's part and of each slave's, each of its own.
+/// Whether this is reported of the devices of the disk's part and of each slave's, each of its own.
 pub(crate) fn are_of_parts<D: TellsPart>(reported: &DeskLog<D::Logged>) -> bool
     ensures { IsTrue result → AreOfParts D.is_of reported.now }
 {
@@ -26,7 +26,7 @@ pub(crate) fn are_of_parts<D: TellsPart>(reported: &DeskLog<D::Logged>) -> bool
         && are_of_slaves::<D>(reported.slaves.as_slice())
 }
 
-/// Whether this is told of the devices of the slaves' parts, each of its own.
+/// Whether this is reported of the devices of the slaves' parts, each of its own.
 fn are_of_slaves<D: TellsPart>(parts: &[PartLog<D::Logged>]) -> bool
     ensures { IsTrue result → AreOfSlaves D.is_of parts.now }
 {
@@ -38,7 +38,7 @@ fn are_of_slaves<D: TellsPart>(parts: &[PartLog<D::Logged>]) -> bool
     true
 }
 
-/// How the work on a line ended, and what is told of its devices.
+/// How the work on a line ended, and what is reported of its devices.
 #[derive(Drop)]
 pub struct Worked<V, T> {
     /// The value, or the fault that ended the work.
@@ -48,7 +48,7 @@ pub struct Worked<V, T> {
 }
 
 impl<V, T: Drop> Worked<V, T> {
-    /// How the work ended. What is told is lost.
+    /// How the work ended. What is reported is lost.
     pub fn into_ended(self) -> Result<V, WireFault>
         ensures { result ≡ self.ended }
     {
@@ -58,7 +58,7 @@ impl<V, T: Drop> Worked<V, T> {
 }
 
 impl<V, T> Worked<V, T> {
-    /// A fault ended the work, and nothing is told.
+    /// A fault ended the work, and nothing is reported.
     pub(crate) fn failed(fault: WireFault) -> Worked<V, T>
         ensures ended { result.ended ≡ Err fault }
         ensures reported { result.reported ≡ None }

@@ -44,7 +44,8 @@ use wire_scan::{FoundWire, ScanOptions, find_line, open_line};
 ///
 /// As for `find_line`, where slaves in any state are allowed. Nothing is written up to there. Then `NotAJournal`, `BadVersion`, `WrongLine` or
 /// `BadJournal` where the journal is refused, with no word written; `SlaveDead` for a slave that is given up; `Disk` where a file of the line can't
-/// be written or synced any more; or why the site on the wire has stopped. Another recovery completes what was begun. Then `File` or `Memory`, as the store or the output answers.
+/// be written or synced any more; or why the site on the wire has stopped. Another recovery completes what was begun. Then `File` or `Memory`, as
+/// the store or the output answers.
 pub fn recover_line<
     R: Wait + Threads + Clock + AllocGlobal + Sync,
     W: Wire + Send + Drop,
@@ -166,7 +167,7 @@ fn recover_opened<
 }
 
 /// Recovers a line, and saves what its slaves hold to their image files. `Unserved` where something has failed that the device was asked, though
-/// the recovery was told of nothing.
+/// the recovery heard of nothing.
 fn recover_site<R: Wait + Threads + AllocGlobal + Sync, D: TellsPart + Send, S: Store, O: Write>(
     rt: &R,
     line: &LineFile,
@@ -200,7 +201,7 @@ fn recover_site<R: Wait + Threads + AllocGlobal + Sync, D: TellsPart + Send, S: 
     }
 }
 
-/// Saves what the slaves hold, prints what was recovered, and gives what is told of the device.
+/// Saves what the slaves hold, prints what was recovered, and gives what is reported of the device.
 fn save_recovered<D: Lends, S: Store, O: Write>(
     alloc: Global,
     line: &LineFile,

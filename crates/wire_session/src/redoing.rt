@@ -1,4 +1,4 @@
-//! Recovers a line by threads: each slave has one that redoes what is live, and what is left behind them is recovered on this one.
+//! Recovers a line by threads: each slave has one that redoes what is live, and what is left after them is recovered on this one.
 ghost use Rattle.std.specs.Prelude.{◌≡◌, ◌+◌, IfOk, IsTrue};
 ghost use Rattle.esc_rom.specs.Owned.{OwnsAll};
 ghost use Rattle.station_alone.specs.Recovery.{BeginsRecovered, HasRecovered};
@@ -25,7 +25,7 @@ pub(crate) struct ByThreads<A, T> {
     /// The station after it.
     pub(crate) alone: A,
     pub(crate) recovered: Recovered,
-    /// What is told of the devices up to the end of the desk.
+    /// What is reported of the devices up to the end of the desk.
     pub(crate) reported: DeskLog<T>,
 }
 
@@ -36,7 +36,7 @@ pub(crate) struct ByThreads<A, T> {
 ///
 /// # Errors
 ///
-/// As for `Alone::open_counted`, `redo_by_threads` and `recover`; `Unserved` where a part's device isn't told as its own. The site is dropped.
+/// As for `Alone::open_counted`, `redo_by_threads` and `recover`; `Unserved` where a part's device isn't reported as its own. The site is dropped.
 pub(crate) fn recover_by_threads<R: Wait + Threads + AllocGlobal + Sync, D: TellsPart + Send>(
     rt: &R,
     site: ShadowSite<D>,

@@ -1,4 +1,4 @@
-//! What is told at the end of a run or a recovery: why the line has stopped, and what has changed.
+//! What is reported at the end of a run or a recovery: why the line has stopped, and what has changed.
 ghost use Rattle.std.specs.Prelude.{◌≡◌, IfErr};
 ghost use Rattle.station_files.specs.Faults.{IsOfStream};
 ghost use Rattle.wire_session.specs.Reporting.{IsExplained, IsReported};
@@ -53,7 +53,7 @@ pub(crate) fn report_end<T: Copy, S: Store, O: Write>(
     }
 }
 
-/// Names the slaves whose EEPROM couldn't be handed back as it was found, if events are told, behind work that ended so.
+/// Names the slaves whose EEPROM couldn't be handed back as it was found, if events are reported, after work that ended so.
 ///
 /// # Errors
 ///
@@ -109,7 +109,7 @@ fn print_asked<S: Store, O: Write>(
         print_image(alloc, before, store, output)?;
     }
     if tells.report {
-        return print_report(alloc, before, store, output);
+        return print_report(alloc, tells.form, before, store, output);
     }
     Ok(())
 }

@@ -22,7 +22,7 @@ use sii_edit::Command;
 use sii_words::Plant;
 use site_shadow::ShadowSite;
 use site_wire::{LiveLine, LockedLine, TellsPart, WireLog};
-use station_files::{ExitStatus, Fault, Store, load_script};
+use station_files::{ExitStatus, Fault, Script, Store, load_script};
 use station_line::{is_old, of_open, open_station, site_of};
 use station_text::LineFile;
 use std::alloc::{AllocError, Global};
@@ -65,8 +65,8 @@ struct Start<S> {
 }
 
 /// Runs the script file that the order names on the line on this wire: submits its commands in order, after those that write image files to their
-/// slaves, as was said, serves them by threads, one for each slave, which share the wire, and prints the answer to each, what is told of them as it
-/// happens, and the totals. Each image file is replaced first by a new file with the words that its slave was found with, or that it is to get, and
+/// slaves, as was said, serves them by threads, one for each slave, which share the wire, and prints the answer to each, what is reported of them as
+/// it happens, and the totals. Each image file is replaced first by a new file with the words that its slave was found with, or is to get, and
 /// gets each word that the slave has shown, before the batch that names it is retired. A journal that isn't of version 2 is recovered and migrated
 /// first. Where no thread can be made, one serves all. The EEPROMs are handed back as they were found. Returns the exit status: `Done`, or that of
 /// the worst refusal.
@@ -124,19 +124,22 @@ pub(crate) fn find_all<R: Clock + AllocGlobal, W: Wire, S: Store>(
     ensures same { S.files store.new ≡ S.files store.old }
 {
     let RunOrder { named, asked } = order;
-    let commands = load_script(rt.alloc(), named.script, store)?;
+    let script = load_script(rt.alloc(), named.script, store)?;
     match find_line(rt, wire, named.line, asked, store) {
-        Ok(found) => match validate_script(rt.alloc(), named, &found, &commands, asked, store) {
-            Ok(()) => with_mends(rt.alloc(), wire, found, commands),
+        Ok(found) => match validate_script(rt.alloc(), named, &found, &script, asked, store) {
+            Ok(()) => {
+                let Script { commands, .. } = script;
+                with_mends(rt.alloc(), wire, found, commands)
+            }
             Err(fault) => {
                 hand_back(wire, &found.states);
                 drop(found);
-                drop(commands);
+                drop(script);
                 Err(fault)
             }
         },
         Err(fault) => {
-            drop(commands);
+            drop(script);
             Err(fault)
         }
     }
@@ -168,12 +171,12 @@ fn with_mends<W: Wire, L: Drop>(
     }
 }
 
-/// Looks whether the script stands apart from the files of the line, and whether its commands may be run on the slaves.
+/// Looks whether the script is separate from the files of the line, and whether its commands may be run on the slaves.
 fn validate_script<S: Store>(
     alloc: Global,
     named: Named<'_>,
     found: &FoundWire<S::Lock>,
-    commands: &[Command],
+    script: &Script,
     asked: ScanOptions,
     store: &mut S,
 ) -> Result<(), WireFault>
@@ -185,12 +188,12 @@ fn validate_script<S: Store>(
 {
     keep_script_separate(alloc, &found.line, named, store)?;
     if !asked.resizes {
-        validate_commands(alloc, &found.slaves, commands)?;
+        validate_commands(alloc, &found.slaves, &script.commands)?;
     }
     if asked.any_device {
         return Ok(());
     }
-    validate_images(&found.slaves, commands)
+    validate_images(&found.slaves, script)
 }
 
 /// Runs the commands on a line that was found, hands the EEPROMs back, and prints what has changed if that is asked for.

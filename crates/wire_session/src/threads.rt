@@ -21,7 +21,7 @@ use std::thread::Threads;
 use wire_faults::WireFault;
 
 /// Serves the commands by threads, recovers the line so that nothing is live, and saves what its slaves hold. Where no thread can be made,
-/// the commands are served on this one. `Unserved` where a part's device isn't told as its own. The station must not have accepted a command yet.
+/// the commands are served on this one. `Unserved` where a part's device isn't reported as its own. The station must not have accepted a command yet.
 pub(crate) fn run_threads<
     R: Wait + Threads + AllocGlobal + Sync,
     D: TellsPart + Send,
@@ -59,8 +59,8 @@ pub(crate) fn run_threads<
     }
 }
 
-/// Recovers and saves a line that was served, unless the work ended with a fault. Then the image files are as they were. Gives what is told of the
-/// devices.
+/// Recovers and saves a line that was served, unless the work ended with a fault. Then the image files are as they were. Gives what is reported of
+/// the devices.
 fn end_threads<D: Lends, S: Store, O: Write>(
     alloc: Global,
     line: &LineFile,
@@ -116,14 +116,14 @@ fn end_threads<D: Lends, S: Store, O: Write>(
     }
 }
 
-/// What is told of the device of a line that isn't worked on any more.
+/// What is reported of the device of a line that isn't worked on any more.
 fn reported_of<D: Lends>(site: ShadowSite<D>) -> D::Logged {
     let (parts, mut device) = site.into_parts();
     drop(parts);
     device.tell()
 }
 
-/// The fault that is told of the desk, or else that of the ends of its parts.
+/// The fault that is reported of the desk, or else that of the ends of its parts.
 fn both_of(reported: Result<(), Fault>, sound: Result<(), Fault>) -> Result<(), Fault>
     ensures { OnOk result ((reported ≡ Ok tt) × (sound ≡ Ok tt)) }
 {

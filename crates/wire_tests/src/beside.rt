@@ -316,7 +316,7 @@ fn words_are_written_beside_a_master(rt: HostRuntime) {
     }
 }
 
-// Whether the site stops for a master that ends behind so many messages, with no word lost, and beside the next one all words are written.
+// Whether the site stops for a master that ends after so many messages, with no word lost, and beside the next one all words are written.
 fn is_completed(alloc: Global, ends: u32) -> bool {
     let habits = Habits { ends, ..PROMPT };
     match came_of(alloc, habits) {

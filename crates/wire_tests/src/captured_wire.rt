@@ -57,7 +57,7 @@ impl RandomAccessFile for Front<'_> {
     }
 }
 
-// A handle whose clock stands still, at 5 nanoseconds behind second 3.
+// A handle whose clock stands still, at 5 nanoseconds after second 3.
 #[derive(Drop)]
 struct Still<'r, H> {
     _handle: &'r H,

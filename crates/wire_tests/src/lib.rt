@@ -1,4 +1,4 @@
-//! Tests of a line on a wire in memory: frames that are lost, doubled, late and falsified, or stand behind others' frames, what a capture of
+//! Tests of a line on a wire in memory: frames that are lost, doubled, late and falsified, or stand after others' frames, what a capture of
 //! them holds, slaves with the quirks of real ones, slaves that lose their power, and a master that lends its wire.
 #![tactic(auto)]
 

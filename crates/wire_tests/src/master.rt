@@ -36,7 +36,7 @@ pub(crate) struct Habits {
     pub doubles: u32,
     /// Whether of several answers the one that came last is given first.
     pub is_turned: bool,
-    /// Behind how many messages it ends.
+    /// After how many messages it ends.
     pub ends: u32,
 }
 

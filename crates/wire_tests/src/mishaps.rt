@@ -66,7 +66,7 @@ const CASES: &[Case] = &[
     (WRITE, 3, 0, 3, Fate::LostAfter, SILENT, NEW),
     (WRITE, 3, 1, 2, Fate::LostAfter, GOES_ON, NEW),
     (WRITE, 3, 1, 3, Fate::LostBefore, SILENT, NEW),
-    // The slave was at rest before it was seen busy, and is told again.
+    // The slave was at rest before it was seen busy, and is sent the command again.
     (WRITE, 1, 0, 1, Fate::LostAfter, GOES_ON, NEW),
     (WRITE, 3, 0, 9, Fate::Doubled, GOES_ON, NEW),
     (WRITE, 3, 0, 9, Fate::SentTwice, GOES_ON, NEW),

@@ -1,4 +1,4 @@
-//! Slaves whose words are read side by side, by frames of many datagrams, and what is told of those that can't be worked on.
+//! Slaves whose words are read side by side, by frames of many datagrams, and what is reported of those that can't be worked on.
 
 use crate::bench::{BLANK, Content, FATES, Slave, WELL};
 use crate::bringing_up::{Finding, Findings, Line, course_of};
@@ -72,7 +72,7 @@ const NEVER_ACKNOWLEDGES: Slave = Slave {
     ..PLAIN
 };
 
-// Behind frame 60, while its words are read.
+// After frame 60, while its words are read.
 const LOSES_POWER: Slave = Slave {
     quirks: Quirks {
         loss: PowerLoss::After(60),
@@ -454,7 +454,7 @@ const FOUR_BUSY: Line<'static> = Line {
 
 const FOUR_STUCK: &[Finding] = &[STUCK, STUCK, READ, STUCK, STUCK];
 
-// They are given up together behind 10,000 frames, with pauses of a millisecond at most.
+// They are given up together after 10,000 frames, with pauses of a millisecond at most.
 #[test]
 fn slaves_that_stay_busy_are_given_up_together(rt: HostRuntime) {
     let one = time_of(rt.alloc(), &ONE_BUSY, &Ok(&[STUCK])).unwrap_or(0);

@@ -9,7 +9,7 @@ use wire_practice::PracticeClock;
 // The most bytes of a frame.
 const LONGEST: usize = 64;
 
-// Where the number of a frame that counts the slaves begins: behind two bytes, a datagram of 13 bytes, and a command and an index.
+// Where the number of a frame that counts the slaves begins: after two bytes, a datagram of 13 bytes, and a command and an index.
 const NUMBER: usize = 17;
 
 // A wire on which frames come again and again, each with the number of another station but one; or a wire that is closed.
@@ -64,7 +64,7 @@ const CASES: &[Case] = &[
     (20_000, 0, Some(100), None, Err(300_000)),
     (30_000, 0, Some(100), None, Err(360_000)),
     (100, 0, Some(100), None, Err(300_000)),
-    // The answer stands behind frames of others, also behind many.
+    // The answer stands after frames of others, also after many.
     (20_000, 0, Some(100), Some(0), Ok(20_000)),
     (20_000, 0, Some(100), Some(4), Ok(100_000)),
     (100, 0, Some(100), Some(900), Ok(90_100)),
@@ -73,7 +73,7 @@ const CASES: &[Case] = &[
     // The station was held up before it waits: what came is looked at.
     (10, 150_000, Some(100), Some(0), Ok(150_010)),
     (10, 150_000, Some(100), None, Err(450_030)),
-    // No time-out is known: a try ends behind 256 frames.
+    // No time-out is known: a try ends after 256 frames.
     (20_000, 0, None, None, Err(15_360_000)),
     (20_000, 0, None, Some(255), Ok(5_120_000)),
     // A wire that is closed is known by that many reads.

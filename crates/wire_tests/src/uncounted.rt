@@ -71,7 +71,7 @@ fn asked_with(alloc: Global, mishap: Mishap) -> Option<[u32; 3]> {
 }
 
 // Which frame it is, from the first on that has a datagram for each slave, and how many datagrams the second slave gets more. Even frames tell
-// each slave to read: one that didn't count that is polled, its errors are cleared, and it is told again. Odd ones poll, and are sent again.
+// each slave to read: one that didn't count that is polled, its errors are cleared, and it gets the command again. Odd ones poll, and are sent again.
 const CASES: &[(u32, u32)] = &[(0, 3), (1, 1), (2, 3), (3, 1), (100, 3), (101, 1)];
 
 // Whether the second slave gets so many datagrams more where that frame brings a counter of 0 for it, and the others as many as ever.

@@ -113,7 +113,7 @@ const CASES: &[Case] = &[
             Act::Poll(0x02),
         ],
     ),
-    // Commands are judged.
+    // Commands are validated.
     (
         0x0030,
         0,

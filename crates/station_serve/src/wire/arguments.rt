@@ -1,6 +1,6 @@
 //! What a command line asks for.
 
-use crate::arguments::form_of;
+use crate::arguments::{compared_in, form_of, lines_form, shown_in};
 use crate::pages::code_asked;
 use crate::wire::changing::{Change, New};
 use crate::wire::mends::mends_of;
@@ -11,11 +11,12 @@ use crate::wire::which::which_in;
 use command_line::{ParsedArguments, Unread, read_typed, read_words, refuse, small_in};
 use station_listing::Code;
 use station_rows::Form;
+use station_session::RunNames;
 use std::alloc::Global;
 use std::time::Duration;
 use wire_bringup::Sizes;
 use wire_frames::{FRAME_BYTES, Room};
-use wire_scan::{CaptureNames, Named, ScanOptions, Tells};
+use wire_scan::{CaptureNames, Named, PendingOrder, ScanOptions, Tells};
 use wire_session::RunOrder;
 
 /// A command line: what it asks for, and where its text and its frames go.
@@ -31,6 +32,8 @@ pub struct Arguments<'a> {
     pub separate: Option<CaptureNames<'a>>,
     /// Whose the wire is.
     pub tenure: Tenure,
+    /// How lines are printed: as text, or as rows of JSON.
+    pub form: Form,
     /// Whether faults have a second line where standard error is no terminal, too.
     pub is_verbose: bool,
     /// Whether no line is drawn with the progress.
@@ -46,78 +49,50 @@ pub struct Arguments<'a> {
 pub enum Task<'a> {
     /// Leaves the words of all slaves as they are.
     Reads(Reading<'a>),
-    /// Runs a script on the line.
-    Run {
-        /// The files, and what is asked for.
-        order: RunOrder<'a>,
-        /// The folder in which a call on one slave may have been cut, if it is known.
-        folder: Option<&'a str>,
-    },
-    /// Recovers the line.
-    Recover {
-        /// The name of the line file.
-        line: &'a str,
-        /// What is asked for that isn't done where nothing is said.
-        asked: ScanOptions,
-    },
-    /// Recovers the line on which the last call that changed one slave was cut.
-    RecoverLast {
-        /// The folder that its files are kept in.
-        folder: &'a str,
-        /// What is asked for that isn't done where nothing is said.
-        asked: ScanOptions,
-    },
+    /// Runs a script on the line. In this folder, if it is known, a call on one slave may have been cut.
+    Run(RunOrder<'a>, Option<&'a str>),
+    /// Recovers the line of this line file.
+    Recover(&'a str, ScanOptions),
+    /// Recovers the line on which the last call that changed one slave was cut, whose files are in this folder.
+    RecoverLast(&'a str, ScanOptions),
+    /// Says what a recovery is still to write, and gives up a slave if that is said. Where no line file is named, it is about the line of the last
+    /// call that changed one slave, whose files are in this folder.
+    Pending(PendingOrder<'a>, Option<&'a str>),
     /// Changes one slave.
     Change(Change<'a>),
 }
 
-/// What leaves the words of all slaves as they are.
+/// What leaves the words of all slaves as they are. The sizes of EEPROMs are there as far as they are given.
 #[derive(Clone, Copy)]
 pub enum Reading<'a> {
-    /// Prints a line for each slave.
-    Scan {
-        /// The name of the line file, where slaves are compared with their image files.
-        line: Option<&'a str>,
-        /// The sizes of EEPROMs, as far as they are given.
-        sizes: Sizes,
-        /// Text, or rows of JSON.
-        form: Form,
-    },
-    /// Writes the slaves' image files.
-    Backup {
-        /// The name of the line file.
-        line: &'a str,
-        /// The sizes of EEPROMs, as far as they are given.
-        sizes: Sizes,
-    },
-    /// Writes the slaves' image files under new names, which begin with the date and the time.
-    BackupTo {
-        /// The folder that they go to.
-        folder: &'a str,
-        /// The sizes of EEPROMs, as far as they are given.
-        sizes: Sizes,
-    },
-    /// Makes an empty journal for the line.
-    Init {
-        /// The name of the line file.
-        line: &'a str,
-        /// What is asked for that isn't done where nothing is said.
-        asked: ScanOptions,
-    },
+    /// Prints a line for each slave, which is compared with its image file where a line file is named.
+    Scan(Option<&'a str>, Sizes, Form),
+    /// Writes the slaves' image files, which this line file names.
+    Backup(&'a str, Sizes),
+    /// Writes the slaves' image files into this folder, under new names, which begin with the date and the time.
+    BackupTo(&'a str, Sizes),
+    /// Makes an empty journal for the line of this line file.
+    Init(&'a str, ScanOptions),
     /// Says what a run would do, and does nothing.
-    Plan {
-        /// The files, and what is asked for.
-        order: RunOrder<'a>,
-        /// Text, or rows of JSON.
-        form: Form,
-    },
+    Plan(RunOrder<'a>),
     /// Reads one slave.
     Look(Look<'a>),
     /// Explains one code, or all of them.
-    Explain {
-        /// The code; `None` for all codes.
-        code: Option<Code>,
-    },
+    Explain(Option<Code>),
+}
+
+impl<'a> Task<'a> {
+    /// The files of a run, or of the plan of one; no names where they aren't known.
+    pub(crate) fn run_files(self) -> RunNames<'a> {
+        let (line, script) = match self {
+            Task::Run(order, _) | Task::Reads(Reading::Plan(order)) => (
+                order.named.line,
+                order.named.script,
+            ),
+            _ => ("", ""),
+        };
+        RunNames { line, script }
+    }
 }
 
 /// Whose the wire is.
@@ -149,6 +124,7 @@ pub fn read_arguments<'a>(alloc: Global, words: &'a [String]) -> Result<Argument
             capture: given.text("capture"),
             separate: separate_in(&given),
             tenure,
+            form: lines_form(&given),
             is_verbose: given.has("verbose"),
             is_quiet: given.has("quiet") || matches!(task, Task::Reads(Reading::Explain { .. })),
             task,
@@ -206,59 +182,31 @@ fn room_of(text: &str) -> Option<Room> {
 
 /// The task of the subcommand that was given, or why its words are refused.
 fn task_of<'a>(given: &ParsedArguments<'a>) -> Result<Task<'a>, &'static str> {
-    let task = match given.subcommand {
-        "run" => Task::Run {
-            order: order_of(given)?,
-            folder: given.text("state"),
-        },
-        "recover" => match given.text("LINE") {
-            Some(line) => Task::Recover {
-                line,
-                asked: asked_separate(given)?,
-            },
-            None => Task::RecoverLast {
-                folder: folder_in(given)?,
-                asked: asked_separate(given)?,
-            },
-        },
-        "alias" | "write" => Task::Change(change_of(given)?),
-        _ => Task::Reads(reading_of(given)?),
+    let task = match (given.subcommand, given.text("LINE")) {
+        ("run", _) => Task::Run(order_of(given)?, given.text("state")),
+        ("recover", Some(line)) => Task::Recover(line, asked_separate(given)?),
+        ("recover", None) => Task::RecoverLast(folder_in(given)?, asked_separate(given)?),
+        ("pending", line) => pending_task(given, line)?,
+        ("alias" | "write", _) => Task::Change(change_of(given)?),
+        (_, line) => Task::Reads(reading_of(given, line)?),
     };
     Ok(task)
 }
 
 /// The same of a subcommand that leaves the words of all slaves as they are.
-fn reading_of<'a>(given: &ParsedArguments<'a>) -> Result<Reading<'a>, &'static str> {
-    let line = given.word("LINE");
-    let form = form_of(given);
-    let reading = match given.subcommand {
-        "scan" => Reading::Scan {
-            line: given.text("LINE"),
-            sizes: sizes_in(given)?,
-            form,
-        },
-        "backup" => match given.text("to") {
-            Some(folder) => Reading::BackupTo {
-                folder,
-                sizes: sizes_in(given)?,
-            },
-            None => Reading::Backup {
-                line,
-                sizes: sizes_in(given)?,
-            },
-        },
-        "init" => Reading::Init {
-            line,
-            asked: asked_separate(given)?,
-        },
-        "plan" => Reading::Plan {
-            order: order_of(given)?,
-            form,
-        },
-        "read" | "show" | "diff" | "verify" => Reading::Look(look_of(given)?),
-        "explain" => Reading::Explain {
-            code: code_asked(given)?,
-        },
+fn reading_of<'a>(
+    given: &ParsedArguments<'a>,
+    named: Option<&'a str>,
+) -> Result<Reading<'a>, &'static str> {
+    let line = named.unwrap_or("");
+    let reading = match (given.subcommand, given.text("to")) {
+        ("scan", _) => Reading::Scan(named, sizes_in(given)?, form_of(given)),
+        ("backup", Some(folder)) => Reading::BackupTo(folder, sizes_in(given)?),
+        ("backup", None) => Reading::Backup(line, sizes_in(given)?),
+        ("init", _) => Reading::Init(line, asked_separate(given)?),
+        ("plan", _) => Reading::Plan(order_of(given)?),
+        ("read" | "show" | "diff" | "verify", _) => Reading::Look(look_of(given)?),
+        ("explain", _) => Reading::Explain(code_asked(given)?),
         _ => return Err("a subcommand is needed"),
     };
     Ok(reading)
@@ -267,17 +215,11 @@ fn reading_of<'a>(given: &ParsedArguments<'a>) -> Result<Reading<'a>, &'static s
 /// Which slave is read, and for what.
 fn look_of<'a>(given: &ParsedArguments<'a>) -> Result<Look<'a>, &'static str> {
     let (which, file) = which_in(given, "FILE")?;
-    let form = form_of(given);
     let purpose = match (given.subcommand, file) {
-        ("read", None) => Purpose::Read {
-            file: given.text("output"),
-        },
-        ("show", None) => Purpose::Show {
-            all: given.has("all"),
-            form,
-        },
-        ("diff", Some(file)) => Purpose::Diff { file, form },
-        ("verify", Some(file)) => Purpose::Verify { file },
+        ("read", None) => Purpose::Read(given.text("output")),
+        ("show", None) => Purpose::Show(shown_in(given, None)),
+        ("diff", Some(_)) => Purpose::Diff(compared_in(given, None, file)),
+        ("verify", Some(file)) => Purpose::Verify(file),
         (_, Some(_)) => return Err("only one slave is named"),
         (_, None) => return Err("FILE is needed"),
     };
@@ -290,19 +232,14 @@ fn look_of<'a>(given: &ParsedArguments<'a>) -> Result<Look<'a>, &'static str> {
 
 /// How one slave is changed.
 fn change_of<'a>(given: &ParsedArguments<'a>) -> Result<Change<'a>, &'static str> {
-    let new = if given.subcommand == "alias" {
-        let (which, value) = which_in(given, "VALUE")?;
-        let value = value.and_then(small_in);
-        (
-            which,
-            New::Alias(value.ok_or("VALUE is a number, 0 to 65535")?),
-        )
+    let is_alias = given.subcommand == "alias";
+    let (which, word) = which_in(given, if is_alias { "VALUE" } else { "FILE" })?;
+    let new = if is_alias {
+        let value = word.and_then(small_in);
+        New::Alias(value.ok_or("VALUE is a number, 0 to 65535")?)
     } else {
-        let (which, file) = which_in(given, "FILE")?;
-        let file = file.ok_or("FILE is needed")?;
-        (which, New::Image(file))
+        New::Image(word.ok_or("FILE is needed")?)
     };
-    let (which, new) = new;
     Ok(Change {
         which,
         sizes: sizes_in(given)?,
@@ -315,6 +252,29 @@ fn change_of<'a>(given: &ParsedArguments<'a>) -> Result<Change<'a>, &'static str
 /// The folder for what is kept of calls on one slave.
 fn folder_in<'a>(given: &ParsedArguments<'a>) -> Result<&'a str, &'static str> {
     given.text("state").ok_or("--state DIR is needed, which the launcher gives where it isn't said")
+}
+
+/// The task of `pending`: of a line file that is named, or of the last call that changed one slave.
+fn pending_task<'a>(
+    given: &ParsedArguments<'a>,
+    line: Option<&'a str>,
+) -> Result<Task<'a>, &'static str> {
+    let asked = asked_separate(given)?;
+    let gives_up = match given.text("give-up") {
+        Some(text) => Some(small_in(text).ok_or("--give-up is the number of a slave")?),
+        None => None,
+    };
+    let folder = match line {
+        Some(_) => None,
+        None => Some(folder_in(given)?),
+    };
+    let order = PendingOrder {
+        line: line.unwrap_or(""),
+        asked,
+        gives_up,
+        form: form_of(given),
+    };
+    Ok(Task::Pending(order, folder))
 }
 
 /// The sizes of EEPROMs that are given.
@@ -353,6 +313,7 @@ fn asked_in(given: &ParsedArguments<'_>) -> Result<ScanOptions, &'static str> {
         tells: Tells {
             report: given.has("report"),
             events: given.has("events"),
+            form: form_of(given),
         },
     })
 }

@@ -3,6 +3,7 @@
 
 ghost use Rattle.std.specs.Prelude.{◌<◌, ◌≤◌, length, IfOk};
 
+use crate::serving::Host;
 use crate::wire::backups::dated_name;
 use crate::wire::one_slave::find_slaves;
 use crate::wire::serving::all_done;
@@ -15,8 +16,6 @@ use station_rows::{Form, Rows, named, said};
 use std::alloc::{AllocError, Global};
 use std::io::Write;
 use std::rt::Clock;
-use std::sync::Wait;
-use std::thread::Threads;
 use wire_bringup::{FoundLine, Sizes, look_along};
 use wire_faults::WireFault;
 use wire_frames::{NumberedWire, Wire};
@@ -80,12 +79,7 @@ pub(crate) fn last_line(alloc: Global, folder: &str) -> Result<String, AllocErro
 /// # Errors
 ///
 /// As for `make_ready`, with no word of a slave written; then as for `run_script`; then `File` or `Memory`, as files or the output answer.
-pub(crate) fn change_slave<
-    H: Wait + Threads + Clock + AllocGlobal + Sync,
-    W: Wire + Send + Drop,
-    S: Store,
-    O: Write,
->(
+pub(crate) fn change_slave<H: Host, W: Wire + Send + Drop, S: Store, O: Write>(
     rt: &H,
     wire: NumberedWire<W>,
     change: Change<'_>,
@@ -103,12 +97,7 @@ pub(crate) fn change_slave<
 }
 
 /// Runs the script that was made ready, and prints what has changed, if it ends well.
-fn run_ready<
-    H: Wait + Threads + Clock + AllocGlobal + Sync,
-    W: Wire + Send + Drop,
-    S: Store,
-    O: Write,
->(
+fn run_ready<H: Host, W: Wire + Send + Drop, S: Store, O: Write>(
     rt: &H,
     wire: NumberedWire<W>,
     asked: ScanOptions,
@@ -124,7 +113,7 @@ fn run_ready<
         asked,
     };
     match run_script(rt, wire, order, store, output).into_ended() {
-        Ok(ExitStatus::Done) => tell_changed(rt.alloc(), ready, store, output),
+        Ok(ExitStatus::Done) => tell_changed(rt.alloc(), asked.tells.form, ready, store, output),
         ended => ended,
     }
 }
@@ -389,25 +378,28 @@ fn make_last<S: Store>(
 /// Prints the words that a run has changed, and that all is done.
 fn tell_changed<S: Store, O: Write>(
     alloc: Global,
+    form: Form,
     ready: Ready,
     store: &mut S,
     output: &mut O,
 ) -> Result<ExitStatus, WireFault> {
     let Ready { line, words, .. } = ready;
     let line = load_line(alloc, line.as_str(), store)?;
-    all_done(tell_done(alloc, &Before { line, words }, store, output))
+    all_done(tell_done(alloc, form, &Before { line, words }, store, output))
 }
 
 /// Prints the words that have changed since, and that all is done.
 fn tell_done<S: Store, O: Write>(
     alloc: Global,
+    form: Form,
     before: &Before,
     store: &mut S,
     output: &mut O,
 ) -> Result<(), Fault> {
     let report = changes_since(alloc, before, store)?;
-    let mut rows = Rows::new(alloc, Form::Text);
+    let mut rows = Rows::new(alloc, form);
     put_changes(&mut rows, &report.changes)?;
-    rows.say(&[said("", "done"), named("words", report.changes.len())])?;
+    let row = [said("", "done"), named("words", report.changes.len())];
+    rows.put("done", &row)?;
     rows.write(output)
 }

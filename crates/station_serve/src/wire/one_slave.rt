@@ -1,13 +1,13 @@
 //! The subcommands that read one slave, without a line file: `read`, `show`, `diff` and `verify`.
-ghost use Rattle.std.specs.Prelude.{◌≡◌, ◌≤◌, length, IfOk};
+ghost use Rattle.std.specs.Prelude.{◌≤◌, length, IfOk};
 
+use crate::images::verify_image;
 use crate::wire::serving::all_done;
 use crate::wire::which::Which;
 use line_changes::{Compared, diff_images};
-use sii_words::ImageFile;
-use station_files::{Entry, ExitStatus, Fault, Place, Store, Wrong, read_image, write_complete};
+use station_files::{Entry, ExitStatus, Fault, Place, Store, Wrong, write_complete};
 use station_listing::Code;
-use station_rows::{Form, ShowOptions, show_image};
+use station_rows::{ShowOptions, show_image};
 use std::alloc::Global;
 use std::io::Write;
 use std::rt::Clock;
@@ -15,14 +15,11 @@ use wire_bringup::{FoundLine, Sizes, bring_up, hand_back};
 use wire_faults::WireFault;
 use wire_frames::{LineFault, NumberedWire, Wire};
 
-/// Which slave is read, and for what.
+/// Which slave is read, with the sizes of EEPROMs as far as they are given, and for what.
 #[derive(Clone, Copy)]
 pub struct Look<'a> {
-    /// The slave that is meant.
     pub which: Which,
-    /// The sizes of EEPROMs, as far as they are given.
     pub sizes: Sizes,
-    /// What is done with its words.
     pub purpose: Purpose<'a>,
 }
 
@@ -30,13 +27,13 @@ pub struct Look<'a> {
 #[derive(Clone, Copy)]
 pub enum Purpose<'a> {
     /// They are written to the file of this name, or printed as bytes.
-    Read { file: Option<&'a str> },
-    /// What they say is printed, with `all` each item too.
-    Show { all: bool, form: Form },
+    Read(Option<&'a str>),
+    /// What they say is printed.
+    Show(ShowOptions<'a>),
     /// What they and an image file differ in is printed.
-    Diff { file: &'a str, form: Form },
-    /// The words in which they differ from an image file are printed.
-    Verify { file: &'a str },
+    Diff(Compared<'a>),
+    /// The words in which they differ from the image file of this name are printed.
+    Verify(&'a str),
 }
 
 /// Brings up the line, and hands its EEPROMs back.
@@ -100,27 +97,11 @@ fn tell_image<S: Store, O: Write>(
 ) -> Result<ExitStatus, WireFault> {
     let mut input = image;
     let ended = match purpose {
-        Purpose::Read { file: None } => return all_done(write_complete(image, output)),
-        Purpose::Read { file: Some(name) } => return all_done(write_new(alloc, name, image, store)),
-        Purpose::Verify { file } => verify(alloc, image, file, store, output),
-        Purpose::Show { all, form } => {
-            let shown = ShowOptions {
-                hex: false,
-                all,
-                form,
-                file: None,
-            };
-            show_image(alloc, shown, &mut input, store, output)
-        }
-        Purpose::Diff { file, form } => {
-            let compared = Compared {
-                hex: false,
-                form,
-                old: None,
-                new: Some(file),
-            };
-            diff_images(alloc, compared, &mut input, store, output)
-        }
+        Purpose::Read(None) => return all_done(write_complete(image, output)),
+        Purpose::Read(Some(name)) => return all_done(write_new(alloc, name, image, store)),
+        Purpose::Verify(file) => verify_image(alloc, None, Some(file), &mut input, store, output),
+        Purpose::Show(shown) => show_image(alloc, shown, &mut input, store, output),
+        Purpose::Diff(compared) => diff_images(alloc, compared, &mut input, store, output),
     };
     Ok(ended?)
 }
@@ -143,38 +124,4 @@ fn write_new<S: Store>(
             Err(Fault::Exists)
         }
     }
-}
-
-/// Prints the words in which a slave with this image differs from the image in a file, of those that both have.
-fn verify<S: Store, O: Write>(
-    alloc: Global,
-    image: &[u8],
-    file: &str,
-    store: &mut S,
-    output: &mut O,
-) -> Result<ExitStatus, Fault>
-    ensures { S.files store.new ≡ S.files store.old }
-{
-    let mut nothing: &[u8] = &[];
-    let wanted = read_image(alloc, false, Some(file), &mut nothing, store)?;
-    let found = ImageFile::from_bytes(alloc, image)?;
-    let count = found.as_slice().len().min(wanted.as_slice().len());
-    let mut wrong = 0usize;
-    for (at, (held, wanted)) in found.as_slice().iter().zip(wanted.as_slice()).enumerate() {
-        let (held, wanted) = (*held, *wanted);
-        if held != wanted {
-            writeln!(
-                output,
-                "word 0x{at:04x} found 0x{held:04x} expected 0x{wanted:04x}"
-            )?;
-            wrong = wrong.saturating_add(1);
-        }
-    }
-    writeln!(output, "words {count} wrong {wrong}")?;
-    output.flush()?;
-    Ok(if wrong == 0 {
-        ExitStatus::Done
-    } else {
-        ExitStatus::Refused
-    })
 }

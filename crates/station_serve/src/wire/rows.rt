@@ -3,16 +3,28 @@
 use crate::arguments::{JSON, LINE, REPORT, VERBOSE};
 use crate::pages::explain_row;
 use crate::wire::shared_arguments::{
-    ANY_DEVICE, BESIDE, CAPTURE, CARRY, EVENTS, EXCHANGED, FILE, FORCE, FOUND, QUIET, RESIZE,
-    SCRIPT, TAKE, TRUST, WORDS,
+    ANY_DEVICE, BESIDE, CAPTURE, CARRY, EVENTS, EXCHANGED, FILE, FORCE, FOUND, GIVE_UP, QUIET,
+    RESIZE, SCRIPT, TAKE, TRUST, WORDS,
 };
 use crate::wire::slave_rows::{alias_row, diff_row, read_row, show_row, verify_row, write_row};
 use command_line::{
-    Argument, INTERFACE, Kind, Program, STATE, Subcommand, TEXT, TIMEOUT, TYPED_COMMANDS, WIRE,
+    Argument, INTERFACE, Kind, Program, STATE, Subcommand, TEXT, TIMEOUT,
+    TYPED_COMMANDS as COMMANDS, WIRE,
 };
 
-/// The help text on what `scan` prints.
-const SCAN_ANSWERS: &str = "Answers, a line for each slave:
+/// The line file of `scan`.
+const COMPARED: Argument = Argument {
+    kind: Kind::OptionalWord,
+    help: "The line file, to compare each slave with its image file",
+    ..LINE
+};
+
+const SCAN: Subcommand = Subcommand {
+    name: "scan",
+    about: "Prints what the slaves of the line are",
+    long_about: "Brings up the line and reads the EEPROM of each slave. No word and no file is written, but for that of --capture.",
+    after_help: "Examples:\n  sii_wire -i eth0 scan\n  sii_wire -i eth0 scan line.toml",
+    after_long_help: "Answers, a line for each slave:
   slave P words N alias A check C vendor V product Q revision R serial S
                    P is its position, from 0, and N the size of its EEPROM;
                    C is ok, or bad with the check byte found and the one expected
@@ -33,40 +45,37 @@ and with LINE:
   file differs words N first W has X kept Y usually R
                    N words differ, the first of them W: the slave has X, and the file
                    Y; R is what it usually is: elsewhere (place P: it is that slave of
-                   the line), same type, other type, torn, or changed";
-
-/// The line file of `scan`.
-const COMPARED_LINE: Argument = Argument {
-    kind: Kind::OptionalWord,
-    help: "The line file, to compare each slave with its image file",
-    ..LINE
-};
-
-const SCAN: Subcommand = Subcommand {
-    name: "scan",
-    about: "Prints what the slaves of the line are",
-    long_about: "Brings up the line and reads the EEPROM of each slave. No word and no file is written, but for that of --capture.",
-    after_help: "Examples:\n  sii_wire -i eth0 scan\n  sii_wire -i eth0 scan line.toml",
-    after_long_help: SCAN_ANSWERS,
-    arguments: &[
-        COMPARED_LINE,
-        WORDS,
-        JSON,
-        BESIDE,
-        CARRY,
-        TAKE,
-        CAPTURE,
-        QUIET,
-    ],
+                   the line), same type, other type, torn, or changed",
+    arguments: &[COMPARED, WORDS, JSON, BESIDE, CARRY, TAKE, CAPTURE, QUIET],
 };
 
 fn scan_row() -> Subcommand {
     SCAN
 }
 
-/// The help text on the files of `backup`.
-const BACKUP_FILES: &str =
-    "A line file that is there says where the images go. Where LINE isn't there it is
+/// The line file of `backup`, where the files don't go to a folder.
+const BACKED: Argument = Argument {
+    kind: Kind::WordUnless("to"),
+    ..LINE
+};
+
+const FOLDER: Argument = Argument {
+    id: "to",
+    kind: Kind::TextWithout("FOLDER", "LINE"),
+    help: "Writes a backup of its own into this folder, under the date and the time",
+    long_help: "Writes the line file, the image files and the journal into FOLDER, which has to be
+there, under names that begin with the date and the time in UTC, as
+FOLDER/20261126-211500.toml and FOLDER/20261126-211500-s0.bin, and prints the name of
+the line file. Nothing that is there is written over.",
+};
+
+const BACKUP: Subcommand = Subcommand {
+    name: "backup",
+    about: "Writes the words of each slave to its image file",
+    long_about: "Brings up the line, reads the EEPROM of each slave, writes its words to its image file, and makes an empty journal if there is \
+        none. No word of a slave is written.",
+    after_help: "Examples:\n  sii_wire -i eth0 backup line.toml\n  sii_wire -i eth0 backup --to backups",
+    after_long_help: "A line file that is there says where the images go. Where LINE isn't there it is
 written too: of a name like line.toml it names line-s0.bin, line-s1.bin and so on,
 and line-journal.bin. No file that is there already is written over. An image file
 with its slave's words counts as written, and an empty journal of the line as made;
@@ -80,44 +89,9 @@ Answers, a line for each slave whose word 0x3e tells another size than it has:
 and then, where the journal was made:
   formatted AREA   it is empty; its area has AREA bytes
 and with --to, behind all:
-  line NAME        the name of the line file";
-
-/// The help text on the folder of a backup.
-const FOLDER_HELP: &str =
-    "Writes the line file, the image files and the journal into FOLDER, which has to be
-there, under names that begin with the date and the time in UTC, as
-FOLDER/20261126-211500.toml and FOLDER/20261126-211500-s0.bin, and prints the name of
-the line file. Nothing that is there is written over.";
-
-/// The line file of `backup`, where the files don't go to a folder.
-const BACKED_LINE: Argument = Argument {
-    kind: Kind::WordUnless("to"),
-    ..LINE
-};
-
-const FOLDER: Argument = Argument {
-    id: "to",
-    kind: Kind::TextWithout("FOLDER", "LINE"),
-    help: "Writes a backup of its own into this folder, under the date and the time",
-    long_help: FOLDER_HELP,
-};
-
-const BACKUP: Subcommand = Subcommand {
-    name: "backup",
-    about: "Writes the words of each slave to its image file",
-    long_about: "Brings up the line, reads the EEPROM of each slave, writes its words to its image file, and makes an empty journal if there is \
-        none. No word of a slave is written.",
-    after_help: "Examples:\n  sii_wire -i eth0 backup line.toml\n  sii_wire -i eth0 backup --to backups",
-    after_long_help: BACKUP_FILES,
+  line NAME        the name of the line file",
     arguments: &[
-        BACKED_LINE,
-        FOLDER,
-        WORDS,
-        BESIDE,
-        CARRY,
-        TAKE,
-        CAPTURE,
-        QUIET,
+        BACKED, FOLDER, WORDS, JSON, BESIDE, CARRY, TAKE, CAPTURE, QUIET,
     ],
 };
 
@@ -125,38 +99,32 @@ fn backup_row() -> Subcommand {
     BACKUP
 }
 
-/// The help text on what `init` prints.
-const INIT_ANSWERS: &str = "Answers:
-  formatted AREA   the journal is there, and empty; its area has AREA bytes
-The line file has to name an image file for each slave, and these have to be there,
-as backup leaves them. A journal that is there already is never written over:
-fault 94 Exists.";
-
 const INIT: Subcommand = Subcommand {
     name: "init",
     about: "Makes an empty journal for the line",
     long_about: "Brings up the line, and makes an empty journal for as many slaves. No word of a slave is written.",
     after_help: "Example:\n  sii_wire -i eth0 init line.toml",
-    after_long_help: INIT_ANSWERS,
-    arguments: &[LINE, BESIDE, CARRY, TAKE, TRUST, CAPTURE, QUIET],
+    after_long_help: "Answers:
+  formatted AREA   the journal is there, and empty; its area has AREA bytes
+The line file has to name an image file for each slave, and these have to be there,
+as backup leaves them. A journal that is there already is never written over:
+fault 94 Exists.",
+    arguments: &[LINE, JSON, BESIDE, CARRY, TAKE, TRUST, CAPTURE, QUIET],
 };
 
 fn init_row() -> Subcommand {
     INIT
 }
 
-/// The help text on what `run` does.
-const RUN_TASK: &str =
-    "Brings up the line, submits the commands of the script in order, carries them out,
-all slaves at the same time, and writes the words of each slave to its image file.";
-
-/// Examples of `run`.
-const RUN_EXAMPLES: &str = "Examples:
+const RUN: Subcommand = Subcommand {
+    name: "run",
+    about: "Runs the commands of a script on the line",
+    long_about: "Brings up the line, submits the commands of the script in order, carries them out,
+all slaves at the same time, and writes the words of each slave to its image file.",
+    after_help: "Examples:
   sii_wire -i eth0 run line.toml script.toml
-  sii_wire -i eth0 run line.toml -e 'alias = { slave = 2, value = 7 }'";
-
-/// The help text on what `run` prints and writes.
-const RUN_ANSWERS: &str = "Answers:
+  sii_wire -i eth0 run line.toml -e 'alias = { slave = 2, value = 7 }'",
+    after_long_help: "Answers:
   command I accepted N           command I of the script has number N, from 0
   command I refused CODE NAME    it isn't done, and changes nothing
   ... at P                       of a group, edit P is the reason
@@ -172,33 +140,12 @@ line: each durable command is done as a whole.
 Before a word is written it is refused: an image file larger than its slave's EEPROM
 (fault 109), a slave above Pre-Operational (110), an EEPROM that its PDI has (111),
 a command that makes word 0x3e tell another size than the EEPROM has (112), an image of
-another vendor or product, or with fewer words than the EEPROM (114), and a slave that
-has other words than its image file (115), unless --found, --file or --exchanged names
-it. Commands of --file and --exchanged come first.";
-
-const RUN: Subcommand = Subcommand {
-    name: "run",
-    about: "Runs the commands of a script on the line",
-    long_about: RUN_TASK,
-    after_help: RUN_EXAMPLES,
-    after_long_help: RUN_ANSWERS,
+another vendor or product, or with fewer words than the EEPROM (114), unless the script
+says replace = true with it, and a slave that has other words than its image file
+(115), unless --found, --file or --exchanged names it. Commands of --file and --exchanged come first.",
     arguments: &[
-        LINE,
-        SCRIPT,
-        TYPED_COMMANDS,
-        BESIDE,
-        CARRY,
-        FORCE,
-        TRUST,
-        RESIZE,
-        ANY_DEVICE,
-        FOUND,
-        FILE,
-        EXCHANGED,
-        REPORT,
-        EVENTS,
-        CAPTURE,
-        QUIET,
+        LINE, SCRIPT, COMMANDS, BESIDE, CARRY, FORCE, TRUST, RESIZE, ANY_DEVICE, FOUND, FILE,
+        EXCHANGED, REPORT, EVENTS, JSON, CAPTURE, QUIET,
     ],
 };
 
@@ -206,8 +153,15 @@ fn run_row() -> Subcommand {
     RUN
 }
 
-/// The help text on what `plan` prints.
-const PLAN_ANSWERS: &str = "Answers, which sii_station plan --help lists in full:
+const PLAN: Subcommand = Subcommand {
+    name: "plan",
+    about: "Says what a script would do to the line, and does nothing",
+    long_about: "Brings up the line, and prints how run would answer each command of the script, which words of which slaves would change, and \
+        how much would be written.",
+    after_help: "Examples:
+  sii_wire -i eth0 plan line.toml script.toml
+  sii_wire -i eth0 plan line.toml -e 'alias = { slave = 2, value = 7 }'",
+    after_long_help: "Answers, which sii_station plan --help lists in full:
   command I accepted N           as run would answer, see run --help
   command I refused CODE NAME
   accepted A durable D settled S
@@ -220,36 +174,10 @@ and the process image before and after, if it changes.
 
 The line is found as for run: with the same flags, and refused for the same reasons
 before anything is printed. No word of a slave and no file is written, but for that
-of --capture.";
-
-/// Examples of `plan`.
-const PLAN_EXAMPLES: &str = "Examples:
-  sii_wire -i eth0 plan line.toml script.toml
-  sii_wire -i eth0 plan line.toml -e 'alias = { slave = 2, value = 7 }'";
-
-const PLAN: Subcommand = Subcommand {
-    name: "plan",
-    about: "Says what a script would do to the line, and does nothing",
-    long_about: "Brings up the line, and prints how run would answer each command of the script, which words of which slaves would change, and \
-        how much would be written.",
-    after_help: PLAN_EXAMPLES,
-    after_long_help: PLAN_ANSWERS,
+of --capture.",
     arguments: &[
-        LINE,
-        SCRIPT,
-        TYPED_COMMANDS,
-        JSON,
-        BESIDE,
-        CARRY,
-        FORCE,
-        TRUST,
-        RESIZE,
-        ANY_DEVICE,
-        FOUND,
-        FILE,
-        EXCHANGED,
-        CAPTURE,
-        QUIET,
+        LINE, SCRIPT, COMMANDS, JSON, BESIDE, CARRY, FORCE, TRUST, RESIZE, ANY_DEVICE, FOUND, FILE,
+        EXCHANGED, CAPTURE, QUIET,
     ],
 };
 
@@ -257,8 +185,19 @@ fn plan_row() -> Subcommand {
     PLAN
 }
 
-/// The help text on what `recover` prints and writes.
-const RECOVER_ANSWERS: &str = "Answers:
+/// The line file of `recover`, where it isn't the line of the last call on one slave.
+const RECOVERED: Argument = Argument {
+    kind: Kind::OptionalWord,
+    help: "The line file; where it is left out, that of the last alias or write on this interface",
+    ..LINE
+};
+
+const RECOVER: Subcommand = Subcommand {
+    name: "recover",
+    about: "Recovers the line after a power cut",
+    long_about: "Brings up the line, does what is live in its journal, and writes the words of each slave to its image file.",
+    after_help: "Examples:\n  sii_wire -i eth0 recover line.toml\n  sii_wire -i eth0 recover",
+    after_long_help: "Answers:
   recovered batches B commands C words W
                    the journal held B batches that weren't done, with C commands,
                    and W words of them were written to the slaves
@@ -273,33 +212,9 @@ writes, is refused (fault 115) before a word is written, unless --found, --file 
 
 Without LINE it recovers the line on which alias or write was cut, and prints
   line NAME        the name of its line file
-first.";
-
-/// The line file of `recover`, where it isn't the line of the last call on one slave.
-const RECOVERED_LINE: Argument = Argument {
-    kind: Kind::OptionalWord,
-    help: "The line file; where it is left out, that of the last alias or write on this interface",
-    ..LINE
-};
-
-const RECOVER: Subcommand = Subcommand {
-    name: "recover",
-    about: "Recovers the line after a power cut",
-    long_about: "Brings up the line, does what is live in its journal, and writes the words of each slave to its image file.",
-    after_help: "Examples:\n  sii_wire -i eth0 recover line.toml\n  sii_wire -i eth0 recover",
-    after_long_help: RECOVER_ANSWERS,
+first.",
     arguments: &[
-        RECOVERED_LINE,
-        BESIDE,
-        CARRY,
-        TAKE,
-        TRUST,
-        FOUND,
-        FILE,
-        EXCHANGED,
-        REPORT,
-        CAPTURE,
-        QUIET,
+        RECOVERED, BESIDE, CARRY, TAKE, TRUST, FOUND, FILE, EXCHANGED, REPORT, JSON, CAPTURE, QUIET,
     ],
 };
 
@@ -307,9 +222,37 @@ fn recover_row() -> Subcommand {
     RECOVER
 }
 
+const PENDING: Subcommand = Subcommand {
+    name: "pending",
+    about: "Says what a recovery is still to write, and gives up a slave that can't be written",
+    long_about: "Brings up the line, and prints which words of each slave recover would write. Gives a slave up where that is said.",
+    after_help: "Examples:\n  sii_wire -i eth0 pending line.toml\n  sii_wire -i eth0 pending line.toml --give-up 2",
+    after_long_help: "Answers:
+  slave P pending N
+                   recover is still to write N words of slave P; then a line for each:
+  slave P word 0xW has 0xH pending 0xV
+                   word W has the value H, and is to get V
+Nothing is written. With --give-up the line of that slave says given up; then the journal
+is replaced by one that has nothing for it, and the line is recovered, as recover says
+(with --json without a word). Where nothing is pending for the slave: fault 116. A call
+that was cut can be repeated, or ended by recover.
+
+A slave that has other words than its image file (fault 115) matters only where another
+one is given up.
+
+Without LINE it is the line on which alias or write was cut.",
+    arguments: &[
+        RECOVERED, GIVE_UP, JSON, BESIDE, CARRY, TAKE, TRUST, CAPTURE, QUIET,
+    ],
+};
+
+fn pending_row() -> Subcommand {
+    PENDING
+}
+
 /// The subcommands, in the order of the help. A table that a function names becomes part of what is proved of it, so each row stands in a
 /// function of its own.
-pub(crate) fn rows() -> [Subcommand; 13] {
+pub(crate) fn rows() -> [Subcommand; 14] {
     [
         scan_row(),
         read_row(),
@@ -323,11 +266,12 @@ pub(crate) fn rows() -> [Subcommand; 13] {
         run_row(),
         plan_row(),
         recover_row(),
+        pending_row(),
         explain_row(),
     ]
 }
 
-/// The help text on how the program is started, and on its exit status.
+/// How the program is started, and its exit status.
 const STARTING: &str =
     "The network interface comes first: sii_wire -i eth0 scan. Without a name -i lists all.
 A frame that isn't back after 100 milliseconds, or --timeout, is lost. Text goes to

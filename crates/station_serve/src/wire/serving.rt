@@ -1,26 +1,30 @@
 //! The program as a function of its arguments and streams.
 
 use crate::pages::{explanation, print_page};
+use crate::refusals::tell_refused;
+use crate::serving::Host;
 use crate::wire::arguments::{Arguments, Reading, Task, Tenure};
 use crate::wire::backups::{back_up, back_up_to};
 use crate::wire::capture::{begin_capture, end_capture};
 use crate::wire::changing::{change_slave, last_line, require_ended};
+use crate::wire::expecting::words_expected;
 use crate::wire::one_slave::look_at_slave;
 use command_line::{InputScript, Script};
 use line_watch::{Capture, Cleared, ObservedWire, Progress};
-use station_files::{ExitStatus, Failures, Fault, Store, report_fault};
-use station_troubles::{CAPTURE_OR_OUTPUT, Noting, OUTPUT};
+use site_file::RandomAccessFile;
+use station_files::{ExitStatus, Failure, Failures, Fault, Store, report_fault};
+use station_rows::LineRows;
+use station_session::RunNames;
+use station_troubles::{CAPTURE_OR_OUTPUT, Noting, OUTPUT, tell_more};
 use std::alloc::Global;
 use std::io;
 use std::io::{Read, Write};
 use std::rt::Clock;
-use std::sync::Wait;
-use std::thread::Threads;
-use std::time::Duration;
 use wire_faults::WireFault;
 use wire_frames::{EthernetWire, NumberedWire, TimedWire, Wire};
 use wire_scan::{
-    CaptureNames, Mend, Mends, ScanOptions, keep_capture_separate, scan_files, scan_line,
+    CaptureNames, Mend, Mends, PendingOrder, ScanOptions, keep_capture_separate, list_pending,
+    scan_files, scan_line,
 };
 use wire_session::{RunOrder, init_on_wire, mend_line, plan_on_wire, recover_line, run_script};
 
@@ -45,14 +49,14 @@ pub struct Screen<'a, E, T> {
 }
 
 /// Carries out a command line over this connection, and returns the exit status: `Done`; `Refused` where a command was refused; `File` for a
-/// file or its form; `Device` for the line; or `Memory`. Faults are printed to the screen's stream, those of the line with a second line behind
+/// file or its form; `Device` for the line; or `Memory`. Faults are printed to the screen's stream, those of the line with a second line after
 /// if the screen says so. A line on its terminal, if it has one, tells how far the work is.
 ///
 /// Each frame is written down in the file of the capture, if one is named, once it is sent or received. Where the capture can't begin, no
 /// frame is sent and nothing is read or written. If it can't be written further, the work goes on as without it, and the fault is printed
 /// after all others.
 pub fn serve_on_wire<
-    H: Wait + Threads + Clock + AllocGlobal + Sync,
+    H: Host,
     R: Read + Send + Drop,
     W: Write + Send + Drop,
     S: Store,
@@ -75,7 +79,7 @@ pub fn serve_on_wire<
 
 /// The same with the script among the files of the store. What is noted of files is kept, if a fault has a second line.
 fn serve_noting<
-    H: Wait + Threads + Clock + AllocGlobal + Sync,
+    H: Host,
     R: Read + Send + Drop,
     W: Write + Send + Drop,
     S: Store,
@@ -90,13 +94,15 @@ fn serve_noting<
     store: &mut S,
     output: &mut O,
 ) -> ExitStatus {
-    let mut noting = Noting::new(rt.alloc(), store, screen.is_reported);
-    serve_job(rt, arguments, screen, connection, &mut noting, output)
+    let alloc = rt.alloc();
+    let mut noting = Noting::new(alloc, store, screen.is_reported);
+    let mut lines = LineRows::new(alloc, arguments.form, screen.is_reported, output);
+    serve_job(rt, arguments, screen, connection, &mut noting, &mut lines)
 }
 
-/// The same on a store that keeps what is noted.
+/// The same on a store that keeps what is noted, with what is printed as lines or as rows.
 fn serve_job<
-    H: Wait + Threads + Clock + AllocGlobal + Sync,
+    H: Host,
     R: Read + Send + Drop,
     W: Write + Send + Drop,
     S: Store,
@@ -109,65 +115,83 @@ fn serve_job<
     screen: Screen<'_, E, T>,
     connection: Connection<R, W>,
     store: &mut Noting<'_, S>,
-    output: &mut O,
+    lines: &mut LineRows<'_, O>,
 ) -> ExitStatus {
-    let Arguments {
-        task,
-        capture,
-        separate,
-        time_out,
-        tenure,
-        is_quiet,
-        ..
-    } = arguments;
+    let alloc = rt.alloc();
     let Screen {
         faults,
         is_reported,
         terminal,
     } = screen;
-    let Connection { wire, number } = connection;
-    match begin_separate(rt.alloc(), capture, separate, store) {
+    match begin_separate(alloc, arguments.capture, arguments.separate, store) {
         Ok(begun) => {
-            let job = WireJob {
-                task,
-                time_out,
-                tenure,
-                number,
-                terminal: if is_quiet { None } else { terminal },
-            };
-            let ended = do_observed(rt, job, begun.as_ref(), wire, store, output);
-            let status = status_of(ended, is_reported, store, faults);
-            let mut failures = Failures::none();
-            let status = end_capture(begun, status, &mut failures);
-            failures.print(faults);
-            status
+            let files = arguments.task.run_files();
+            let mut progress = Progress::begin(
+                rt,
+                if arguments.is_quiet { None } else { terminal },
+            );
+            expect_words(alloc, files, &mut progress, store);
+            let watch = (begun.as_ref(), progress.as_ref());
+            let ended = do_observed(rt, &arguments, watch, connection, store, lines);
+            let status = status_of(ended, is_reported, store, lines, faults);
+            tell_refused(alloc, "sii_wire", files, lines.refused(), store, faults);
+            end_observed(begun, status, lines, faults)
         }
         Err(fault) => {
-            drop(wire);
+            drop(connection);
+            put_fault(WireFault::Station(fault), lines);
             let status = report_fault(fault, faults);
             if is_reported {
-                tell_file(fault, CAPTURE_OR_OUTPUT, store, faults);
+                let reported = store.reported(fault.code(), CAPTURE_OR_OUTPUT);
+                tell_more("sii_wire", fault.code(), reported, faults);
             }
             status
         }
     }
 }
 
-/// What is done on a wire, and how.
-#[derive(Drop)]
-struct WireJob<'a, T> {
-    task: Task<'a>,
-    time_out: Option<Duration>,
-    tenure: Tenure,
-    number: u32,
-    /// The terminal for the line with the progress, if there is one.
-    terminal: Option<T>,
+/// Counts the words that a run will write for the progress, if that can be told.
+fn expect_words<S: Store, T: Write>(
+    alloc: Global,
+    files: RunNames<'_>,
+    progress: &mut Option<Progress<T>>,
+    store: &mut S,
+) {
+    if let Some(progress) = progress {
+        if let Some(words) = words_expected(alloc, files, store) {
+            progress.expect_words(words);
+        }
+    }
+}
+
+/// Ends the capture of a call that ends with this status, if there is one, and returns the status of both. A fault of the capture is printed.
+fn end_observed<F: RandomAccessFile + Drop, O: Write, E: Write>(
+    capture: Option<Capture<F>>,
+    status: ExitStatus,
+    lines: &mut LineRows<'_, O>,
+    faults: &mut E,
+) -> ExitStatus {
+    let mut failures = Failures::none();
+    let status = end_capture(capture, status, &mut failures);
+    failures.print(faults);
+    if let Some(Failure::Fault(fault)) = failures.first() {
+        put_fault(WireFault::Station(fault), lines);
+    }
+    status
+}
+
+/// Writes the row of a fault, if rows are written. An error of the output is ignored.
+fn put_fault<O: Write>(fault: WireFault, lines: &mut LineRows<'_, O>) {
+    if lines.is_json() {
+        let _ = writeln!(lines, "{fault}");
+        let _ = lines.flush();
+    }
 }
 
 /// Carries out a task on this wire, whose frames are written to the capture, if there is one, and count for the progress. The line of the progress
 /// gives way to the text.
 fn do_observed<
-    H: Wait + Threads + Clock + AllocGlobal + Sync,
+    H: Host,
     R: Read + Send + Drop,
     W: Write + Send + Drop,
     S: Store,
@@ -175,26 +199,20 @@ fn do_observed<
     T: Write + Send + Drop,
 >(
     rt: &H,
-    job: WireJob<'_, T>,
-    capture: Option<&Capture<S::File>>,
-    wire: EthernetWire<R, W>,
+    arguments: &Arguments<'_>,
+    watch: (Option<&Capture<S::File>>, Option<&Progress<T>>),
+    connection: Connection<R, W>,
     store: &mut S,
     output: &mut O,
 ) -> Result<ExitStatus, WireFault> {
-    let WireJob {
-        task,
-        time_out,
-        tenure,
-        number,
-        terminal,
-    } = job;
-    let progress = Progress::begin(rt, terminal);
-    let timed = TimedWire::new(wire, rt, time_out);
-    let observed = ObservedWire::new(timed, capture, progress.as_ref(), rt);
-    let numbered = numbered_wire(observed, number, tenure);
-    let mut cleared = Cleared::new(output, progress.as_ref(), rt);
-    let ended = do_task(rt, task, numbered, store, &mut cleared);
-    if let Some(progress) = &progress {
+    let Connection { wire, number } = connection;
+    let (capture, progress) = watch;
+    let timed = TimedWire::new(wire, rt, arguments.time_out);
+    let observed = ObservedWire::new(timed, capture, progress, rt);
+    let numbered = numbered_wire(observed, number, arguments.tenure);
+    let mut cleared = Cleared::new(output, progress, rt);
+    let ended = do_task(rt, arguments.task, numbered, store, &mut cleared);
+    if let Some(progress) = progress {
         progress.erase(rt);
     }
     ended
@@ -226,12 +244,7 @@ fn numbered_wire<W: Wire>(wire: W, number: u32, tenure: Tenure) -> NumberedWire<
 }
 
 /// Carries out a task on this wire.
-fn do_task<
-    H: Wait + Threads + Clock + AllocGlobal + Sync,
-    W: Wire + Send + Drop,
-    S: Store,
-    O: Write,
->(
+fn do_task<H: Host, W: Wire + Send + Drop, S: Store, O: Write>(
     rt: &H,
     task: Task<'_>,
     wire: NumberedWire<W>,
@@ -239,29 +252,21 @@ fn do_task<
     output: &mut O,
 ) -> Result<ExitStatus, WireFault> {
     match task {
-        Task::Reads(task) => do_reading(rt, task, wire, store, output),
-        Task::Run { order, folder } => run(rt, wire, order, folder, store, output),
-        Task::Recover { line, asked } => recover(rt, wire, line, asked, store, output),
-        Task::RecoverLast { folder, asked } => recover_last(rt, wire, folder, asked, store, output),
+        Task::Reads(task) => {
+            let mut wire = wire;
+            let ended = read(rt, task, &mut wire, store, output);
+            drop(wire);
+            ended
+        }
+        Task::Run(order, folder) => run(rt, wire, order, folder, store, output),
+        Task::Recover(line, asked) => recover(rt, wire, line, asked, store, output),
+        Task::RecoverLast(folder, asked) => recover_last(rt, wire, folder, asked, store, output),
+        Task::Pending(order, folder) => pending(rt, wire, order, folder, store, output),
         Task::Change(change) => change_slave(rt, wire, change, store, output),
     }
 }
 
 /// Carries out a task that leaves the words of all slaves as they are.
-fn do_reading<H: Clock + AllocGlobal, W: Wire + Drop, S: Store, O: Write>(
-    rt: &H,
-    task: Reading<'_>,
-    wire: NumberedWire<W>,
-    store: &mut S,
-    output: &mut O,
-) -> Result<ExitStatus, WireFault> {
-    let mut wire = wire;
-    let ended = read(rt, task, &mut wire, store, output);
-    drop(wire);
-    ended
-}
-
-/// The same on a wire that is used further.
 fn read<H: Clock + AllocGlobal, W: Wire, S: Store, O: Write>(
     rt: &H,
     task: Reading<'_>,
@@ -270,23 +275,23 @@ fn read<H: Clock + AllocGlobal, W: Wire, S: Store, O: Write>(
     output: &mut O,
 ) -> Result<ExitStatus, WireFault> {
     match task {
-        Reading::Scan { line, sizes, form } => all_done(match line {
-            Some(line) => scan_files(rt, wire, line, form, store, output),
-            None => scan_line(rt, wire, &sizes, form, output),
-        }),
-        Reading::Backup { line, sizes } => back_up(rt, line, &sizes, wire, store, output),
-        Reading::BackupTo { folder, sizes } => back_up_to(rt, folder, &sizes, wire, store, output),
-        Reading::Init { line, asked } => {
-            all_done(init_on_wire(rt, wire, line, asked, store, output))
+        Reading::Scan(Some(line), _, form) => {
+            all_done(scan_files(rt, wire, line, form, store, output))
         }
-        Reading::Plan { order, form } => plan_on_wire(rt, wire, order, form, store, output),
+        Reading::Scan(None, sizes, form) => all_done(scan_line(rt, wire, &sizes, form, output)),
+        Reading::Backup(line, sizes) => back_up(rt, line, &sizes, wire, store, output),
+        Reading::BackupTo(folder, sizes) => back_up_to(rt, folder, &sizes, wire, store, output),
+        Reading::Init(line, asked) => all_done(init_on_wire(rt, wire, line, asked, store, output)),
+        Reading::Plan(order) => {
+            plan_on_wire(rt, wire, order, order.asked.tells.form, store, output)
+        }
         Reading::Look(look) => look_at_slave(rt, wire, look, store, output),
-        Reading::Explain { code } => all_done(print_page(explanation(rt.alloc(), code), output)),
+        Reading::Explain(code) => all_done(print_page(explanation(rt.alloc(), code), output)),
     }
 }
 
 /// Runs a script on a line, unless a call on one slave was cut that has its files in this folder.
-fn run<H: Wait + Threads + Clock + AllocGlobal + Sync, W: Wire + Send + Drop, S: Store, O: Write>(
+fn run<H: Host, W: Wire + Send + Drop, S: Store, O: Write>(
     rt: &H,
     wire: NumberedWire<W>,
     order: RunOrder<'_>,
@@ -301,12 +306,7 @@ fn run<H: Wait + Threads + Clock + AllocGlobal + Sync, W: Wire + Send + Drop, S:
 }
 
 /// Recovers the line on which the last call that changed one slave was cut.
-fn recover_last<
-    H: Wait + Threads + Clock + AllocGlobal + Sync,
-    W: Wire + Send + Drop,
-    S: Store,
-    O: Write,
->(
+fn recover_last<H: Host, W: Wire + Send + Drop, S: Store, O: Write>(
     rt: &H,
     wire: NumberedWire<W>,
     folder: &str,
@@ -320,12 +320,7 @@ fn recover_last<
 }
 
 /// Recovers a line, and writes the image files to their slaves of which that is said.
-fn recover<
-    H: Wait + Threads + Clock + AllocGlobal + Sync,
-    W: Wire + Send + Drop,
-    S: Store,
-    O: Write,
->(
+fn recover<H: Host, W: Wire + Send + Drop, S: Store, O: Write>(
     rt: &H,
     wire: NumberedWire<W>,
     line: &str,
@@ -337,6 +332,45 @@ fn recover<
         return mend_line(rt, wire, line, asked, store, output).into_ended();
     }
     all_done(recover_line(rt, wire, line, asked, store, output).into_ended())
+}
+
+/// Prints what a recovery is still to write to a line, that of the last call that changed one slave where none is named, and gives up a slave and
+/// recovers the others, if that is said.
+fn pending<H: Host, W: Wire + Send + Drop, S: Store, O: Write>(
+    rt: &H,
+    wire: NumberedWire<W>,
+    order: PendingOrder<'_>,
+    folder: Option<&str>,
+    store: &mut S,
+    output: &mut O,
+) -> Result<ExitStatus, WireFault> {
+    let Some(folder) = folder else {
+        return list_or_give_up(rt, wire, order, store, output);
+    };
+    let line = last_line(rt.alloc(), folder)?;
+    let line = line.as_str();
+    list_or_give_up(rt, wire, PendingOrder { line, ..order }, store, output)
+}
+
+/// Prints what a recovery is still to write to a line, and gives up a slave and recovers the others, if that is said.
+fn list_or_give_up<H: Host, W: Wire + Send + Drop, S: Store, O: Write>(
+    rt: &H,
+    wire: NumberedWire<W>,
+    order: PendingOrder<'_>,
+    store: &mut S,
+    output: &mut O,
+) -> Result<ExitStatus, WireFault> {
+    let mut wire = wire;
+    match (
+        list_pending(rt, &mut wire, order, store, output),
+        order.gives_up,
+    ) {
+        (Ok(()), Some(_)) => recover(rt, wire, order.line, order.asked, store, output),
+        (ended, _) => {
+            drop(wire);
+            all_done(ended)
+        }
+    }
 }
 
 /// Whether image files are to be written to their slaves.
@@ -356,36 +390,30 @@ where
 }
 
 /// The exit status for a result: that of what was done, or that of the fault, which is printed, with what there is to tell of it if `is_reported`.
-fn status_of<S: Store, E: Write>(
+fn status_of<S: Store, O: Write, E: Write>(
     ended: Result<ExitStatus, WireFault>,
     is_reported: bool,
     store: &Noting<'_, S>,
+    lines: &mut LineRows<'_, O>,
     faults: &mut E,
 ) -> ExitStatus {
     match ended {
         Ok(status) => status,
         Err(fault) => {
             let _ = writeln!(faults, "{fault}");
-            if is_reported {
-                let _ = fault.tell(faults);
-                if let WireFault::Station(fault) = fault {
-                    tell_file(fault, OUTPUT, store, faults);
+            put_fault(fault, lines);
+            match fault {
+                _ if !is_reported => {}
+                WireFault::Station(station) if !matches!(station, Fault::SlaveDead { .. }) => {
+                    let reported = store.reported(station.code(), OUTPUT);
+                    tell_more("sii_wire", station.code(), reported, faults);
+                }
+                _ => {
+                    let _ = fault.tell(faults);
                 }
             }
             fault.status()
         }
-    }
-}
-
-/// Prints which file a fault is about, what is wrong there and where, if it is about one; `streams` where it can be about these alone.
-fn tell_file<S: Store, E: Write>(
-    fault: Fault,
-    streams: &str,
-    store: &Noting<'_, S>,
-    faults: &mut E,
-) {
-    if let Some(reported) = store.reported(fault.code(), streams) {
-        let _ = writeln!(faults, "{reported}; see sii_wire explain");
     }
 }
 

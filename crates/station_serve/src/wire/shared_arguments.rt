@@ -9,21 +9,17 @@ pub(crate) const SCRIPT: Argument = Argument {
     long_help: "",
 };
 
-/// The help text on sizes.
-const WORDS_HELP: &str =
-    "How many words the EEPROMs of slaves have, as their data sheets say it: 64 to 4096, a
-multiple of 64. It is needed for blank EEPROMs, whose size can't be told. Later
-calls take the size of each slave from its image file.
-
-Example:
-  sii_wire -i eth0 backup line.toml --words 0=512,3=1024";
-
 /// The sizes of EEPROMs.
 pub(crate) const WORDS: Argument = Argument {
     id: "words",
     kind: Kind::Text("SLAVE=N,.."),
     help: "How many words the EEPROMs of these slaves have",
-    long_help: WORDS_HELP,
+    long_help: "How many words the EEPROMs of slaves have, as their data sheets say it: 64 to 4096, a
+multiple of 64. It is needed for blank EEPROMs, whose size can't be told. Later
+calls take the size of each slave from its image file.
+
+Example:
+  sii_wire -i eth0 backup line.toml --words 0=512,3=1024",
 };
 
 pub(crate) const TRUST: Argument = Argument {
@@ -54,32 +50,24 @@ pub(crate) const ANY_DEVICE: Argument = Argument {
     long_help: "",
 };
 
-/// The help text on work beside a master.
-const BESIDE_HELP: &str =
-    "A master keeps the line running, and lends the wire. Slaves keep the station addresses
-that it gave them, and nothing is written but registers 0x0500 to 0x050f, those of the
-EEPROM. An EEPROM that was offered to a PDI is asked for, and is handed back at the end.";
-
 /// Work beside a master.
 pub(crate) const BESIDE: Argument = Argument {
     id: "beside",
     kind: Kind::Flag,
     help: "Works beside a master that lends the wire, and leaves its line running",
-    long_help: BESIDE_HELP,
+    long_help: "A master keeps the line running, and lends the wire. Slaves keep the station addresses
+that it gave them, and nothing is written but registers 0x0500 to 0x050f, those of the
+EEPROM. An EEPROM that was offered to a PDI is asked for, and is handed back at the end.",
 };
-
-/// The help text on how much a message to a master may hold.
-const CARRY_HELP: &str =
-    "A message to the master holds up to N datagrams (1 to 64), of each slave one at most,
-which take up to BYTES bytes (28 to 1486), each with its header and working counter.
-Where nothing is said it holds one.";
 
 /// How much a message to a master may hold.
 pub(crate) const CARRY: Argument = Argument {
     id: "carry",
     kind: Kind::Text("N[,BYTES]"),
     help: "Lets a message to the master hold several datagrams",
-    long_help: CARRY_HELP,
+    long_help: "A message to the master holds up to N datagrams (1 to 64), of each slave one at most,
+which take up to BYTES bytes (28 to 1486), each with its header and working counter.
+Where nothing is said it holds one.",
 };
 
 /// Beside a master, EEPROMs are taken from PDIs that have them.
@@ -98,9 +86,9 @@ pub(crate) const QUIET: Argument = Argument {
     long_help: "Draws no line with the progress, and prints no second line of a fault, which says what
 was seen and what to do. Without this option, where standard error is a terminal
 and the work takes longer than a second, a line there says how many words were read
-and how many were written, each as often as that was done, and how many slaves are
-busy with one. It is drawn over itself ten times a second at most, and erased before
-anything else is printed and at the end.",
+and how many were written, of how many, how many slaves are busy with one, how many
+are done, and about how many seconds are left. It is drawn over itself ten times a
+second at most, and erased before anything else is printed and at the end.",
 };
 
 /// What happens, as it happens.
@@ -118,9 +106,12 @@ pub(crate) const EVENTS: Argument = Argument {
                    prints it. It counts once the slaves start again",
 };
 
-/// The help text on capture files.
-const CAPTURE_FILE: &str =
-    "Writes each frame to FILE as it goes over the wire, also one that is sent again, and
+/// The option.
+pub(crate) const CAPTURE: Argument = Argument {
+    id: "capture",
+    kind: Kind::Text("FILE"),
+    help: "Writes the frames on the wire to FILE, in the pcap format",
+    long_help: "Writes each frame to FILE as it goes over the wire, also one that is sent again, and
 each EtherCAT frame that comes, in the pcap format with times in nanoseconds: open
 it with Wireshark or tshark. The source address tells the way: 00:10:20:30:40:50
 out, and 02:10:20:30:40:50 back, as slaves mark it. A capture that is there already
@@ -129,57 +120,52 @@ FILE can't be written further, the work goes on and tells it at its end.
 
 Example:
   sii_wire -i eth0 run line.toml script.toml --capture frames.pcap
-  tshark -r frames.pcap";
-
-/// The option.
-pub(crate) const CAPTURE: Argument = Argument {
-    id: "capture",
-    kind: Kind::Text("FILE"),
-    help: "Writes the frames on the wire to FILE, in the pcap format",
-    long_help: CAPTURE_FILE,
+  tshark -r frames.pcap",
 };
-
-/// The help text on which of a slave and its image file is right.
-const FOUND_HELP: &str =
-    "Takes the words of these slaves into their image files, where they differ: the slaves
-are right, as where another tool changed them, or one of another type was put there.
-Words that a recovery writes are written all the same.
-
-Example:
-  sii_wire -i eth0 recover line.toml --found 2,3";
 
 /// Slaves that are right.
 pub(crate) const FOUND: Argument = Argument {
     id: "found",
     kind: Kind::Text("SLAVE,.."),
     help: "These slaves are right, and not their image files",
-    long_help: FOUND_HELP,
-};
+    long_help: "Takes the words of these slaves into their image files, where they differ: the slaves
+are right, as where another tool changed them, or one of another type was put there.
+Words that a recovery writes are written all the same.
 
-/// The help text on image files that are right.
-const FILE_HELP: &str =
-    "Writes to these slaves what their image files have, where they differ, as a command of
-its own before all others: the image files are right, as where another tool changed the
-slaves, or a power cut tore words beside one. A cut of that is recovered as any other.";
+Example:
+  sii_wire -i eth0 recover line.toml --found 2,3",
+};
 
 /// Slaves whose image files are right.
 pub(crate) const FILE: Argument = Argument {
     id: "file",
     kind: Kind::Text("SLAVE,.."),
     help: "The image files of these slaves are right",
-    long_help: FILE_HELP,
+    long_help: "Writes to these slaves what their image files have, where they differ, as a command of
+its own before all others: the image files are right, as where another tool changed the
+slaves, or a power cut tore words beside one. A cut of that is recovered as any other.",
 };
 
-/// The help text on slaves that were exchanged.
-const EXCHANGED_HELP: &str =
-    "Writes to these slaves what their places had, as --file does, but for the serial
-number, which stays: each was exchanged for one of the same vendor and product. One of
-another type is refused.";
+/// The slave that is given up.
+pub(crate) const GIVE_UP: Argument = Argument {
+    id: "give-up",
+    kind: Kind::Text("SLAVE"),
+    help: "Gives this slave up, and recovers the others",
+    long_help: "Gives this slave up, as where its EEPROM is write protected: what is listed of it isn't
+done. It keeps the words that it has, also torn ones, and its image file gets them. The
+journal then has nothing for it, and the line is recovered: the other slaves get all
+that they are to have. A command may so be done in part.
+
+Example:
+  sii_wire -i eth0 pending line.toml --give-up 2",
+};
 
 /// Slaves that were exchanged.
 pub(crate) const EXCHANGED: Argument = Argument {
     id: "exchanged",
     kind: Kind::Text("SLAVE,.."),
     help: "These slaves were exchanged, and get what their places had",
-    long_help: EXCHANGED_HELP,
+    long_help: "Writes to these slaves what their places had, as --file does, but for the serial
+number, which stays: each was exchanged for one of the same vendor and product. One of
+another type is refused.",
 };

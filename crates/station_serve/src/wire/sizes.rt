@@ -1,6 +1,6 @@
 //! The sizes of slaves' EEPROMs, as text.
 
-use sii_words::is_device_size;
+use sii_words::{MAX_SLAVES, is_device_size};
 use wire_bringup::Sizes;
 
 /// The number of a slave and its number of words, from `SLAVE=N`.
@@ -9,8 +9,9 @@ fn size_of(text: &str) -> Option<(usize, u16)> {
     let (Ok(slave), Ok(words)) = (slave.parse::<u8>(), words.parse::<u16>()) else {
         return None;
     };
-    if slave < 64 && is_device_size(usize::from(words)) {
-        Some((usize::from(slave), words))
+    let slave = usize::from(slave);
+    if slave < MAX_SLAVES && is_device_size(usize::from(words)) {
+        Some((slave, words))
     } else {
         None
     }

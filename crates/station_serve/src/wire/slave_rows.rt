@@ -1,7 +1,7 @@
 //! The rows of the subcommands on one slave, with their help.
 
 use crate::arguments::JSON;
-use crate::images::ALL;
+use crate::images::{ALL, VERIFY_ANSWERS};
 use crate::wire::shared_arguments::{
     ANY_DEVICE, BESIDE, CAPTURE, CARRY, FORCE, QUIET, RESIZE, TAKE, WORDS,
 };
@@ -42,7 +42,7 @@ const NEW_ALIAS: Argument = Argument {
     long_help: "",
 };
 
-const OUTPUT_FILE: Argument = Argument {
+const OUTPUT: Argument = Argument {
     id: "output",
     kind: Kind::ShortText("FILE", 'o'),
     help: "Writes the image to FILE, which may not be there with other words",
@@ -56,16 +56,7 @@ const READ: Subcommand = Subcommand {
     after_help: "Examples:\n  sii_wire -i eth0 read 2 > slave.bin\n  sii_wire -i eth0 read --alias 1001 -o slave.bin",
     after_long_help: "",
     arguments: &[
-        P,
-        BY_ALIAS,
-        BY_DEVICE,
-        OUTPUT_FILE,
-        WORDS,
-        BESIDE,
-        CARRY,
-        TAKE,
-        CAPTURE,
-        QUIET,
+        P, BY_ALIAS, BY_DEVICE, OUTPUT, WORDS, BESIDE, CARRY, TAKE, CAPTURE, QUIET,
     ],
 };
 
@@ -105,13 +96,6 @@ pub(crate) fn diff_row() -> Subcommand {
     DIFF
 }
 
-/// The help text on what `verify` prints.
-const VERIFY_ANSWERS: &str = "Answers:
-  word 0xW found 0xF expected 0xE
-                   word W of the slave is F, and E in the file
-  words N wrong M  N words were compared, those that both have, and M differ
-The exit status is 0 where none differs, and 1 where some do.";
-
 const VERIFY: Subcommand = Subcommand {
     name: "verify",
     about: "Looks whether one slave has the words of an image file",
@@ -148,7 +132,7 @@ const ALIAS: Subcommand = Subcommand {
     after_help: "Examples:\n  sii_wire -i eth0 alias 2 1001\n  sii_wire -i eth0 alias --alias 1001 7",
     after_long_help: CHANGE_ANSWERS,
     arguments: &[
-        P, NEW_ALIAS, BY_ALIAS, BY_DEVICE, WORDS, BESIDE, CARRY, FORCE, CAPTURE, QUIET,
+        P, NEW_ALIAS, BY_ALIAS, BY_DEVICE, JSON, WORDS, BESIDE, CARRY, FORCE, CAPTURE, QUIET,
     ],
 };
 
@@ -164,8 +148,8 @@ const WRITE: Subcommand = Subcommand {
     after_help: "Example:\n  sii_wire -i eth0 write 2 slave.bin",
     after_long_help: CHANGE_ANSWERS,
     arguments: &[
-        P, IMAGE, ANY_DEVICE, BY_ALIAS, BY_DEVICE, WORDS, BESIDE, CARRY, FORCE, RESIZE, CAPTURE,
-        QUIET,
+        P, IMAGE, ANY_DEVICE, BY_ALIAS, BY_DEVICE, JSON, WORDS, BESIDE, CARRY, FORCE, RESIZE,
+        CAPTURE, QUIET,
     ],
 };
 

@@ -14,11 +14,7 @@ pub enum Which {
     /// The one with this configured station alias.
     Alias(u16),
     /// The one of this vendor and with this product code; with this serial number too, if one is said.
-    Device {
-        vendor: u32,
-        product: u32,
-        serial: Option<u32>,
-    },
+    Device(u32, u32, Option<u32>),
 }
 
 impl Which {
@@ -28,14 +24,7 @@ impl Which {
             (Which::Place(wanted), _) => place == wanted,
             (_, None) => false,
             (Which::Alias(alias), Some(words)) => words.alias() == alias,
-            (
-                Which::Device {
-                    vendor,
-                    product,
-                    serial,
-                },
-                Some(words),
-            ) => {
+            (Which::Device(vendor, product, serial), Some(words)) => {
                 let own = words.identity();
                 own.vendor == vendor
                     && own.product == product
@@ -118,9 +107,5 @@ fn device_in(text: &str) -> Option<Which> {
         Some((product, serial)) => (product, Some(number_in(serial)?)),
         None => (after, None),
     };
-    Some(Which::Device {
-        vendor: number_in(vendor)?,
-        product: number_in(product)?,
-        serial,
-    })
+    Some(Which::Device(number_in(vendor)?, number_in(product)?, serial))
 }

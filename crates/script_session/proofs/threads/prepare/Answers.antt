@@ -1,3 +1,4 @@
+use Rattle.std.proofs.Common.{refl}
 use Rattle.script_session.proofs.SeparateLaws.{same_servable}
 use Rattle.script_session.proofs.threads.prepare.Goals as goal
 
@@ -17,7 +18,7 @@ returns-in-Err-clause-failed g c =
     let parts = c.into_parts-parts in
     record {
       part = c.reported_by-reported.result;
-      line = c.unbegun.ensures;
+      line = refl;
       tells_it = (parts.result.1, c.reported_by-reported.ensures c.args.site.seen parts.ensures.device c.has_stopped-has_stopped.ensures);
     }
 

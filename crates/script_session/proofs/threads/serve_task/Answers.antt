@@ -3,7 +3,6 @@ use Rattle.std.specs.Prelude.{vec_capacity}
 use Rattle.site_core.specs.Line.{Line}
 use Rattle.book_model.specs.Book.{Book}
 use Rattle.station_line.specs.Site.{IsFollowed}
-use Rattle.script_session.specs.AtDesk.{IsUnservedReported}
 use Rattle.script_session.specs.Parts.{IsSeparate, Sites}
 use Rattle.script_session.proofs.SeparateLaws.{separate_reported}
 use Rattle.script_session.proofs.DeskLaws.{as-many-ends, ends-separate, line-reported, served-at-desk, serves-parts}
@@ -58,11 +57,10 @@ pub returns-in-Err-serve_at_desk-clause-failed : goal.returns-in-Err-serve_at_de
 returns-in-Err-serve_at_desk-clause-failed g c =
     let parts = c.into_parts-core in
     let reported = c.reported_unserved in
-    subst (IsUnservedReported g.D.Device.follows g.D.Device.well g.D.Lends.tells c.args.alone c.args.task.work.commands.items) (sym c.separate.ensures)
-    (separate_reported g.D.Device.follows g.D.Device.well g.D.Lends.tells c.args.alone c.args.task.work.commands.items parts.result.1.seen c.in-Err-serve_at_desk.sites reported.result
+    separate_reported g.D.Device.follows g.D.Device.well g.D.Lends.tells c.args.alone c.args.task.work.commands.items parts.result.1.seen c.in-Err-serve_at_desk.sites reported.result
     c.in-Ok.prepared.entire.reported parts.ensures.seen
     (subst (λ (sites : Sites). IsSeparate parts.result.1.seen.state sites) (sym c.in-Err-serve_at_desk.ensures.handed_back) c.in-Ok.ensures.sites.separate)
-    c.in-Ok.ensures.reported reported.ensures.line reported.ensures.disk reported.ensures.slaves)
+    c.in-Ok.ensures.reported reported.ensures.line reported.ensures.disk reported.ensures.slaves
 
 pub reported_unserved-requires-clause-reserved : goal.reported_unserved-requires-clause-reserved
 reported_unserved-requires-clause-reserved g c =

@@ -14,5 +14,5 @@ pub of-requires-clause-most : goal.of-requires-clause-most
 of-requires-clause-most c =
     let count = slave-count c.args.lengths.now c.args.bytes.now c.in-Ok.slaves.items c.in-Ok.ensures.ok.1 in
     let len = c.in-Ok.slaves.ok.0 in
-    let few = c.if-lengths-gt64.false in
+    let few = c.if-lengths-gt-MAX_SLAVES.false in
     omega arith

@@ -6,7 +6,7 @@ use Rattle.station_listing.specs.declared.codes.TheConstants.{CODES}
 use Rattle.station_listing.proofs.codes.each_code_is_listed.Goals as goal
 
 -- the place of each code in the table
-listed : (code : Code) → (place : ℕ) × place < 60 × slice_index_or CODES place code ≡ code
+listed : (code : Code) → (place : ℕ) × place < 61 × slice_index_or CODES place code ≡ code
 listed codes.OddLength = (0, omega arith, refl)
 listed codes.BadSize = (1, omega arith, refl)
 listed codes.RunsOut = (2, omega arith, refl)
@@ -67,6 +67,7 @@ listed codes.OtherSize = (56, omega arith, refl)
 listed codes.StationAddress = (57, omega arith, refl)
 listed codes.OtherDevice = (58, omega arith, refl)
 listed codes.OtherWords = (59, omega arith, refl)
+listed codes.NothingPending = (60, omega arith, refl)
 
 pub returns : goal.returns
 returns c = listed c.args.code

@@ -5,7 +5,7 @@ use Rattle.station_text.specs.LineText.{AreImages, NamesImage}
 use Rattle.sii_words.proofs.ListedMembers.{AllZip-take-item}
 use Rattle.station_text.proofs.Readings.{none_for_item, passed_on, same_count}
 use Rattle.station_text.proofs.line_file.read_image_names.Goals as goal
-use Rattle.station_text.proofs.line_file.read_image_names.Goals.{then-is_empty-via-then-is_empty, then-is_empty-via-else-is_empty+then-slaves-gt64}
+use Rattle.station_text.proofs.line_file.read_image_names.Goals.{then-is_empty-via-then-is_empty, then-is_empty-via-else-is_empty+then-slaves-gt-MAX_SLAVES}
 
 -- none or too many slaves
 no_images : (slaves : List Value) → (1 ≤ length slaves → length slaves ≤ 64 → ⊥) → (images : List (String Global)) → ¬ AreImages (map view slaves) images
@@ -17,7 +17,7 @@ pub returns-then-is_empty : goal.returns-then-is_empty
 returns-then-is_empty c =
     inr (no_images c.args.slaves.now (λ some most. elim c.then-is_empty.branch [
       | then-is_empty-via-then-is_empty w ↦ search rules
-      | then-is_empty-via-else-is_empty+then-slaves-gt64 w ↦ search rules
+      | then-is_empty-via-else-is_empty+then-slaves-gt-MAX_SLAVES w ↦ search rules
     ]))
 
 pub loop-slave-preserved : goal.loop-slave-preserved

@@ -1,0 +1,10 @@
+use denote.Text.{Utf8}
+use denote.Shadow.{shadow}
+use Rattle.station_rows.proofs.lines.read_cells.Given as goal
+
+-- what is left of the line is text
+abbrev pub invariant-loop-token : goal.invariant-loop-token
+invariant-loop-token l =
+    (goal.iterator-loop-token).can_next l.token-iterator ×
+    (goal.iterator-loop-token).is_finite l.token-iterator ×
+    shadow (Utf8 l.rest)

@@ -1,0 +1,11 @@
+use Rattle.wire_scan.proofs.GivingUp.{given_found, refused_after}
+use Rattle.wire_scan.proofs.pending.list_pending.Goals as goal
+
+pub returns-in-Ok-clause-given : goal.returns-in-Ok-clause-given
+returns-in-Ok-clause-given g c =
+    given_found c.args.order.gives_up c.list_found.result (g.S.Store.files c.args.store.now) (g.S.Store.files c.find_line.new.store) (g.S.Store.files c.list_found.new.store) c.args.order.line.now
+    c.in-Ok.found.line c.in-Ok.found.slaves.items c.in-Ok.found.journal.items c.find_line.ensures.same c.in-Ok.ensures.found c.list_found.ensures.given
+
+pub returns-in-Ok-clause-refused : goal.returns-in-Ok-clause-refused
+returns-in-Ok-clause-refused g c =
+    refused_after c.list_found.result (g.S.Store.files c.args.store.now) (g.S.Store.files c.find_line.new.store) (g.S.Store.files c.list_found.new.store) c.find_line.ensures.same c.list_found.ensures.refused
