@@ -196,12 +196,12 @@ pub record PartsFollowed {D : Type 0} (follows : D → Seen → Type 0) (opened 
   pub parts : AreFollowed follows ends
   pub synced : ends.flusher.site.seen.state.disk ≡ of_bytes ends.flusher.site.seen.state.disk.bytes
 
--- The parts were served so, without a site for process data, devices have kept this of them, and this is told of the devices: each part ended
--- soundly.
-pub record IsServedReported {D T : Type 0} (follows : D → Seen → Type 0) (well : D → Type 0) (tells : D → T → Type 0) (opened : Station)
-    (reported : DeskLog T) (site : SiteValue) : Type 0 where
+-- The parts were served so, one for process data among them exactly where `turns` says so, devices have kept this of them, and this is told of the
+-- devices: each part ended soundly.
+pub record IsServedReported {D T : Type 0} (follows : D → Seen → Type 0) (well : D → Type 0) (tells : D → T → Type 0) (turns : Bool)
+    (opened : Station) (reported : DeskLog T) (site : SiteValue) : Type 0 where
   pub served : PartsAreServed opened site
-  pub still : is_some served.sites.cycle ≡ false
+  pub turning : is_some served.sites.cycle ≡ turns
   pub followed : PartsFollowed (Soundly follows well) opened served.ends
   pub devices : IsDeskReported follows well tells opened.seen reported served.ends
   pub sound : AreSound reported

@@ -18,29 +18,29 @@ use std::io::Write;
 
 /// A line that a desk has left.
 #[derive(Drop)]
-pub struct DeskLeft<S> {
+pub(crate) struct DeskLeft<S> {
     /// The site of the line.
-    pub site: S,
+    pub(crate) site: S,
     /// Whether the commands were submitted at the desk.
-    pub is_driven: bool,
+    pub(crate) is_driven: bool,
     /// The commands where they were not submitted, and otherwise none.
-    pub commands: Vec<Command>,
+    pub(crate) commands: Vec<Command>,
 }
 
 /// How the work on a line ended, and what is reported of its device.
 #[derive(Drop)]
-pub struct LineEnd<T> {
+pub(crate) struct LineEnd<T> {
     /// The status of the answers that were given, or the fault that ended the work.
-    pub ended: Result<ExitStatus, Fault>,
+    pub(crate) ended: Result<ExitStatus, Fault>,
     /// What the line's device tells.
-    pub reported: T,
+    pub(crate) reported: T,
 }
 
 /// Recovers a line that a desk has left, and saves what it holds. If the commands were not submitted at the desk, they are served between the two.
 /// After a fault nothing more is written.
 ///
 /// The result is the fault of the recovery, as `of_open` gives it; then that of `serve_commands`; then that of `save_reported`.
-pub fn end_line<D: Lends, S: Store, O: Write>(
+pub(crate) fn end_line<D: Lends, S: Store, O: Write>(
     alloc: Global,
     line: &LineFile,
     left: DeskLeft<ShadowSite<D>>,
@@ -142,7 +142,7 @@ fn save_station<D: Lends, S: Store>(
 }
 
 /// What is reported of the device of a line that isn't worked on any more.
-fn reported_of<D: Lends>(site: ShadowSite<D>) -> D::Logged
+pub fn reported_of<D: Lends>(site: ShadowSite<D>) -> D::Logged
     ensures { IsFollowed (Tells D.follows D.tells result) site.seen }
 {
     let (parts, mut device) = site.into_parts();

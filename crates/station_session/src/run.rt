@@ -3,22 +3,18 @@ ghost use Rattle.std.specs.Prelude.{◌≡◌, is_some, false, IfErr, IfOk, IsTr
 ghost use Rattle.station_files.specs.Faults.{IsFaultless};
 ghost use Rattle.station_line.specs.Opened.{is_old, IsFresh};
 ghost use Rattle.station_line.specs.Refusals.{RefusesRun};
-ghost use Rattle.station_session.specs.RunFiles.{IsAllReported, IsNoneReported, KeepsRunFiles, RunKeepsFiles, RunsFollowed};
+ghost use Rattle.station_session.specs.RunFiles.{IsAllReported, IsNoneReported, KeepsRunFiles, RunKeepsFiles};
 ghost use Rattle.station_session.specs.Session.{EndsRun, RunsFiles};
 
 use crate::answers::AnswerStreams;
 use crate::fused::{Fuse, run_fused};
-use crate::logs::{FilesLog, RunLog, Served, with_all_reported};
-use crate::threads::run_threads;
+use crate::logs::{FilesLog, with_all_reported};
 use crate::watch::Watch;
 use line_watch::{Cleared, Watched};
-use sii_edit::Command;
-use site_file::{FileDevice, FileLog, OpenFiles};
-use site_mem::FaultPlan;
-use site_shadow::{Lends, ShadowSite};
-use station_files::{ExitStatus, Failures, Fault, Store};
-use station_line::{LoadedLine, Session, load, of_open, open_files, open_station};
-use station_text::LineFile;
+use script_session::{LineRun, RunLog, Start, Task, Work, run_line};
+use site_file::{FileDevice, OpenFiles};
+use station_files::{ExitStatus, Fault, Store, worse};
+use station_line::{LoadedLine, Session, load, open_files};
 use std::io::Write;
 use std::rt::Clock;
 use std::sync::Wait;
@@ -54,19 +50,13 @@ impl Ran {
         Ran {
             is_begun,
             status,
-            reported: RunLog::nothing(),
+            reported: RunLog {
+                opening: None,
+                desk: None,
+                after: None,
+            },
         }
     }
-}
-
-/// A line to be opened on a device, and the commands for it.
-#[derive(Drop)]
-struct Ready<D> {
-    site: ShadowSite<FaultPlan>,
-    device: D,
-    /// Whether the journal's version byte is other than 2.
-    is_old: bool,
-    commands: Vec<Command>,
 }
 
 /// Runs a script on a line: submits its commands in order, serves them by threads on the line's files, and prints the answer to each command
@@ -141,14 +131,7 @@ fn run_given<S: Store, W: Write, T: Write + Send, R: Wait + Threads + Clock + Al
             &given.session.site,
             store,
         ) {
-            Ok(files) => {
-                let served = run_opened(watch, given, files, store, answers);
-                Ran {
-                    is_begun: true,
-                    status: served.status,
-                    reported: served.reported,
-                }
-            }
+            Ok(files) => run_opened(watch, given, files, store, answers),
             Err(fault) => {
                 drop(given);
                 Ran::without_files(false, answers.failures.note(fault))
@@ -164,10 +147,11 @@ fn run_opened<S: Store, W: Write, T: Write + Send, R: Wait + Threads + Clock + A
     files: OpenFiles<S::File>,
     store: &mut S,
     answers: AnswerStreams<'_, W>,
-) -> Served<FileLog>
+) -> Ran
     requires fresh { IsFresh given.session.line given.session.site }
     requires old { given.session.is_old ≡ is_old given.session.site.seen.state.disk.bytes }
     ensures ends { EndsRun false (S.files store.old) (S.files store.new) given.session.line given.session.site given.commands.items result.status }
+    ensures begun { IsTrue result.is_begun }
     ensures kept { RunKeepsFiles S.File given.session.site.seen given.commands.items result.status result.reported }
     ensures reported { IsFaultless result.status → IsAllReported result.reported }
 {
@@ -182,58 +166,36 @@ fn run_opened<S: Store, W: Write, T: Write + Send, R: Wait + Threads + Clock + A
         lock: _lock,
     } = session;
     watch.expect(commands.len());
-    let ready = Ready {
-        site,
-        device: Watched::new(FileDevice::new(files), progress, rt),
+    let start = Start {
+        site: site.with_device(Watched::new(FileDevice::new(files), progress, rt)),
         is_old,
-        commands,
     };
-    let served = run_site(
+    let task = Task {
+        work: Work {
+            commands,
+            tells_events: false,
+        },
+        turns: true,
+    };
+    let LineRun {
+        answers,
+        closed,
+        ended,
+        reported,
+    } = run_line(
         rt,
         &line,
-        ready,
+        start,
+        task,
         store,
         &mut Cleared::new(output, progress, rt),
-        failures,
     );
-    let served = with_all_reported(served, failures);
+    let noted = worse(failures.note_end(closed), failures.note_status(ended));
+    let status = with_all_reported(worse(answers, noted), &reported, failures);
     watch.erase();
-    served
-}
-
-/// Opens the station on this line, and serves the commands by threads.
-fn run_site<D: Lends + Send, S: Store, W: Write, R: Wait + Threads + AllocGlobal + Sync>(
-    rt: &R,
-    line: &LineFile,
-    ready: Ready<D>,
-    store: &mut S,
-    output: &mut W,
-    failures: &mut Failures,
-) -> Served<D::Logged>
-    requires fresh { IsFresh line.now ready.site }
-    requires old { ready.is_old ≡ is_old ready.site.seen.state.disk.bytes }
-    ensures ends { EndsRun false (S.files store.old) (S.files store.new) line.now ready.site ready.commands.items result.status }
-    ensures goes { RunsFollowed D.follows D.well D.tells ready.site.seen ready.commands.items result.status result.reported }
-{
-    let Ready {
-        site,
-        device,
-        is_old,
-        commands,
-    } = ready;
-    match open_station(rt.alloc(), site.with_device(device), is_old) {
-        Ok(alone) => {
-            let answers = AnswerStreams { output, failures };
-            run_threads(rt, line, alone, commands, store, answers)
-        }
-        Err((left, fault)) => {
-            let (parts, mut device) = left.into_parts();
-            drop(parts);
-            drop(commands);
-            Served {
-                status: failures.note(of_open(fault)),
-                reported: RunLog::of_opening(device.tell()),
-            }
-        }
+    Ran {
+        is_begun: true,
+        status,
+        reported,
     }
 }

@@ -1,5 +1,5 @@
 -- Real slaves hold the contents of a station whose line was recovered on a wire.
-use Rattle.std.proofs.Common.{◌≡◌, ◌≢◌, ℕ, zero, suc, ◌+◌, ◌<◌, false, List, [], ◌∷◌, ◌++◌, length, map, get_or, inl}
+use Rattle.std.proofs.Common.{Bool, ◌≡◌, ◌≢◌, ℕ, zero, suc, ◌+◌, ◌<◌, false, List, [], ◌∷◌, ◌++◌, length, map, get_or, inl}
 use Rattle.std.proofs.Common.{Option, Some, None, IsTrue, slice_get, refl, sym, ap, subst, ◌∙◌, arith}
 use Rattle.std.specs.List.{AllByRecursion}
 use Rattle.std.proofs.lemmas.List.{length-map}
@@ -39,9 +39,10 @@ use Rattle.script_session.specs.AtDesk.{IsServedReported}
 use Rattle.script_session.specs.Saving.{KeepsReported}
 use Rattle.script_session.proofs.SavingLaws.{keeps_reported}
 use Rattle.script_session.proofs.SlaveLaws.{placed-at}
-use Rattle.wire_session.specs.declared.logs.LineLog.{LineLog}
+use Rattle.script_session.specs.declared.logs.LineLog.{LineLog}
+use Rattle.script_session.specs.Running.{EndsReported}
 use Rattle.wire_session.specs.Interleaving.{Interleaves}
-use Rattle.wire_session.specs.Slaves.{AreOfParts, EndsReported, SlavesHold, all_sent, sent_at_desk}
+use Rattle.wire_session.specs.Slaves.{AreOfParts, SlavesHold, all_sent, sent_at_desk}
 use Rattle.wire_session.proofs.Interleaved.{Misses, OthersMiss, lives_joined, own_part}
 
 -- PLACES
@@ -212,15 +213,15 @@ module _ {L F C D : Type 0} (within : D → WireDevice L F C) where
       subst (λ (p : Option LinePart). AreFor p (exchanges reported.sent)) (sym followed.1.1.journal.part)
       (subst (λ (sent : List Exchange). AreFor device.journal.asking.part (exchanges sent)) (sym followed.1.1.sent) (kept.own followed.1.0.1))
 
-  module _ (site : SiteValue) (slaves : ℕ) (s : Station) (reported : LineLog WireLog) (new : site.seen.past ≡ [])
-      (followed : EndsReported follows well tells site slaves reported s.seen) where
+  module _ (turns : Bool) (site : SiteValue) (slaves : ℕ) (s : Station) (reported : LineLog WireLog) (new : site.seen.past ≡ [])
+      (followed : EndsReported follows well tells turns site slaves reported s.seen) where
     abbrev opened : Station
     opened = followed.leads.opened
 
     abbrev left : SiteValue
     left = followed.leads.after.left
 
-    abbrev served : IsServedReported follows well tells opened reported.desk left
+    abbrev served : IsServedReported follows well tells turns opened reported.desk left
     served = followed.leads.after.served
 
     -- what is told of the device of a slave's part

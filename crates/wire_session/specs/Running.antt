@@ -1,40 +1,24 @@
 -- `run` on a wire: how the line that was found is served by threads, and what the files hold in the end.
 use Rattle.std.specs.Prelude.{◌≡◌, ◌⊎◌, ◌++◌, ℕ, false, List, length, map, Option, None, IsErr, IsTrue}
 use Rattle.sii_edit.specs.declared.command.Command.{Command}
-use Rattle.site_core.specs.State.{Seen}
 use Rattle.site_shadow.specs.Site.{SiteValue}
 use Rattle.station_text.specs.declared.line_file.LineFile.{LineFile}
 use Rattle.station_files.specs.Files.{Known}
 use Rattle.station_files.specs.ScriptFiles.{SpellsCommands}
 use Rattle.station_files.specs.declared.faults.ExitStatus.{ExitStatus}
-use Rattle.station_alone.specs.Station.{Station}
 use Rattle.station_files.specs.FileNames.{IsLineSeparate}
 use Rattle.station_files.specs.Locations.{Leads}
 use Rattle.station_line.specs.Validating.{HasJournal, IsRunSeparate}
 use Rattle.station_line.specs.Site.{IsSiteOf}
-use Rattle.script_session.specs.Saving.{SavesRun, Serves}
+use Rattle.script_session.specs.Saving.{SavesRun}
 use Rattle.wire_scan.specs.Keeping.{AreMends, AreOfImages}
 use Rattle.wire_scan.specs.Opening.{IsFound}
 use Rattle.wire_scan.specs.declared.asked.Mend.{Mend}
 use Rattle.site_wire.specs.declared.device.WireLog.{WireLog}
-use Rattle.wire_session.specs.declared.logs.LineLog.{LineLog}
+use Rattle.script_session.specs.declared.logs.LineLog.{LineLog}
 use Rattle.wire_session.specs.declared.logs.Worked.{Worked}
 use Rattle.wire_session.specs.Ending.{EndsOpened}
-use Rattle.script_session.specs.After.{SavesFollowed}
 use Rattle.wire_session.specs.Slaves.{SlavesAreSaved}
-
--- The commands were served by threads, and the files hold the result. Where the commands were submitted at the desk, the line was recovered behind
--- it, with `Way` said of what led there.
-pub record SavesDesk (Way : Seen → Type 0) (files : Known) (line : LineFile) (opened : Station) (commands : List Command)
-    (status : ExitStatus) : Type 0 where
-  pub serves : Serves false files line opened commands status
-  pub followed : IsTrue serves.is_driven → SavesFollowed Way files line
-
--- The same of a station that was opened on this site, after a recovery if the journal wasn't of version 2, as in a run on files.
-pub record SavesSite (Way : Seen → Type 0) (files : Known) (line : LineFile) (site : SiteValue) (commands : List Command)
-    (status : ExitStatus) : Type 0 where
-  pub saves : SavesRun false files line site commands status
-  pub followed : IsTrue saves.serves.is_driven → SavesFollowed Way files line
 
 -- The files hold the state of a station that was served on a site of slaves with these words and a journal with these bytes. Where threads could be
 -- made, so that the commands were submitted at a desk, so do the slaves, by what is told of the devices.

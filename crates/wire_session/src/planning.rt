@@ -4,7 +4,6 @@ ghost use Rattle.wire_session.specs.Planning.{PlansFound, PlansOnWire};
 
 use crate::running::{RunInputs, RunOrder, find_all};
 use sii_edit::Command;
-use sii_words::Words;
 use site_mem::FaultPlan;
 use station_files::{ExitStatus, Store};
 use station_line::{is_old, site_of};
@@ -68,24 +67,8 @@ fn plan_found<L: Drop, O: Write>(
         lock: _lock,
         tells: _,
     } = found;
-    plan_copy(alloc, &slaves, journal, commands, form, output)
-}
-
-/// Plans a run of the commands on slaves with these words and a journal with these bytes, in memory.
-fn plan_copy<O: Write>(
-    alloc: Global,
-    slaves: &[Words],
-    journal: Vec<u8>,
-    commands: Vec<Command>,
-    form: Form,
-    output: &mut O,
-) -> Result<ExitStatus, WireFault>
-    requires some { 1 ≤ length slaves.now }
-    requires most { length slaves.now ≤ 64 }
-    ensures { IfOk result (PlansFound slaves.now journal.items commands.items) }
-{
     let was_old = is_old(&journal);
-    let site = site_of(alloc, slaves, journal, FaultPlan::none())?;
+    let site = site_of(alloc, &slaves, journal, FaultPlan::none())?;
     match plan_line(alloc, site, was_old, commands, form, output) {
         Ok(status) => Ok(status),
         Err(fault) => Err(WireFault::Station(fault)),

@@ -1,29 +1,30 @@
 //! The subcommand `run`.
-ghost use Rattle.std.specs.Prelude.{◌≡◌, ◌≤◌, ◌∷◌, ◌++◌, [], length, map, None, IfOk, IfSome, IsSomeAnd, IsTrue, OnOk};
+ghost use Rattle.std.specs.Prelude.{◌≡◌, ◌≤◌, ◌∷◌, ◌++◌, [], false, length, map, None, Ok, IfOk, IfSome, IsOkAnd, IsSomeAnd, IsTrue, OnOk};
 ghost use Rattle.esc_rom.specs.Owned.{OwnsAll};
+ghost use Rattle.station_files.specs.Files.{ChangesAmong};
 ghost use Rattle.station_files.specs.FileNames.{files_with, written_of};
 ghost use Rattle.station_files.specs.Locations.{AreSeparate};
 ghost use Rattle.station_line.specs.Validating.{HasJournal, IsRunSeparate};
 ghost use Rattle.station_line.specs.Opened.{is_old};
+ghost use Rattle.station_line.specs.Site.{files_of};
+ghost use Rattle.script_session.specs.Running.{EndsReported, SavesSite};
 ghost use Rattle.wire_scan.specs.Opening.{IsFound};
-ghost use Rattle.wire_session.specs.Ending.{Ends};
 ghost use Rattle.wire_scan.specs.Keeping.{AreOfImages};
-ghost use Rattle.wire_session.specs.Running.{BeginsWithMends, EndsFound, RunsScript, SavesSite};
-ghost use Rattle.wire_session.specs.Slaves.{AreOfParts, EndsReported};
+ghost use Rattle.wire_session.specs.Running.{BeginsWithMends, EndsFound, RunsScript};
+ghost use Rattle.wire_session.specs.Slaves.{AreOfParts};
 
 use crate::as_found::AsFound;
 use crate::followed::followed;
-use crate::logs::Worked;
+use crate::logs::{Worked, are_of_parts};
 use crate::reporting::{report_end, tell_handed, tell_why};
-use crate::threads::run_threads;
 use line_changes::Before;
-use script_session::Work;
+use script_session::{LineRun, Start, Task, Work, run_line};
 use sii_edit::Command;
 use sii_words::Plant;
 use site_shadow::ShadowSite;
 use site_wire::{LiveLine, LockedLine, TellsPart, WireLog};
-use station_files::{ExitStatus, Fault, Script, Store, load_script};
-use station_line::{is_old, of_open, open_station, site_of};
+use station_files::{ExitStatus, Fault, Script, Store, load_script, worse};
+use station_line::{is_old, site_of};
 use station_text::LineFile;
 use std::alloc::{AllocError, Global};
 use std::io::Write;
@@ -54,14 +55,6 @@ pub struct RunOrder<'a> {
 pub(crate) struct RunInputs<L> {
     pub(crate) found: FoundWire<L>,
     pub(crate) commands: Vec<Command>,
-}
-
-/// A site on which a run begins.
-#[derive(Drop)]
-struct Start<S> {
-    site: S,
-    /// Whether its journal isn't of version 2.
-    was_old: bool,
 }
 
 /// Runs the script file that the order names on the line on this wire: submits its commands in order, after those that write image files to their
@@ -226,9 +219,13 @@ pub(crate) fn run_found<
         lock: _lock,
         tells,
     } = found;
-    let work = Work {
-        commands,
-        tells_events: tells.events,
+    // No process data go over a wire: no slave is in a state in which it takes them (ETG.1000.6).
+    let task = Task {
+        work: Work {
+            commands,
+            tells_events: tells.events,
+        },
+        turns: false,
     };
     let locked = LockedLine::new(LiveLine::new(wire));
     let as_found = AsFound {
@@ -240,7 +237,7 @@ pub(crate) fn run_found<
     let Worked {
         ended,
         reported: of_devices,
-    } = run_opened(rt, as_found, &locked, work, store, output);
+    } = run_opened(rt, as_found, &locked, task, store, output);
     let explained = tell_why(rt, &locked, ended);
     let mut wire = locked.into_line().into_wire();
     hand_back(&mut wire, &states);
@@ -264,7 +261,7 @@ fn run_opened<
     rt: &R,
     found: AsFound<'_>,
     locked: &LockedLine<W>,
-    work: Work,
+    task: Task,
     store: &mut S,
     output: &mut O,
 ) -> Worked<ExitStatus, WireLog>
@@ -272,8 +269,9 @@ fn run_opened<
     requires most { length found.slaves.now ≤ 64 }
     requires count { length found.slaves.now ≡ length found.line.now.images.items }
     requires images { length found.images.now ≡ length found.line.now.images.items }
+    requires still { task.turns ≡ false }
     ensures { EndsFound result (S.files store.old) (S.files store.new)
-        found.entry.line.now found.entry.slaves.now found.entry.journal.items work.commands.items }
+        found.entry.line.now found.entry.slaves.now found.entry.journal.items task.work.commands.items }
 {
     let AsFound {
         line,
@@ -285,46 +283,79 @@ fn run_opened<
         Ok(files) => files,
         Err(fault) => {
             drop(journal);
-            drop(work);
+            drop(task);
             return Worked::of_fault(fault);
         }
     };
-    let was_old = is_old(&journal);
+    let is_old = is_old(&journal);
     let images = Images::new(files.images);
     let device = followed(rt, locked, files.journal, &images);
     match site_of(rt.alloc(), slaves, journal, device) {
-        Ok(site) => run_site(rt, line, Start { site, was_old }, work, store, output),
+        Ok(site) => run_site(rt, line, Start { site, is_old }, task, store, output),
         Err(AllocError) => {
-            drop(work);
+            drop(task);
             Worked::of_fault(Fault::Memory)
         }
     }
 }
 
-/// Opens the station on this line, and serves the commands by threads.
+/// Runs the commands on this line. `Unserved` where a part's device isn't reported as its own.
 fn run_site<R: Wait + Threads + AllocGlobal + Sync, D: TellsPart + Send, S: Store, O: Write>(
     rt: &R,
     line: &LineFile,
     start: Start<ShadowSite<D>>,
-    work: Work,
+    task: Task,
     store: &mut S,
     output: &mut O,
 ) -> Worked<ExitStatus, D::Logged>
     requires disk { IsTrue start.site.line.has_disk }
     requires owned { OwnsAll start.site.line }
-    requires old { start.was_old ≡ is_old start.site.seen.state.disk.bytes }
+    requires old { start.is_old ≡ is_old start.site.seen.state.disk.bytes }
     ensures own { IfSome result.reported (λ reported. AreOfParts D.is_of reported.desk) }
-    ensures ends { Ends (SavesSite (λ last. IsSomeAnd result.reported (λ reported.
-        EndsReported D.follows D.well D.tells start.site (length line.now.images.items) reported last)) (S.files store.new) line.now
-        start.site work.commands.items) result.ended (S.files store.old) (S.files store.new) line.now }
+    ensures others { ChangesAmong (S.files store.old) (S.files store.new) (files_of line.now) }
+    ensures saved { IfOk result.ended (SavesSite (λ last. IsSomeAnd result.reported (λ reported.
+        EndsReported D.follows D.well D.tells task.turns start.site (length line.now.images.items) reported last)) (S.files store.new) line.now
+        start.site task.work.commands.items) }
 {
-    let Start { site, was_old } = start;
-    match open_station(rt.alloc(), site, was_old) {
-        Ok(alone) => run_threads(rt, line, alone, work, store, output),
-        Err((left, fault)) => {
-            drop(left);
-            drop(work);
-            Worked::of_fault(of_open(fault))
+    let LineRun {
+        answers,
+        closed,
+        ended,
+        reported,
+    } = run_line(rt, line, start, task, store, output);
+    let ended = end_of(answers, closed, ended);
+    match reported.whole() {
+        Some(whole) => {
+            if !are_of_parts::<D>(&whole.desk) {
+                drop(whole);
+                return Worked::of_fault(Fault::Unserved);
+            }
+            Worked {
+                ended,
+                reported: Some(whole),
+            }
         }
+        None => Worked {
+            ended,
+            reported: None,
+        },
+    }
+}
+
+/// How a run ended: with the highest status of the answers, or a fault, that of its desk first.
+fn end_of(
+    answers: ExitStatus,
+    closed: Result<(), Fault>,
+    ended: Result<ExitStatus, Fault>,
+) -> Result<ExitStatus, WireFault>
+    ensures closed { OnOk result (closed ≡ Ok tt) }
+    ensures ended { IfOk result (λ status. IsOkAnd ended (λ given. status ≡ ExitStatus.Done → (answers ≡ ExitStatus.Done) × (given ≡ ExitStatus.Done))) }
+{
+    match closed {
+        Ok(()) => match ended {
+            Ok(given) => Ok(worse(answers, given)),
+            Err(fault) => Err(WireFault::Station(fault)),
+        },
+        Err(fault) => Err(WireFault::Station(fault)),
     }
 }

@@ -1,12 +1,12 @@
 use Rattle.std.proofs.Common.{None}
-use Rattle.station_session.proofs.OnFiles.{log_of}
+use Rattle.station_session.specs.Session.{calls_in}
 use Rattle.kept_files.proofs.OnFiles.{keeps_unasked}
 use Rattle.station_session.proofs.Ending.{ends-recovery-opened, ends-unrecovered}
 use Rattle.station_session.proofs.recovery.recover_session.Goals as goal
 
 pub returns-in-Ok : goal.returns-in-Ok
 returns-in-Ok g c =
-    ends-recovery-opened (g.S.Store.files c.args.store.now) (g.S.Store.files c.open_files.new.store) (g.S.Store.files c.recover_site-recovery.new.store) c.args.session.line c.args.session.site c.with_device-site.result c.recover_site-recovery.result.status (log_of c.recover_site-recovery.result.files)
+    ends-recovery-opened (g.S.Store.files c.args.store.now) (g.S.Store.files c.open_files.new.store) (g.S.Store.files c.recover_site-recovery.new.store) c.args.session.line c.args.session.site c.with_device-site.result c.recover_site-recovery.result.status (calls_in c.recover_site-recovery.result.reported)
     c.open_files.ensures.others c.with_device-site.ensures c.recover_site-recovery.ensures
 
 pub returns : goal.returns

@@ -7,6 +7,6 @@ pub returns-in-Ok-clause-ends : goal.returns-in-Ok-clause-ends
 returns-in-Ok-clause-ends g c =
     let session = c.args.given.session in
     let old = g.S.Store.files c.args.store.now in
-    let new = g.S.Store.files c.run_opened-served.new.store in
-    run-cut (is_some c.args.fuse) false old new session.line session.site c.args.given.commands.items c.run_opened-served.result.status (ap is_some c.in-None.is)
-    (ends-run-opened old (g.S.Store.files c.open_files.new.store) new session.line session.site session.site c.args.given.commands.items c.run_opened-served.result.status c.open_files.ensures.others refl c.run_opened-served.ensures.ends)
+    let new = g.S.Store.files c.run_opened.new.store in
+    run-cut (is_some c.args.fuse) false old new session.line session.site c.args.given.commands.items c.run_opened.result.status (ap is_some c.in-None.is)
+    (ends-run-opened old (g.S.Store.files c.open_files.new.store) new session.line session.site session.site c.args.given.commands.items c.run_opened.result.status c.open_files.ensures.others refl c.run_opened.ensures.ends)
