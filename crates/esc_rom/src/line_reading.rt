@@ -32,7 +32,7 @@ fn read_slave<S: Site>(alloc: Global, site: &mut S, slave: u16) -> Result<Words,
 /// # Errors
 ///
 /// The first fault that occurs: `SlaveDead` for the first slave that can't be opened or read, as for `open_slave` and `read_all`, once
-/// those before it were opened and read; `Stopped` once the site has stopped; `Memory`, behind some slaves that were read, and perhaps one
+/// those before it were opened and read; `Stopped` once the site has stopped; `Memory`, after some slaves that were read, and perhaps one
 /// that was opened. A power cut leaves nothing that it couldn't leave before.
 pub fn read_slaves<S: Site>(alloc: Global, site: &mut S) -> Result<Vec<Words>, RomFault>
     requires { OwnsAll (S.line site.old) }

@@ -23,7 +23,7 @@ pub enum End {
 
 /// How far a word access is: what is sent next, and how often.
 ///
-/// `more` is the number of times that it is sent again at most, and `tries` the number of tries to read that are left behind this one.
+/// `more` is the number of times that it is sent again at most, and `tries` the number of tries to read that are left after this one.
 #[derive(Clone, Copy)]
 pub enum Step {
     /// Opening: the datagram that forces ECAT access.
@@ -53,7 +53,7 @@ pub enum Step {
 }
 
 /// Begins to open a slave: to take its EEPROM from the PDI, to wait until it is idle, and to clear its errors. It ends with `Opened` or
-/// `Dead`, behind 10,009 datagrams at most.
+/// `Dead`, after 10,009 datagrams at most.
 pub fn begin_opening() -> Step
     ensures course { Begins result OpenCourse }
     ensures bounded { left result ≡ 10009 }
@@ -61,7 +61,7 @@ pub fn begin_opening() -> Step
     Step::Forces { more: 2 }
 }
 
-/// Begins to read a word and the next one. It ends with `Read` or `Dead`, behind 30,006 datagrams at most.
+/// Begins to read a word and the next one. It ends with `Read` or `Dead`, after 30,006 datagrams at most.
 pub fn begin_reading(word: u16) -> Step
     ensures course { Begins result (λ slave. ReadCourse slave word) }
     ensures bounded { left result ≡ 30006 }
@@ -77,7 +77,7 @@ pub fn begin_issue(word: u16, value: u16) -> Step
     Step::Issues { word, value }
 }
 
-/// Begins to wait for a word that was issued. `taken` says whether that ended with `Taken`. It ends with `Settled`, behind 10,001
+/// Begins to wait for a word that was issued. `taken` says whether that ended with `Taken`. It ends with `Settled`, after 10,001
 /// datagrams at most.
 pub fn begin_settling(taken: bool) -> Step
     ensures course { Begins result (λ slave. SettleCourse slave taken) }
