@@ -6,7 +6,7 @@
  * threads at once, on different images, but not from a signal handler, nor from a task that must not wait for malloc.
  *
  * Every call that can be refused answers a pz_code, PZ_OK or why. A refused call changes nothing of what it was given, but for the detail of
- * pz_judge. pz_next answers a pz_progress: what is to be done next, or how an access ended. A switch over either is checked by the compiler.
+ * pz_validate. pz_next answers a pz_progress: what is to be done next, or how an access ended. A switch over either is checked by the compiler.
  *
  * Bytes are those of an EEPROM image file: 16-bit words in order, the low byte first (ETG.1000.6, slave information interface).
  * No pointer may be NULL, except that of an array whose length is 0. Arrays that a call writes to may not overlap its other
@@ -142,7 +142,7 @@ pz_code pz_read_head(const uint8_t *image, size_t length, pz_head *head);
  *   PZ_BAD_CATEGORY   *detail: type of the first category whose content can't be read
  * or PZ_MEMORY. *detail is always written.
  */
-pz_code pz_judge(const uint8_t *image, size_t length, size_t *detail);
+pz_code pz_validate(const uint8_t *image, size_t length, size_t *detail);
 
 /*
  * Finds category number `number` of the chain, counted from 0 (ETG.1000.6, from word 0x40 on). The chain ends with the type 0xFFFF or

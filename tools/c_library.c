@@ -348,8 +348,8 @@ static void same(const char *what, int holds) {
 
 static void compare_reading(const uint8_t *image, size_t length) {
     size_t detail = 7, expected_detail;
-    uint32_t code = pz_judge(image, length, &detail), expected = check_image(image, length, &expected_detail);
-    same("pz_judge", code == expected && detail == expected_detail);
+    uint32_t code = pz_validate(image, length, &detail), expected = check_image(image, length, &expected_detail);
+    same("pz_validate", code == expected && detail == expected_detail);
     codes[0][code]++;
 
     pz_head head, before;
@@ -514,7 +514,7 @@ static void compare_line(void) {
 }
 
 int main(int count, char **words) {
-    static const char *names[CALLS] = {"pz_judge",         "pz_read_head",  "pz_category",   "pz_set_alias", "pz_edit_category", "pz_edit_image",
+    static const char *names[CALLS] = {"pz_validate",       "pz_read_head",  "pz_category",   "pz_set_alias", "pz_edit_category", "pz_edit_image",
                                        "pz_place_line", "pz_sync_manager", "pz_pdo", "pz_pdo_entry", "pz_string"};
     unsigned long images = count > 1 ? strtoul(words[1], NULL, 10) : 1000;
     state = count > 2 ? strtoul(words[2], NULL, 10) : 1;

@@ -53,9 +53,9 @@ static void try_image(size_t length) {
     size_t detail = 7;
     pz_code code = pz_read_head(image, length, &head);
     must(code == of_image(length), "pz_read_head", length, code);
-    code = pz_judge(image, length, &detail);
+    code = pz_validate(image, length, &detail);
     int has_detail = code == PZ_BAD_CHECK || code == PZ_RUNS_OUT || code == PZ_BAD_CATEGORY;
-    must(fits(of_image(length), code) && (has_detail || detail == 0), "pz_judge", length, code);
+    must(fits(of_image(length), code) && (has_detail || detail == 0), "pz_validate", length, code);
     code = pz_category(image, length, SIZE_MAX, &place);
     must(of_image(length) ? code == of_image(length) : code == PZ_NO_SUCH_CATEGORY || code == PZ_RUNS_OUT, "pz_category", length, code);
     is_refused = 1;

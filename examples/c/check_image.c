@@ -48,7 +48,7 @@ static int check(const char *name) {
     }
 
     size_t detail;
-    code = pz_judge(image, length, &detail);
+    code = pz_validate(image, length, &detail);
     if (code == PZ_OK) {
         printf("  good\n");
         return 0;

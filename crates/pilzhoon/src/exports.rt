@@ -32,7 +32,7 @@ pub extern "C" fn pz_read_head(alloc: Global, image: &[u8], head: &mut Head) -> 
 
 /// Validates an image, as `sii_bytes::validate_image` does.
 #[unsafe(no_mangle)]
-pub extern "C" fn pz_judge(alloc: Global, image: &[u8], detail: &mut usize) -> u32
+pub extern "C" fn pz_validate(alloc: Global, image: &[u8], detail: &mut usize) -> u32
     ensures { Validates image.now result detail.new }
 {
     sii_bytes::validate_image(alloc, image, detail)

@@ -81,7 +81,7 @@ mod raw {
     unsafe extern "C" {
         pub fn pz_read_head(image: *const u8, length: usize, head: *mut Head) -> u32;
         pub fn pz_set_alias(image: *mut u8, length: usize, alias: u16) -> u32;
-        pub fn pz_judge(image: *const u8, length: usize, detail: *mut usize) -> u32;
+        pub fn pz_validate(image: *const u8, length: usize, detail: *mut usize) -> u32;
         pub fn pz_open(access: *mut Access);
         pub fn pz_read(access: *mut Access, word: u16);
         pub fn pz_issue(access: *mut Access, word: u16, value: u16);
@@ -116,10 +116,10 @@ pub fn set_alias(image: &mut [u8], alias: u16) -> Result<(), Refused> {
 }
 
 /// Checks an image.
-pub fn judge(image: &[u8]) -> Result<(), Refused> {
+pub fn validate(image: &[u8]) -> Result<(), Refused> {
     let mut detail = 0;
     // SAFETY: as above.
-    let code = unsafe { raw::pz_judge(image.as_ptr(), image.len(), &mut detail) };
+    let code = unsafe { raw::pz_validate(image.as_ptr(), image.len(), &mut detail) };
     outcome(code, ())
 }
 

@@ -7,7 +7,7 @@ fn set(name: &str, alias: &str) -> Result<(), String> {
     let mut image = std::fs::read(name).map_err(|e| format!("{name}: {e}"))?;
     pilzhoon_sys::set_alias(&mut image, alias).map_err(|e| format!("{name}: {e:?}"))?;
     let head = pilzhoon_sys::read_head(&image).map_err(|e| format!("{name}: {e:?}"))?;
-    println!("{name}: alias {}, {:?}", head.alias, pilzhoon_sys::judge(&image));
+    println!("{name}: alias {}, {:?}", head.alias, pilzhoon_sys::validate(&image));
     std::fs::write(name, &image).map_err(|e| format!("{name}: {e}"))
 }
 
