@@ -1,6 +1,6 @@
 //! The words that were given, by the names of the arguments.
 
-use crate::argument::{Argument, Kind};
+use crate::arguments::{Argument, Kind};
 use crate::input_script::TYPED;
 use crate::typed_commands::typed_text;
 use crate::unread::Unread;
@@ -42,31 +42,21 @@ impl<'a> ParsedArguments<'a> {
         found: &ArgMatches<'a>,
     ) -> Result<(), AllocError> {
         for argument in arguments {
-            self.take(*argument, found)?;
-        }
-        Ok(())
-    }
-
-    /// Takes this argument, if it is there.
-    fn take(&mut self, argument: Argument, found: &ArgMatches<'a>) -> Result<(), AllocError> {
-        let id = argument.id;
-        if let Kind::Texts(..) = argument.kind {
-            self.commands
-                .extend_from_slice(found.get_strs(id).unwrap_or(&[]))?;
-        } else if let Some(text) = text_in(argument, found) {
-            self.values.push(Value { id, text })?;
+            let id = argument.id;
+            if let Kind::Texts(..) = argument.kind {
+                self.commands
+                    .extend_from_slice(found.get_strs(id).unwrap_or(&[]))?;
+            } else if let Some(text) = text_in(*argument, found) {
+                self.values.push(Value { id, text })?;
+            }
         }
         Ok(())
     }
 
     /// The text of this argument, if it is there.
     pub fn text(&self, id: &str) -> Option<&'a str> {
-        for value in &self.values {
-            if value.id == id {
-                return Some(value.text);
-            }
-        }
-        None
+        let found = self.values.iter().find(|value| value.id == id)?;
+        Some(found.text)
     }
 
     /// The text of an argument that has to be there.
@@ -85,10 +75,6 @@ impl<'a> ParsedArguments<'a> {
     }
 
     /// The text of the script whose commands are typed, if any are.
-    ///
-    /// # Errors
-    ///
-    /// A command isn't one line of TOML on its own; or memory was refused.
     pub(crate) fn typed(&self, alloc: Global) -> Result<Option<Vec<u8>>, Unread> {
         if self.commands.is_empty() {
             return Ok(None);
@@ -138,18 +124,15 @@ fn text_in<'a>(argument: Argument, found: &ArgMatches<'a>) -> Option<&'a str> {
 
 /// Whether a text has digits only: a sign is not taken.
 fn is_digits(text: &str) -> bool {
-    for byte in text.bytes() {
-        if !byte.is_ascii_digit() {
-            return false;
-        }
-    }
-    true
+    text.bytes().all(|byte| byte.is_ascii_digit())
 }
 
 /// The number that a text spells, in decimal digits, or in hexadecimal ones after `0x`, as in a script. A sign is not taken.
 pub fn number_in(text: &str) -> Option<u32> {
     match text.strip_prefix("0x") {
-        Some(digits) if is_hexadecimal(digits) => u32::from_str_radix(digits, 16).ok(),
+        Some(digits) if digits.bytes().all(|byte| byte.is_ascii_hexdigit()) => {
+            u32::from_str_radix(digits, 16).ok()
+        }
         None if is_digits(text) => text.parse::<u32>().ok(),
         _ => None,
     }
@@ -158,14 +141,4 @@ pub fn number_in(text: &str) -> Option<u32> {
 /// The number of 0 to 65535 that a text spells so.
 pub fn small_in(text: &str) -> Option<u16> {
     u16::try_from(number_in(text)?).ok()
-}
-
-/// Whether a text has hexadecimal digits only.
-fn is_hexadecimal(text: &str) -> bool {
-    for byte in text.bytes() {
-        if !byte.is_ascii_hexdigit() {
-            return false;
-        }
-    }
-    true
 }

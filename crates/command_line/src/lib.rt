@@ -3,7 +3,7 @@
 //! on standard input or its commands are typed.
 #![tactic(auto)]
 
-mod argument;
+mod arguments;
 mod completions;
 mod escaped;
 mod given;
@@ -12,11 +12,11 @@ mod launched;
 mod manual;
 mod program;
 mod reading;
-mod subcommand;
+mod subcommands;
 mod typed_commands;
 mod unread;
 
-pub use argument::{Argument, Kind};
+pub use arguments::{Argument, Kind};
 pub use completions::{Shell, completion_script};
 pub use escaped::Escaped;
 pub use given::{ParsedArguments, number_in, small_in};
@@ -25,6 +25,6 @@ pub use launched::{INTERFACE, STATE, TEXT, TIMEOUT, WIRE};
 pub use manual::manual_page;
 pub use program::Program;
 pub use reading::{read_typed, read_words, refuse};
-pub use subcommand::Subcommand;
+pub use subcommands::Subcommand;
 pub use typed_commands::TYPED_COMMANDS;
 pub use unread::{Unread, refuse_words};

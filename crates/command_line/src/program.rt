@@ -1,7 +1,7 @@
 //! A program as its command line is described: its texts, its options and its subcommands.
 
-use crate::argument::Argument;
-use crate::subcommand::{Subcommand, described_arguments, with_subcommands};
+use crate::arguments::Argument;
+use crate::subcommands::{Subcommand, described_arguments, with_subcommands};
 use clap::Command;
 use std::alloc::{AllocError, Global};
 
@@ -23,10 +23,6 @@ pub struct Program<'p> {
 }
 
 /// The program as `clap` takes it.
-///
-/// # Errors
-///
-/// Memory was refused.
 pub(crate) fn described<'a>(
     alloc: Global,
     program: Program<'_>,

@@ -2,7 +2,7 @@
 
 use crate::given::ParsedArguments;
 use crate::program::{Program, described};
-use crate::subcommand::described_arguments;
+use crate::subcommands::described_arguments;
 use crate::unread::{Unread, why_unread};
 use clap::error::ErrorKind;
 use clap::{ArgMatches, Command, Error};

@@ -2,7 +2,8 @@
 ghost use Rattle.std.specs.Prelude.{◌≡◌, IfOk};
 ghost use Rattle.command_line.specs.Typed.{is_one_line, script_of};
 
-use crate::argument::{Argument, Kind};
+use crate::argument;
+use crate::arguments::Argument;
 use crate::unread::Unread;
 use std::alloc::{AllocError, Global};
 use toml::de::Error;
@@ -14,12 +15,8 @@ such as 'alias = { slave = 2, value = 7 }' or 'swap = [0, 1]'. Each -e is one co
 they are submitted in order.";
 
 /// The option with typed commands. It stands in place of the argument `SCRIPT`.
-pub const TYPED_COMMANDS: Argument = Argument {
-    id: "command",
-    kind: Kind::Texts("COMMAND", 'e', "SCRIPT"),
-    help: "A command in place of the script file, as 'alias = { slave = 2, value = 7 }'",
-    long_help: COMMANDS,
-};
+pub const TYPED_COMMANDS: Argument =
+    argument!("command": Texts("COMMAND", 'e', "SCRIPT") => "A command in place of the script file, as 'alias = { slave = 2, value = 7 }'", COMMANDS);
 
 /// The text of the script with these commands.
 ///
@@ -69,10 +66,6 @@ fn is_line(command: &str) -> bool
 }
 
 /// Returns the text of a script file with these commands, in order: each one is the line after a `[[command]]`.
-///
-/// # Errors
-///
-/// Memory was refused.
 fn typed_script(alloc: Global, commands: &[&str]) -> Result<Vec<u8>, AllocError>
     ensures text { IfOk result (λ text. text.items ≡ script_of (λ command. command.now) commands.now) }
 {

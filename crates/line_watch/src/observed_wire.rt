@@ -5,12 +5,13 @@ use crate::capture::Capture;
 use crate::pcap::Way;
 use crate::progress::Progress;
 use ecat_frame::{Command, Datagram, Frame, MAX_LEN};
-use sii_words::MAX_SLAVES;
+use sii_words::{MAX_SLAVES, MAX_WORDS};
 use site_file::RandomAccessFile;
 use std::io;
 use std::io::Write;
 use std::rt::Clock;
 use std::sync::Wait;
+use std::sync::atomic::Ordering::SeqCst;
 use wire_frames::Wire;
 
 /// The register of control and status of an EEPROM (ETG.1000.4).
@@ -18,9 +19,6 @@ const CONTROL: u32 = 0x0502;
 
 /// The word that tells the size of an EEPROM in KiBit, less one (ETG.1000.6, slave information interface).
 const SIZE: u16 = 0x3e;
-
-/// The most words of an EEPROM that are worked on.
-const MOST_WORDS: u64 = 4096;
 
 /// What was seen of a slave.
 #[derive(Clone, Copy)]
@@ -125,7 +123,7 @@ impl<'o, W: Wire, F: RandomAccessFile + Drop, T: Write, R: Wait + Clock> Observe
         if place < MAX_SLAVES {
             self.slaves[place].station = station;
             self.reported = place + 1;
-            progress.add_slave();
+            progress.slaves.fetch_add(1, SeqCst);
         }
         place
     }
@@ -144,10 +142,12 @@ impl<'o, W: Wire, F: RandomAccessFile + Drop, T: Write, R: Wait + Clock> Observe
         if read <= slave.read {
             return;
         }
-        progress.add_read(u64::from(read - slave.read));
+        progress
+            .read
+            .fetch_add(u64::from(read - slave.read), SeqCst);
         slave.read = read;
         if read == slave.size && !self.is_writing {
-            progress.add_done();
+            progress.done.fetch_add(1, SeqCst);
         }
     }
 
@@ -162,9 +162,10 @@ impl<'o, W: Wire, F: RandomAccessFile + Drop, T: Write, R: Wait + Clock> Observe
         let behind = 4 + 2 * usize::from(SIZE - slave.at);
         match shown.get(behind..behind + 2) {
             Some([low, high]) => {
-                let size = 64 * (u64::from(u16::from_le_bytes([*low, *high])) + 1);
-                slave.size = size.min(MOST_WORDS) as u16;
-                progress.add_to_read(size.min(MOST_WORDS));
+                let said = 64 * (usize::from(u16::from_le_bytes([*low, *high])) + 1);
+                let size = said.min(MAX_WORDS);
+                slave.size = size as u16;
+                progress.to_read.fetch_add(size as u64, SeqCst);
             }
             _ => {}
         }
@@ -172,7 +173,7 @@ impl<'o, W: Wire, F: RandomAccessFile + Drop, T: Write, R: Wait + Clock> Observe
 
     /// A slave is told to write a word.
     fn note_writing(&mut self, progress: &Progress<T>, place: usize) {
-        progress.add_word();
+        progress.words.fetch_add(1, SeqCst);
         if !self.is_writing {
             self.is_writing = true;
             self.begin_writing(progress);
@@ -181,7 +182,7 @@ impl<'o, W: Wire, F: RandomAccessFile + Drop, T: Write, R: Wait + Clock> Observe
             Some(slave) if slave.left > 0 => {
                 slave.left -= 1;
                 if slave.left == 0 {
-                    progress.add_done();
+                    progress.done.fetch_add(1, SeqCst);
                 }
             }
             _ => {}
@@ -190,7 +191,7 @@ impl<'o, W: Wire, F: RandomAccessFile + Drop, T: Write, R: Wait + Clock> Observe
 
     /// Notes how many words each slave is to write, if that is known. The slaves were seen in the order of the line.
     fn begin_writing(&mut self, progress: &Progress<T>) {
-        let expected = progress.expected().unwrap_or([0; 64]);
+        let expected = progress.expected(self.rt);
         let mut slaves = 0u64;
         let mut words = 0u64;
         for (slave, left) in self.slaves.iter_mut().zip(expected) {

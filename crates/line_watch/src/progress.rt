@@ -28,16 +28,20 @@ const ERASE: &[u8] = b"\r\x1b[K";
 /// it. If the terminal can't be written, the run goes on without it.
 #[derive(Drop)]
 pub struct Progress<T> {
+    /// How many commands the script has, and how many of them are durable.
     commands: AtomicU64,
-    durable: AtomicU64,
-    read: AtomicU64,
-    to_read: AtomicU64,
-    words: AtomicU64,
+    pub(crate) durable: AtomicU64,
+    /// How many words were read from slaves, and are to be.
+    pub(crate) read: AtomicU64,
+    pub(crate) to_read: AtomicU64,
+    /// How many words the slaves have written, and are to write.
+    pub(crate) words: AtomicU64,
     to_write: AtomicU64,
-    done: AtomicU64,
-    slaves: AtomicU64,
-    /// How many words each slave is to write, if that is known.
-    expected: Option<[u32; 64]>,
+    /// How many slaves have all their words read, or written, and how many have words to be.
+    pub(crate) done: AtomicU64,
+    pub(crate) slaves: AtomicU64,
+    /// How many words each slave is to write; 0 where that isn't known.
+    expected: Mutex<[u32; MAX_SLAVES]>,
     /// Bit i stands for slave i, which is busy with a word.
     busy: AtomicU64,
     line: Mutex<Line<T>>,
@@ -132,7 +136,7 @@ impl<T: Write> Progress<T> {
             to_write: AtomicU64::new(0),
             done: AtomicU64::new(0),
             slaves: AtomicU64::new(0),
-            expected: None,
+            expected: Mutex::new([0; MAX_SLAVES]),
             busy: AtomicU64::new(0),
             line: Mutex::new(Line {
                 terminal,
@@ -150,14 +154,14 @@ impl<T: Write> Progress<T> {
         self.commands.store(commands as u64, SeqCst);
     }
 
-    /// Each slave is to write so many words.
-    pub fn expect_words(&mut self, words: [u32; 64]) {
-        self.expected = Some(words);
+    /// Each slave is to write so many words. This is to be known before the first one is written.
+    pub fn expect_words<R: Wait>(&self, rt: &R, words: [u32; MAX_SLAVES]) {
+        *self.expected.lock(rt) = words;
     }
 
-    /// How many words each slave is to write, if that is known.
-    pub(crate) fn expected(&self) -> Option<[u32; 64]> {
-        self.expected
+    /// How many words each slave is to write; 0 where that isn't known.
+    pub(crate) fn expected<R: Wait>(&self, rt: &R) -> [u32; MAX_SLAVES] {
+        *self.expected.lock(rt)
     }
 
     /// So many slaves are to write so many words. None of them is done.
@@ -165,36 +169,6 @@ impl<T: Write> Progress<T> {
         self.done.store(0, SeqCst);
         self.slaves.store(slaves, SeqCst);
         self.to_write.store(words, SeqCst);
-    }
-
-    /// Counts a slave that has words to be read.
-    pub(crate) fn add_slave(&self) {
-        self.slaves.fetch_add(1, SeqCst);
-    }
-
-    /// Counts a slave whose words are all read, or written.
-    pub(crate) fn add_done(&self) {
-        self.done.fetch_add(1, SeqCst);
-    }
-
-    /// Counts words that are to be read from a slave.
-    pub(crate) fn add_to_read(&self, words: u64) {
-        self.to_read.fetch_add(words, SeqCst);
-    }
-
-    /// Counts commands that became durable.
-    pub(crate) fn add_durable(&self, commands: u64) {
-        self.durable.fetch_add(commands, SeqCst);
-    }
-
-    /// Counts words that were read from a slave.
-    pub(crate) fn add_read(&self, words: u64) {
-        self.read.fetch_add(words, SeqCst);
-    }
-
-    /// Counts a word that a slave has written.
-    pub(crate) fn add_word(&self) {
-        self.words.fetch_add(1, SeqCst);
     }
 
     /// Remembers whether a slave is busy with a word.

@@ -10,6 +10,7 @@ use jrn_format::{AREA_START, OPEN, Spelling};
 use site_shadow::{Device, Lends, LinePart, Passing, Pattern, Resting};
 use std::io::Write;
 use std::rt::Clock;
+use std::sync::atomic::Ordering::SeqCst;
 
 /// A device, and the progress for which its work counts, if there is one. It answers each call as the device does.
 ///
@@ -83,7 +84,7 @@ impl<'p, D, T: Write, R: Clock> Watched<'p, D, T, R> {
         ensures { self.new.device ≡ self.old.device }
     {
         if self.is_open {
-            progress.add_durable(u64::from(self.appended));
+            progress.durable.fetch_add(u64::from(self.appended), SeqCst);
             self.appended = 0;
             self.is_open = false;
         }
@@ -132,7 +133,7 @@ impl<'p, D: Device, T: Write, R: Clock> Device for Watched<'p, D, T, R> {
             half.in_flight(),
             resting,
         ) {
-            progress.add_word();
+            progress.words.fetch_add(1, SeqCst);
             progress.set_busy(slave, false);
             progress.look(self.rt);
         }

@@ -9,7 +9,7 @@ use Rattle.station_alone.specs.Recovery.{HasRecovered, BeginsRecovered}
 use Rattle.station_text.specs.declared.line_file.LineFile.{LineFile}
 use Rattle.station_files.specs.Files.{Known}
 use Rattle.station_files.specs.declared.faults.Fault.{Fault}
-use Rattle.station_files.specs.declared.faults.ExitStatus.{ExitStatus}
+use Rattle.station_line.specs.declared.answered.Answered.{Answered}
 use Rattle.station_line.specs.Site.{HoldsSite}
 use Rattle.script_session.specs.After.{GoesAfterDesk, GoesFollowed, LedOn, SavesFollowed, ServesRecovered}
 use Rattle.script_session.specs.Saving.{HoldsAfter, IsReportedLine, SavesAfter}
@@ -18,14 +18,14 @@ use Rattle.script_session.specs.Saving.{HoldsAfter, IsReportedLine, SavesAfter}
 
 -- the commands were submitted at the desk
 pub goes_driven : {D : Type 0} (follows : D → Seen → Type 0) (is_driven : Bool) (commands : List Command) (left : Seen)
-    (ended : Result ExitStatus Fault) (last : Seen) → is_driven ≡ true → GoesFollowed follows left last
+    (ended : Result Answered Fault) (last : Seen) → is_driven ≡ true → GoesFollowed follows left last
     → GoesAfterDesk follows is_driven commands left ended
 goes_driven follows is_driven commands left ended last driven goes =
     subst (λ (b : Bool). GoesAfterDesk follows b commands left ended) (sym driven) (last, goes)
 
 -- they were not
 pub goes_undriven : {D : Type 0} (follows : D → Seen → Type 0) (is_driven : Bool) (commands : List Command) (left : Seen)
-    (ended : Result ExitStatus Fault) → is_driven ≡ false → ServesRecovered follows commands left
+    (ended : Result Answered Fault) → is_driven ≡ false → ServesRecovered follows commands left
     → GoesAfterDesk follows is_driven commands left ended
 goes_undriven follows is_driven commands left ended undriven serves =
     subst (λ (b : Bool). GoesAfterDesk follows b commands left ended) (sym undriven) (inr serves)
@@ -39,23 +39,23 @@ goes_failed follows false commands left fault last goes = inl (last, fault, goes
 -- ---- what the files hold
 
 -- the recovered line was saved
-pub saves_driven : (ended : Result ExitStatus Fault) (files : Known) (line : LineFile) (before : Seen) (r : Station) (is_driven : Bool)
+pub saves_driven : (ended : Result Answered Fault) (files : Known) (line : LineFile) (before : Seen) (r : Station) (is_driven : Bool)
     (commands : List Command) → is_driven ≡ true → HasRecovered r → BeginsRecovered before r → OnOk ended (HoldsSite files line r.seen.state)
     → IfOk ended (SavesAfter files line before is_driven commands)
-saves_driven (Ok status) files line before r is_driven commands driven recovered begins held = record {
+saves_driven (Ok answered) files line before r is_driven commands driven recovered begins held = record {
   r = r;
   recovered = recovered;
   begins = begins;
-  holds = subst (λ (b : Bool). HoldsAfter b files line r commands status) (sym driven) held;
+  holds = subst (λ (b : Bool). HoldsAfter b files line r commands answered) (sym driven) held;
 }
 saves_driven (Err fault) files line before r is_driven commands driven recovered begins held = tt
 
 -- and a device has followed it to there
 pub saves_led : {D T : Type 0} (follows : D → Seen → Type 0) (well : D → Type 0) (tells : D → T → Type 0) (reported : T)
-    (ended : Result ExitStatus Fault) (files : Known) (line : LineFile) (slaves : ℕ) (before : Seen) (r : Station) (is_driven : Bool)
+    (ended : Result Answered Fault) (files : Known) (line : LineFile) (slaves : ℕ) (before : Seen) (r : Station) (is_driven : Bool)
     → HasRecovered r → Follows before r.seen → OnOk ended (HoldsSite files line r.seen.state)
     → OnOk ended (IsReportedLine follows well tells reported slaves r.seen)
     → OnOk ended (IsTrue is_driven → SavesFollowed (LedOn follows well tells reported slaves before) files line)
-saves_led follows well tells reported (Ok status) files line slaves before r is_driven recovered leads held ends =
+saves_led follows well tells reported (Ok answered) files line slaves before r is_driven recovered leads held ends =
     λ driven. record { s = r; recovered = recovered; held = held; way = record { leads = leads; ends = ends } }
 saves_led follows well tells reported (Err fault) files line slaves before r is_driven recovered leads held ends = tt

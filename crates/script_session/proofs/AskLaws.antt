@@ -11,19 +11,19 @@ use Rattle.desk_book.specs.Numbered.{Numbered}
 use Rattle.desk_book.specs.Serving.{ShareCounts}
 use Rattle.desk_book.specs.Closing.{StandsAt}
 use Rattle.station_files.specs.declared.faults.Fault.{Fault}
-use Rattle.station_files.specs.declared.faults.ExitStatus.{ExitStatus}
-use Rattle.station_files.specs.declared.faults.ExitStatus.TheVariants.{Done}
+use Rattle.station_line.specs.declared.answered.Answered.{Answered}
+use Rattle.station_line.specs.declared.answered.Answered.TheVariants.{AllAccepted}
 use Rattle.station_line.specs.Rounds.{AreAmong}
 use Rattle.station_line.proofs.RoundSubmitting.{among-then}
 use Rattle.script_session.specs.Asking.{commands_of, no_counts, AreInOrder, Asks, AsksAll, ComesTo, GivesUp, Receives}
 
 -- no command was submitted yet
-pub asks-none : (status : ExitStatus) (counts : ShareCounts) → AsksAll [] status status counts counts []
-asks-none status counts = record { among = refl; all = λ done. (done, refl); counted = omega arith }
+pub asks-none : (answered : Answered) (counts : ShareCounts) → AsksAll [] answered answered counts counts []
+asks-none answered counts = record { among = refl; all = λ done. (done, refl); counted = omega arith }
 
-asks-accepted : (first : List Command) (command : Command) (before status after : ExitStatus) (had mid has : ShareCounts) (tickets : List Numbered) (ticket : Numbered) → AsksAll first before status had mid tickets → Asks command status after mid has (Some ticket)
+asks-accepted : (first : List Command) (command : Command) (before answered after : Answered) (had mid has : ShareCounts) (tickets : List Numbered) (ticket : Numbered) → AsksAll first before answered had mid tickets → Asks command answered after mid has (Some ticket)
     → AsksAll (first ++ command ∷ []) before after had has (tickets ++ ticket ∷ [])
-asks-accepted first command before status after had mid has tickets ticket all one =
+asks-accepted first command before answered after had mid has tickets ticket all one =
     let more : commands_of (tickets ++ ticket ∷ []) ≡ commands_of tickets ++ command ∷ [] = map-append (λ (o : Numbered). o.command) tickets (ticket ∷ []) ∙ ap (λ (c : Command). commands_of tickets ++ c ∷ []) one.0 in
     record {
       among = subst (λ (l : List Command). AreAmong l (first ++ command ∷ [])) (sym more) (among-then (commands_of tickets) (command ∷ []) first (command ∷ []) all.among (inl ([], refl, refl)));
@@ -31,25 +31,25 @@ asks-accepted first command before status after had mid has tickets ticket all o
       counted = let a = one.2 in let b = all.counted in let c = length-append tickets (ticket ∷ []) in omega (arith, a, b, c);
     }
 
-asks-refused : (first : List Command) (command : Command) (before status after : ExitStatus) (had mid has : ShareCounts) (tickets : List Numbered) → AsksAll first before status had mid tickets → Asks command status after mid has None
+asks-refused : (first : List Command) (command : Command) (before answered after : Answered) (had mid has : ShareCounts) (tickets : List Numbered) → AsksAll first before answered had mid tickets → Asks command answered after mid has None
     → AsksAll (first ++ command ∷ []) before after had has tickets
-asks-refused first command before status after had mid has tickets all one = record {
+asks-refused first command before answered after had mid has tickets all one = record {
   among = subst (λ (l : List Command). AreAmong l (first ++ command ∷ [])) (append-nil (commands_of tickets)) (among-then (commands_of tickets) [] first (command ∷ []) all.among (inr refl));
   all = λ done. absurd (one.0 done);
   counted = let a = one.1 in let b = all.counted in omega (arith, a, b);
 }
 
-asks-one : (first : List Command) (command : Command) (before status after : ExitStatus) (had mid has : ShareCounts) (tickets : List Numbered) (asked : Option Numbered) → AsksAll first before status had mid tickets → Asks command status after mid has asked
+asks-one : (first : List Command) (command : Command) (before answered after : Answered) (had mid has : ShareCounts) (tickets : List Numbered) (asked : Option Numbered) → AsksAll first before answered had mid tickets → Asks command answered after mid has asked
     → AsksAll (first ++ command ∷ []) before after had has (tickets ++ option_to_list asked)
-asks-one first command before status after had mid has tickets (Some ticket) all one = asks-accepted first command before status after had mid has tickets ticket all one
-asks-one first command before status after had mid has tickets None all one =
-    subst (λ (l : List Numbered). AsksAll (first ++ command ∷ []) before after had has l) (sym (append-nil tickets)) (asks-refused first command before status after had mid has tickets all one)
+asks-one first command before answered after had mid has tickets (Some ticket) all one = asks-accepted first command before answered after had mid has tickets ticket all one
+asks-one first command before answered after had mid has tickets None all one =
+    subst (λ (l : List Numbered). AsksAll (first ++ command ∷ []) before after had has l) (sym (append-nil tickets)) (asks-refused first command before answered after had mid has tickets all one)
 
 -- the next of the commands was submitted
-pub asks-next : (first : List Command) (command : Command) (before status after : ExitStatus) (had mid has : ShareCounts) (tickets kept : List Numbered) (asked : Option Numbered)
-    → AsksAll first before status had mid tickets → Asks command status after mid has asked → kept ≡ tickets ++ option_to_list asked → AsksAll (first ++ command ∷ []) before after had has kept
-asks-next first command before status after had mid has tickets kept asked all one keeps =
-    subst (λ (l : List Numbered). AsksAll (first ++ command ∷ []) before after had has l) (sym keeps) (asks-one first command before status after had mid has tickets asked all one)
+pub asks-next : (first : List Command) (command : Command) (before answered after : Answered) (had mid has : ShareCounts) (tickets kept : List Numbered) (asked : Option Numbered)
+    → AsksAll first before answered had mid tickets → Asks command answered after mid has asked → kept ≡ tickets ++ option_to_list asked → AsksAll (first ++ command ∷ []) before after had has kept
+asks-next first command before answered after had mid has tickets kept asked all one keeps =
+    subst (λ (l : List Numbered). AsksAll (first ++ command ∷ []) before after had has l) (sym keeps) (asks-one first command before answered after had mid has tickets asked all one)
 
 -- ---- each number is its place
 

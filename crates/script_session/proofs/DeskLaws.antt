@@ -26,8 +26,8 @@ use Rattle.station_threads.specs.declared.closing.CloseFault.TheVariants.{Unserv
 use Rattle.station_threads.specs.declared.closing.Ends.{Ends}
 use Rattle.station_files.specs.Faults.{IsOfStream}
 use Rattle.station_files.specs.declared.faults.Fault.{Fault}
-use Rattle.station_files.specs.declared.faults.ExitStatus.{ExitStatus}
-use Rattle.station_files.specs.declared.faults.ExitStatus.TheVariants.{Done}
+use Rattle.station_line.specs.declared.answered.Answered.{Answered}
+use Rattle.station_line.specs.declared.answered.Answered.TheVariants.{AllAccepted}
 use Rattle.station_line.specs.Rounds.{AreAmong}
 use Rattle.station_threads.specs.Places.{AllPlaced}
 use Rattle.station_threads.specs.Sites.{OwnParts}
@@ -96,9 +96,9 @@ pub none-of : {A : Type 0} (items : List A) → length items ≡ 0 → items ≡
 none-of [] none = refl
 none-of (item ∷ items) none = absurd (omega (arith, none))
 
-closed-driven : (opened : Book) (commands : List Command) (status : ExitStatus) (counts : ShareCounts) (receipts : List Numbered) (ends : Ends SiteValue) → Receives commands Done status no_counts counts receipts → Closes opened (counts ∷ []) receipts ends
-    → ClosesWith opened commands true status (Ok tt) ends
-closed-driven opened commands status counts receipts ends got closes =
+closed-driven : (opened : Book) (commands : List Command) (answered : Answered) (counts : ShareCounts) (receipts : List Numbered) (ends : Ends SiteValue) → Receives commands AllAccepted answered no_counts counts receipts → Closes opened (counts ∷ []) receipts ends
+    → ClosesWith opened commands true answered (Ok tt) ends
+closed-driven opened commands answered counts receipts ends got closes =
     let book = replayed opened closes.calls in
     let handed_in = closes.closed.handed_in in
     let counted = handed_in.counted.tickets in
@@ -114,19 +114,19 @@ closed-driven opened commands status counts receipts ends got closes =
       tells = tt;
     }
 
-closed-undriven : (opened : Book) (commands : List Command) (status : ExitStatus) (counts : ShareCounts) (ends : Ends SiteValue) → (status ≡ Done) × (counts.tickets ≡ 0) → Closes opened (counts ∷ []) [] ends
-    → ClosesWith opened commands false status (Ok tt) ends
-closed-undriven opened commands status counts ends none closes =
+closed-undriven : (opened : Book) (commands : List Command) (answered : Answered) (counts : ShareCounts) (ends : Ends SiteValue) → (answered ≡ AllAccepted) × (counts.tickets ≡ 0) → Closes opened (counts ∷ []) [] ends
+    → ClosesWith opened commands false answered (Ok tt) ends
+closed-undriven opened commands answered counts ends none closes =
     let counted = closes.closed.handed_in.counted.tickets in
     let without = none.1 in
     let nothing = none-of (replayed opened closes.calls).accepted (omega (arith, counted, without)) in
     record { calls = closes.calls; counts = counts; receipts = []; closed = closes.closed; acknowledged = sym nothing; accepts = (nothing, none.0); tells = tt }
 
 -- the fault of a submitter
-gave-up : (commands : List Command) (status : ExitStatus) (counts : ShareCounts) (came : Option (Result (Vec Numbered) Fault)) (fault : Fault) → fault_of came ≡ Err fault → ComesTo commands status counts came → GivesUp fault
-gave-up commands status counts (Some (Ok got)) fault is comes = absurd cc
-gave-up commands status counts (Some (Err why)) fault is comes = let same : why ≡ fault = cc in subst GivesUp same comes
-gave-up commands status counts None fault is comes = absurd cc
+gave-up : (commands : List Command) (answered : Answered) (counts : ShareCounts) (came : Option (Result (Vec Numbered) Fault)) (fault : Fault) → fault_of came ≡ Err fault → ComesTo commands answered counts came → GivesUp fault
+gave-up commands answered counts (Some (Ok got)) fault is comes = absurd cc
+gave-up commands answered counts (Some (Err why)) fault is comes = let same : why ≡ fault = cc in subst GivesUp same comes
+gave-up commands answered counts None fault is comes = absurd cc
 
 -- the fault of a stream is none of the desk's
 of-stream : (ended : Result (Unit {0}) Fault) (fault : Fault) → IfErr ended IsOfStream → ended ≡ Err fault → IsOfStream fault
@@ -146,17 +146,17 @@ abbrev pub IsReportedOf : (asked ended : Result (Unit {0}) Fault) → Fault → 
 IsReportedOf asked ended fault = IsOfStream fault ⊎ (ended ≡ Err fault) ⊎ ((asked ≡ Err fault) × (ended ≡ Ok tt))
 
 -- for each result of the submitter, and of closing the desk
-module _ (opened : Book) (commands : List Command) (status : ExitStatus) (counts : ShareCounts) (shares : List ShareCounts) (receipts : List Numbered) (ends : Ends SiteValue) (alone : shares ≡ counts ∷ []) where
-  all-closed : (came : Option (Result (Vec Numbered) Fault)) → receipts ≡ receipts_of came → fault_of came ≡ Ok tt → ComesTo commands status counts came → Closes opened shares receipts ends → ClosesWith opened commands (is_some came) status (Ok tt) ends
+module _ (opened : Book) (commands : List Command) (answered : Answered) (counts : ShareCounts) (shares : List ShareCounts) (receipts : List Numbered) (ends : Ends SiteValue) (alone : shares ≡ counts ∷ []) where
+  all-closed : (came : Option (Result (Vec Numbered) Fault)) → receipts ≡ receipts_of came → fault_of came ≡ Ok tt → ComesTo commands answered counts came → Closes opened shares receipts ends → ClosesWith opened commands (is_some came) answered (Ok tt) ends
   all-closed (Some (Ok got)) same none comes closes =
-      closed-driven opened commands status counts receipts ends (subst (λ (l : List Numbered). Receives commands Done status no_counts counts l) (sym same) comes) (subst (λ (l : List ShareCounts). Closes opened l receipts ends) alone closes)
+      closed-driven opened commands answered counts receipts ends (subst (λ (l : List Numbered). Receives commands AllAccepted answered no_counts counts l) (sym same) comes) (subst (λ (l : List ShareCounts). Closes opened l receipts ends) alone closes)
   all-closed (Some (Err fault)) same none comes closes = absurd cc
   all-closed None same none comes closes =
-      closed-undriven opened commands status counts ends comes (subst (λ (l : List Numbered). Closes opened (counts ∷ []) l ends) same (subst (λ (l : List ShareCounts). Closes opened l receipts ends) alone closes))
+      closed-undriven opened commands answered counts ends comes (subst (λ (l : List Numbered). Closes opened (counts ∷ []) l ends) same (subst (λ (l : List ShareCounts). Closes opened l receipts ends) alone closes))
 
   -- the desk was closed, and a fault is told all the same
-  closed-reported : (came : Option (Result (Vec Numbered) Fault)) (asked ended : Result (Unit {0}) Fault) (fault : Fault) (is_driven : Bool) → asked ≡ fault_of came → ComesTo commands status counts came → Closes opened shares receipts ends → IfErr ended IsOfStream
-      → IsReportedOf asked ended fault → ClosesWith opened commands is_driven status (Err fault) ends
+  closed-reported : (came : Option (Result (Vec Numbered) Fault)) (asked ended : Result (Unit {0}) Fault) (fault : Fault) (is_driven : Bool) → asked ≡ fault_of came → ComesTo commands answered counts came → Closes opened shares receipts ends → IfErr ended IsOfStream
+      → IsReportedOf asked ended fault → ClosesWith opened commands is_driven answered (Err fault) ends
   closed-reported came asked ended fault is_driven is comes closes printed tells =
       let one = subst (λ (l : List ShareCounts). Closes opened l receipts ends) alone closes in
       record {
@@ -169,7 +169,7 @@ module _ (opened : Book) (commands : List Command) (status : ExitStatus) (counts
         tells = elim tells [
           | inl stream ↦ inl stream
           | inr (inl same) ↦ inl (of-stream ended fault printed same)
-          | inr (inr same) ↦ gave-up commands status counts came fault (sym is ∙ same.0) comes
+          | inr (inr same) ↦ gave-up commands answered counts came fault (sym is ∙ same.0) comes
         ];
       }
 
@@ -188,11 +188,11 @@ module _ (opened : Book) (commands : List Command) (status : ExitStatus) (counts
   }
 
   -- how the work ended
-  pub ends-so : (came : Option (Result (Vec Numbered) Fault)) (asked ended reported : Result (Unit {0}) Fault) (closed : Result (Unit {0}) CloseFault) (is_driven : Bool) → receipts ≡ receipts_of came → asked ≡ fault_of came → is_driven ≡ is_some came → ComesTo commands status counts came
+  pub ends-so : (came : Option (Result (Vec Numbered) Fault)) (asked ended reported : Result (Unit {0}) Fault) (closed : Result (Unit {0}) CloseFault) (is_driven : Bool) → receipts ≡ receipts_of came → asked ≡ fault_of came → is_driven ≡ is_some came → ComesTo commands answered counts came
       → MatchResult closed (λ done. Closes opened shares receipts ends) (λ why. IsStopped opened why ended ends) → OnOk ended (closed ≡ Ok tt) → OnOk closed (IfErr ended IsOfStream) → OnOk reported ((asked ≡ Ok tt) × (ended ≡ Ok tt)) → IfErr reported (IsReportedOf asked ended)
-      → MatchResult closed (λ done. ClosesWith opened commands is_driven status reported ends) (λ why. IsStopped opened why reported ends)
+      → MatchResult closed (λ done. ClosesWith opened commands is_driven answered reported ends) (λ why. IsStopped opened why reported ends)
   ends-so came asked ended (Ok good) (Ok done) is_driven same is driven comes closes ends_well printed both tells =
-      subst (λ (b : Bool). ClosesWith opened commands b status (Ok tt) ends) (sym driven) (all-closed came same (sym is ∙ both.0) comes closes)
+      subst (λ (b : Bool). ClosesWith opened commands b answered (Ok tt) ends) (sym driven) (all-closed came same (sym is ∙ both.0) comes closes)
   ends-so came asked ended (Err fault) (Ok done) is_driven same is driven comes closes ends_well printed both tells =
       closed-reported came asked ended fault is_driven is comes closes printed tells
   ends-so came asked ended reported (Err why) is_driven same is driven comes closes ends_well printed both tells =
@@ -217,10 +217,10 @@ servable sites capacity entire None halves long bytes held disk new slaves owned
 -- ---- a line that was served at a desk
 
 module _ (opened : Station) (commands : List Command) (sites : Sites) (ends : Ends SiteValue) (site : SiteValue) (separate : IsSeparate opened.seen.state sites) (of_sites : AreEndsOfParts sites ends) (together : IsTogether ends site) where
-  leaves-so : (is_driven : Bool) (status : ExitStatus) (reported : Result (Unit {0}) Fault) (closed : Result (Unit {0}) CloseFault)
-      → MatchResult closed (λ done. ClosesWith opened.book commands is_driven status reported ends) (λ why. IsStopped opened.book why reported ends)
-      → MatchResult closed (λ done. IsServedAtDesk opened commands is_driven status reported site) (λ why. IsStoppedAtDesk opened why reported site)
-  leaves-so is_driven status reported (Ok done) closes = record {
+  leaves-so : (is_driven : Bool) (answered : Answered) (reported : Result (Unit {0}) Fault) (closed : Result (Unit {0}) CloseFault)
+      → MatchResult closed (λ done. ClosesWith opened.book commands is_driven answered reported ends) (λ why. IsStopped opened.book why reported ends)
+      → MatchResult closed (λ done. IsServedAtDesk opened commands is_driven answered reported site) (λ why. IsStoppedAtDesk opened why reported site)
+  leaves-so is_driven answered reported (Ok done) closes = record {
     sites = sites;
     separate = separate;
     ends = ends;
@@ -230,7 +230,7 @@ module _ (opened : Station) (commands : List Command) (sites : Sites) (ends : En
     contents = λ just. contents-together opened.book (replayed opened.book closes.calls) opened.seen.state sites ends site separate of_sites together (closes.closed.contents just);
     left = left-together opened closes.calls sites ends separate of_sites site together closes.closed.left;
   }
-  leaves-so is_driven status reported (Err why) stops = record {
+  leaves-so is_driven answered reported (Err why) stops = record {
     calls = stops.calls;
     answered = stops.answered;
     kept = λ unserved. kept-together opened stops.calls sites ends separate of_sites site together (stops.kept unserved);
@@ -243,7 +243,7 @@ served-at-desk opened commands book seen sites at (Ok left) of_book of_seen sepa
     let here : EndsSo opened.book commands at.ends at.ending = subst (λ (b : Book). EndsSo b commands at.ends at.ending) of_book ends in
     let same : EndsSo opened.book commands at.ends left.ending = subst (λ (e : Ending). EndsSo opened.book commands at.ends e) (sym is.1) here in
     let parts : IsSeparate opened.seen.state sites = subst (λ (s : Seen). IsSeparate s.state sites) of_seen separate in
-    record { reported = same.reported; left = leaves-so opened commands sites at.ends left.site parts of_sites is.0 left.ending.is_driven left.ending.status left.ending.reported left.ending.closed same.ended }
+    record { reported = same.reported; left = leaves-so opened commands sites at.ends left.site parts of_sites is.0 left.ending.is_driven left.ending.answered left.ending.reported left.ending.closed same.ended }
 served-at-desk opened commands book seen sites at (Err fault) of_book of_seen separate of_sites is ends = tt
 
 -- a desk served these sites
@@ -306,8 +306,8 @@ as-many-ends sites ends room of_sites enough =
     omega (arith, long, enough)
 
 -- where no fault is told, the desk was closed, and the line was served
-pub served-reported : (opened : Station) (commands : List Command) (ending : Ending) (site : SiteValue) → ending.reported ≡ Ok tt → LeavesSo opened commands ending site → IsServedAtDesk opened commands ending.is_driven ending.status (Ok tt) site
+pub served-reported : (opened : Station) (commands : List Command) (ending : Ending) (site : SiteValue) → ending.reported ≡ Ok tt → LeavesSo opened commands ending site → IsServedAtDesk opened commands ending.is_driven ending.answered (Ok tt) site
 served-reported opened commands ending site good leaves =
     let closed : ending.closed ≡ Ok tt = subst (λ (r : Result (Unit {0}) Fault). OnOk r (ending.closed ≡ Ok tt)) good leaves.reported in
-    subst (λ (reported : Result (Unit {0}) Fault). IsServedAtDesk opened commands ending.is_driven ending.status reported site) good
-    (subst (λ (r : Result (Unit {0}) CloseFault). MatchResult r (λ done. IsServedAtDesk opened commands ending.is_driven ending.status ending.reported site) (λ why. IsStoppedAtDesk opened why ending.reported site)) closed leaves.left)
+    subst (λ (reported : Result (Unit {0}) Fault). IsServedAtDesk opened commands ending.is_driven ending.answered reported site) good
+    (subst (λ (r : Result (Unit {0}) CloseFault). MatchResult r (λ done. IsServedAtDesk opened commands ending.is_driven ending.answered ending.reported site) (λ why. IsStoppedAtDesk opened why ending.reported site)) closed leaves.left)

@@ -11,3 +11,4 @@ pub mod IssueLaws
 pub mod RedoLaws
 pub mod SavingLaws
 pub mod AfterLaws
+pub mod RunLaws

@@ -41,7 +41,7 @@ use Rattle.station_threads.specs.declared.closing.Ends.{Ends}
 use Rattle.station_threads.specs.declared.closing.CloseFault.{CloseFault}
 use Rattle.station_files.specs.Faults.{IsOfStream}
 use Rattle.station_files.specs.declared.faults.Fault.{Fault}
-use Rattle.station_files.specs.declared.faults.ExitStatus.TheVariants.{Done}
+use Rattle.station_line.specs.declared.answered.Answered.TheVariants.{AllAccepted}
 use Rattle.script_session.specs.Asking.{no_counts}
 use Rattle.script_session.specs.AtDesk.{AllLeftSo, BeginsAs, Closes, ClosesWith, IsStopped, TellsWhy}
 use Rattle.script_session.specs.Parts.{Sites, IsSeparate, AreEndsOfParts, IsTogether}
@@ -185,7 +185,7 @@ module _ (opened : Station) (sites : Sites) (ends : Ends SiteValue) (site : Site
       let refusals = counted.refusals in
       let none : (replayed opened.book closes.calls).accepted ≡ [] = none-of (replayed opened.book closes.calls).accepted (omega (arith, tickets)) in
       let sound : count_by is_refusal closes.calls ≡ 0 = omega (arith, refusals) in
-      let with_none : ClosesWith opened.book [] true Done (Ok tt) ends = record {
+      let with_none : ClosesWith opened.book [] true AllAccepted (Ok tt) ends = record {
         calls = closes.calls;
         counts = no_counts;
         receipts = [];

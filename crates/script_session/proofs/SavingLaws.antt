@@ -7,8 +7,8 @@ use Rattle.site_core.specs.State.{Seen}
 use Rattle.station_alone.specs.Station.{Station}
 use Rattle.station_text.specs.declared.line_file.LineFile.{LineFile}
 use Rattle.station_files.specs.Files.{Known}
-use Rattle.station_files.specs.declared.faults.ExitStatus.{ExitStatus}
-use Rattle.station_files.specs.declared.faults.ExitStatus.TheVariants.{Done}
+use Rattle.station_line.specs.declared.answered.Answered.{Answered}
+use Rattle.station_line.specs.declared.answered.Answered.TheVariants.{AllAccepted}
 use Rattle.station_line.specs.Site.{IsFollowed}
 use Rattle.script_session.specs.declared.logs.PartLog.{PartLog}
 use Rattle.script_session.specs.Parts.{IsLineOf, Telling}
@@ -17,21 +17,21 @@ use Rattle.script_session.specs.Saving.{HoldsAfter, IsReportedLine, KeepsReporte
 pub line-of : (line : Line) (slaves count : ℕ) → slaves ≡ count → IsLineOf slaves line → IsLineOf count line
 line-of line slaves count same is = subst (λ (n : ℕ). IsLineOf n line) same is
 
-holds-unserved : (is_driven : Bool) (files : Known) (line : LineFile) (r : Station) (unserved commands : List Command) (status : ExitStatus) → (is_driven ≡ false → unserved ≡ commands)
-    → HoldsAfter is_driven files line r unserved status → HoldsAfter is_driven files line r commands status
-holds-unserved true files line r unserved commands status same holds = holds
-holds-unserved false files line r unserved commands status same holds = subst (λ (l : List Command). SavesServed files line r l status) (same refl) holds
+holds-unserved : (is_driven : Bool) (files : Known) (line : LineFile) (r : Station) (unserved commands : List Command) (answered : Answered) → (is_driven ≡ false → unserved ≡ commands)
+    → HoldsAfter is_driven files line r unserved answered → HoldsAfter is_driven files line r commands answered
+holds-unserved true files line r unserved commands answered same holds = holds
+holds-unserved false files line r unserved commands answered same holds = subst (λ (l : List Command). SavesServed files line r l answered) (same refl) holds
 
 -- what wasn't submitted are all commands, or they don't matter
-pub after-unserved : (is_driven : Bool) (files : Known) (line : LineFile) (before : Seen) (unserved commands : List Command) (status : ExitStatus) → (is_driven ≡ false → unserved ≡ commands)
-    → SavesAfter files line before is_driven unserved status → SavesAfter files line before is_driven commands status
-after-unserved is_driven files line before unserved commands status same saves =
-    record { r = saves.r; recovered = saves.recovered; begins = saves.begins; holds = holds-unserved is_driven files line saves.r unserved commands status same saves.holds }
+pub after-unserved : (is_driven : Bool) (files : Known) (line : LineFile) (before : Seen) (unserved commands : List Command) (answered : Answered) → (is_driven ≡ false → unserved ≡ commands)
+    → SavesAfter files line before is_driven unserved answered → SavesAfter files line before is_driven commands answered
+after-unserved is_driven files line before unserved commands answered same saves =
+    record { r = saves.r; recovered = saves.recovered; begins = saves.begins; holds = holds-unserved is_driven files line saves.r unserved commands answered same saves.holds }
 
--- ---- of a status that is worse than that of the answers
+-- ---- of answers that are worse
 
-serves-worse : (files : Known) (line : LineFile) (opened : Station) (commands : List Command) (one final : ExitStatus)
-    → (final ≡ Done → one ≡ Done) → SavesServed files line opened commands one → SavesServed files line opened commands final
+serves-worse : (files : Known) (line : LineFile) (opened : Station) (commands : List Command) (one final : Answered)
+    → (final ≡ AllAccepted → one ≡ AllAccepted) → SavesServed files line opened commands one → SavesServed files line opened commands final
 serves-worse files line opened commands one final done_too saves = record {
   s = saves.s;
   accepted = saves.accepted;
@@ -42,13 +42,13 @@ serves-worse files line opened commands one final done_too saves = record {
   held = saves.held;
 }
 
-holds-worse : (is_driven : Bool) (files : Known) (line : LineFile) (r : Station) (commands : List Command) (one final : ExitStatus)
-    → (final ≡ Done → one ≡ Done) → HoldsAfter is_driven files line r commands one → HoldsAfter is_driven files line r commands final
+holds-worse : (is_driven : Bool) (files : Known) (line : LineFile) (r : Station) (commands : List Command) (one final : Answered)
+    → (final ≡ AllAccepted → one ≡ AllAccepted) → HoldsAfter is_driven files line r commands one → HoldsAfter is_driven files line r commands final
 holds-worse true files line r commands one final done_too holds = holds
 holds-worse false files line r commands one final done_too holds = serves-worse files line r commands one final done_too holds
 
-pub after-worse : (is_driven : Bool) (files : Known) (line : LineFile) (before : Seen) (commands : List Command) (one final : ExitStatus)
-    → (final ≡ Done → one ≡ Done) → SavesAfter files line before is_driven commands one → SavesAfter files line before is_driven commands final
+pub after-worse : (is_driven : Bool) (files : Known) (line : LineFile) (before : Seen) (commands : List Command) (one final : Answered)
+    → (final ≡ AllAccepted → one ≡ AllAccepted) → SavesAfter files line before is_driven commands one → SavesAfter files line before is_driven commands final
 after-worse is_driven files line before commands one final done_too saves = record {
   r = saves.r;
   recovered = saves.recovered;

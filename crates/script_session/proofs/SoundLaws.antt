@@ -1,5 +1,5 @@
 -- The parts of a line that ended soundly at a desk: what their devices have followed, and that the disk is synced.
-use Rattle.std.proofs.Common.{false, ◌≡◌, ℕ, zero, suc, ◌+◌, List, [], ◌∷◌, ◌++◌, length, slice_get, sym, ◌∙◌, ap, subst, arith}
+use Rattle.std.proofs.Common.{Bool, false, ◌≡◌, ℕ, zero, suc, ◌+◌, List, [], ◌∷◌, ◌++◌, length, slice_get, sym, ◌∙◌, ap, subst, arith}
 use Rattle.std.proofs.Common.{inl, inr, Some, Result, Ok}
 use Rattle.std.proofs.Common.{Err}
 use Rattle.std.specs.Prelude.{OnOk}
@@ -121,9 +121,9 @@ followed_ends follows well tells opened seen sites ends reported (Ok done) of_se
 followed_ends follows well tells opened seen sites ends reported (Err fault) of_seen separate of_sites is count sound all = all
 
 -- the parts that were served and ended soundly
-pub served_soundly : {D T : Type 0} (follows : D → Seen → Type 0) (well : D → Type 0) (tells : D → T → Type 0) (opened : Station) (commands : List Command) (left : Left SiteValue T) → ServesFollowed follows well tells false opened commands left → left.sound ≡ Ok tt
-    → IsServedReported follows well tells opened left.reported left.site
-served_soundly follows well tells opened commands left serves sound = record {
+pub served_soundly : {D T : Type 0} (follows : D → Seen → Type 0) (well : D → Type 0) (tells : D → T → Type 0) (turns : Bool) (opened : Station) (commands : List Command) (left : Left SiteValue T) → ServesFollowed follows well tells turns opened commands left → left.sound ≡ Ok tt
+    → IsServedReported follows well tells turns opened left.reported left.site
+served_soundly follows well tells turns opened commands left serves sound = record {
   served = record {
     sites = serves.parts.desk.sites;
     separate = serves.parts.desk.separate;
@@ -131,7 +131,7 @@ served_soundly follows well tells opened commands left serves sound = record {
     of_sites = serves.parts.desk.of_sites;
     together = serves.parts.together;
   };
-  still = serves.turning;
+  turning = serves.turning;
   followed = subst (λ (r : Result (Unit {0}) Fault). EndsFollowed follows well opened r serves.parts.desk.ends) sound serves.followed;
   devices = serves.reported;
   sound = subst (λ (r : Result (Unit {0}) Fault). OnOk r (AreSound left.reported)) sound serves.sound;

@@ -8,7 +8,7 @@ use Rattle.station_alone.specs.Recovery.{HasRecovered, BeginsRecovered}
 use Rattle.station_text.specs.declared.line_file.LineFile.{LineFile}
 use Rattle.station_files.specs.Files.{Known}
 use Rattle.station_files.specs.declared.faults.Fault.{Fault}
-use Rattle.station_files.specs.declared.faults.ExitStatus.{ExitStatus}
+use Rattle.station_line.specs.declared.answered.Answered.{Answered}
 use Rattle.station_line.specs.Opened.{GoesKept}
 use Rattle.station_line.specs.Rounds.{AreAmong, Goes}
 use Rattle.station_line.specs.Site.{HoldsSite, IsFollowed}
@@ -40,7 +40,7 @@ pub record ServesRecovered {D : Type 0} (follows : D → Seen → Type 0) (comma
 
 -- The site was recovered. If the commands weren't submitted at the desk, some were accepted then, unless the recovery failed.
 abbrev pub GoesAfterDesk : {D : Type 0} → (D → Seen → Type 0) → (is_driven : Bool) → List Command → (left : Seen)
-    → Result ExitStatus Fault → Type 0
+    → Result Answered Fault → Type 0
 GoesAfterDesk follows true commands left ended = (last : Seen) × GoesFollowed follows left last
 GoesAfterDesk follows false commands left ended =
     ((last : Seen) × (fault : Fault) × GoesFollowed follows left last × (ended ≡ Err fault)) ⊎ ServesRecovered follows commands left

@@ -7,8 +7,8 @@ use Rattle.desk_book.specs.Serving.{ShareCounts}
 use Rattle.station_files.specs.Faults.{IsOfStream}
 use Rattle.station_files.specs.declared.faults.Fault.{Fault}
 use Rattle.station_files.specs.declared.faults.Fault.TheVariants.{Unserved}
-use Rattle.station_files.specs.declared.faults.ExitStatus.{ExitStatus}
-use Rattle.station_files.specs.declared.faults.ExitStatus.TheVariants.{Done}
+use Rattle.station_line.specs.declared.answered.Answered.{Answered}
+use Rattle.station_line.specs.declared.answered.Answered.TheVariants.{AllAccepted}
 use Rattle.station_line.specs.Rounds.{AreAmong}
 
 -- the commands of tickets or receipts
@@ -20,25 +20,25 @@ abbrev pub AreInOrder : List Numbered → Type 0
 AreInOrder numbered = (place : ℕ) (one : Numbered) → slice_get numbered place ≡ Some one → one.number ≡ place
 
 -- One command was submitted: it was accepted with a ticket, which the share counts, or it was refused.
-abbrev pub Asks : Command → (before after : ExitStatus) → (had has : ShareCounts) → Option Numbered → Type 0
+abbrev pub Asks : Command → (before after : Answered) → (had has : ShareCounts) → Option Numbered → Type 0
 Asks command before after had has (Some ticket) = (ticket.command ≡ command) × (after ≡ before) × (has.tickets ≡ had.tickets + 1)
-Asks command before after had has None = (after ≢ Done) × (has.tickets ≡ had.tickets)
+Asks command before after had has None = (after ≢ AllAccepted) × (has.tickets ≡ had.tickets)
 
 -- These commands were submitted in order. Some were accepted with these tickets, which the share counts: all of them if none was refused.
-pub record AsksAll (commands : List Command) (before after : ExitStatus) (had has : ShareCounts) (tickets : List Numbered) : Type 0 where
+pub record AsksAll (commands : List Command) (before after : Answered) (had has : ShareCounts) (tickets : List Numbered) : Type 0 where
   pub among : AreAmong (commands_of tickets) commands
-  pub all : after ≡ Done → (before ≡ Done) × (commands_of tickets ≡ commands)
+  pub all : after ≡ AllAccepted → (before ≡ AllAccepted) × (commands_of tickets ≡ commands)
   pub counted : has.tickets ≡ had.tickets + length tickets
 
 -- They were submitted so, and all accepted ones are durable, with these receipts, each at the place of its number.
-pub record Receives (commands : List Command) (before after : ExitStatus) (had has : ShareCounts) (receipts : List Numbered) : Type 0 where
+pub record Receives (commands : List Command) (before after : Answered) (had has : ShareCounts) (receipts : List Numbered) : Type 0 where
   pub asked : AsksAll commands before after had has receipts
   pub in_order : AreInOrder receipts
 
--- a submitter: the counts of its share, the highest status of the answers, and its result, once it has submitted
+-- a submitter: the counts of its share, the worst of the answers, and its result, once it has submitted
 pub record Submission : Type 0 where
   pub counts : ShareCounts
-  pub status : ExitStatus
+  pub answered : Answered
   pub came : Option (Result (Vec Numbered) Fault)
 
 -- a share that has counted nothing yet
@@ -50,10 +50,10 @@ abbrev pub GivesUp : Fault → Type 0
 GivesUp fault = IsOfStream fault ⊎ (fault ≡ Unserved)
 
 -- this is the result of a submitter of these commands, or it hasn't submitted any
-abbrev pub ComesTo : List Command → ExitStatus → ShareCounts → Option (Result (Vec Numbered) Fault) → Type 0
-ComesTo commands status counts None = (status ≡ Done) × (counts.tickets ≡ 0)
-ComesTo commands status counts (Some (Ok receipts)) = Receives commands Done status no_counts counts receipts.items
-ComesTo commands status counts (Some (Err fault)) = GivesUp fault
+abbrev pub ComesTo : List Command → Answered → ShareCounts → Option (Result (Vec Numbered) Fault) → Type 0
+ComesTo commands answered counts None = (answered ≡ AllAccepted) × (counts.tickets ≡ 0)
+ComesTo commands answered counts (Some (Ok receipts)) = Receives commands AllAccepted answered no_counts counts receipts.items
+ComesTo commands answered counts (Some (Err fault)) = GivesUp fault
 
 -- the receipts in a submitter's result, if it has any
 abbrev pub receipts_of : Option (Result (Vec Numbered) Fault) → List Numbered

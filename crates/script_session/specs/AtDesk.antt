@@ -29,8 +29,8 @@ use Rattle.station_threads.specs.Closing.{IsHandedIn}
 use Rattle.station_files.specs.Faults.{IsOfStream}
 use Rattle.station_files.specs.declared.faults.Fault.{Fault}
 use Rattle.station_line.specs.Faults.{fault_of_book}
-use Rattle.station_files.specs.declared.faults.ExitStatus.{ExitStatus}
-use Rattle.station_files.specs.declared.faults.ExitStatus.TheVariants.{Done}
+use Rattle.station_line.specs.declared.answered.Answered.{Answered}
+use Rattle.station_line.specs.declared.answered.Answered.TheVariants.{AllAccepted}
 use Rattle.station_line.specs.Rounds.{AreAmong}
 use Rattle.script_session.specs.declared.closing.AtDesk.{AtDesk}
 use Rattle.script_session.specs.declared.closing.Ending.{Ending}
@@ -49,9 +49,9 @@ abbrev pub seen_of : SiteValue → Seen
 seen_of site = site.seen
 
 -- Some of these commands were accepted, in order: all of them if none was refused, and none if they were not submitted.
-abbrev pub AcceptsOf : (is_driven : Bool) → (commands : List Command) → ExitStatus → (accepted : List Command) → Type 0
-AcceptsOf true commands status accepted = AreAmong accepted commands × (status ≡ Done → accepted ≡ commands)
-AcceptsOf false commands status accepted = (accepted ≡ []) × (status ≡ Done)
+abbrev pub AcceptsOf : (is_driven : Bool) → (commands : List Command) → Answered → (accepted : List Command) → Type 0
+AcceptsOf true commands answered accepted = AreAmong accepted commands × (answered ≡ AllAccepted → accepted ≡ commands)
+AcceptsOf false commands answered accepted = (accepted ≡ []) × (answered ≡ AllAccepted)
 
 -- A desk of this book was closed with everything that it had handed out. These are the calls of the book, each answered as the definition
 -- says. The book has no fault, and all that was accepted or found is settled. If the book was just opened, each slave that was idle with
@@ -71,14 +71,14 @@ pub record Closes (opened : Book) (shares : List ShareCounts) (receipts : List N
 
 -- A desk of this book was closed with one share. If no fault is told to the user, it accepted of these commands those that it should, and
 -- each of them was acknowledged.
-pub record ClosesWith (opened : Book) (commands : List Command) (is_driven : Bool) (status : ExitStatus) (reported : Result (Unit {0}) Fault)
+pub record ClosesWith (opened : Book) (commands : List Command) (is_driven : Bool) (answered : Answered) (reported : Result (Unit {0}) Fault)
     (ends : Ends SiteValue) : Type 0 where
   pub calls : List Call
   pub counts : ShareCounts
   pub receipts : List Numbered
   pub closed : IsClosed opened calls (counts ∷ []) receipts ends
   pub acknowledged : OnOk reported (commands_of receipts ≡ (replayed opened calls).accepted)
-  pub accepts : OnOk reported (AcceptsOf is_driven commands status (replayed opened calls).accepted)
+  pub accepts : OnOk reported (AcceptsOf is_driven commands answered (replayed opened calls).accepted)
   pub tells : IfErr reported GivesUp
 
 -- the fault that the user is told of where a desk isn't closed: a stream failed, memory was refused, or it is the fault of the book
@@ -97,7 +97,7 @@ pub record IsStopped (opened : Book) (why : CloseFault) (reported : Result (Unit
 pub record EndsSo (opened : Book) (commands : List Command) (ends : Ends SiteValue) (ending : Ending) : Type 0 where
   pub reported : OnOk ending.reported (ending.closed ≡ Ok tt)
   pub ended : MatchResult ending.closed
-      (λ done. ClosesWith opened commands ending.is_driven ending.status ending.reported ends)
+      (λ done. ClosesWith opened commands ending.is_driven ending.answered ending.reported ends)
       (λ why. IsStopped opened why ending.reported ends)
 
 -- A desk of this book is made of this: the book, which has accepted no command, and ledgers with these names and parts, more than one each.
@@ -133,13 +133,13 @@ AllLeftSo so opened calls site = (machine : Machine) → BeginsAs machine calls 
 -- The line of this station was taken apart, a desk of its book served the parts and was closed, and the line was put together again. If
 -- the book was just opened, each slave that was idle with the opening words before reads as the contents after all accepted commands. A
 -- power cut leaves only what is kept for the session with all of them, and redo of it gives these contents.
-pub record IsServedAtDesk (opened : Station) (commands : List Command) (is_driven : Bool) (status : ExitStatus)
+pub record IsServedAtDesk (opened : Station) (commands : List Command) (is_driven : Bool) (answered : Answered)
     (reported : Result (Unit {0}) Fault) (site : SiteValue) : Type 0 where
   pub sites : Sites
   pub separate : IsSeparate opened.seen.state sites
   pub ends : Ends SiteValue
   pub of_sites : AreEndsOfParts sites ends
-  pub closes : ClosesWith opened.book commands is_driven status reported ends
+  pub closes : ClosesWith opened.book commands is_driven answered reported ends
   pub together : IsTogether ends site
   pub contents : IsJustOpened opened.book → (slave : ℕ) → IsAsOpened opened.book opened.seen.state slave
       → ReadsAsContents (replayed opened.book closes.calls) site.seen.state slave
@@ -157,7 +157,7 @@ pub record IsStoppedAtDesk (opened : Station) (why : CloseFault) (reported : Res
 pub record LeavesSo (opened : Station) (commands : List Command) (ending : Ending) (site : SiteValue) : Type 0 where
   pub reported : OnOk ending.reported (ending.closed ≡ Ok tt)
   pub left : MatchResult ending.closed
-      (λ done. IsServedAtDesk opened commands ending.is_driven ending.status ending.reported site)
+      (λ done. IsServedAtDesk opened commands ending.is_driven ending.answered ending.reported site)
       (λ why. IsStoppedAtDesk opened why ending.reported site)
 
 -- The line of this station was taken apart, and its parts ended so.
@@ -196,12 +196,12 @@ pub record PartsFollowed {D : Type 0} (follows : D → Seen → Type 0) (opened 
   pub parts : AreFollowed follows ends
   pub synced : ends.flusher.site.seen.state.disk ≡ of_bytes ends.flusher.site.seen.state.disk.bytes
 
--- The parts were served so, without a site for process data, devices have kept this of them, and this is told of the devices: each part ended
--- soundly.
-pub record IsServedReported {D T : Type 0} (follows : D → Seen → Type 0) (well : D → Type 0) (tells : D → T → Type 0) (opened : Station)
-    (reported : DeskLog T) (site : SiteValue) : Type 0 where
+-- The parts were served so, one for process data among them exactly where `turns` says so, devices have kept this of them, and this is told of the
+-- devices: each part ended soundly.
+pub record IsServedReported {D T : Type 0} (follows : D → Seen → Type 0) (well : D → Type 0) (tells : D → T → Type 0) (turns : Bool)
+    (opened : Station) (reported : DeskLog T) (site : SiteValue) : Type 0 where
   pub served : PartsAreServed opened site
-  pub still : is_some served.sites.cycle ≡ false
+  pub turning : is_some served.sites.cycle ≡ turns
   pub followed : PartsFollowed (Soundly follows well) opened served.ends
   pub devices : IsDeskReported follows well tells opened.seen reported served.ends
   pub sound : AreSound reported
@@ -223,7 +223,7 @@ pub record ServesFollowed {D T : Type 0} (follows : D → Seen → Type 0) (well
   pub reported : IsDeskReported follows well tells opened.seen left.reported parts.desk.ends
   pub sound : OnOk left.sound (AreSound left.reported)
 
--- A line was not served, or not put together again behind that, and this is told: of the line's device, where no part had one yet; of the devices
+-- A line was not served, or not put together again after that, and this is told: of the line's device, where no part had one yet; of the devices
 -- of the parts, where no desk has served them; or of the devices at a desk of this book, which served the parts with this ending.
 pub data IsUnservedReported {D T : Type 0} (follows : D → Seen → Type 0) (well : D → Type 0) (tells : D → T → Type 0) (opened : Station)
     (commands : List Command) : UnservedLog T → Type 0 where

@@ -4,3 +4,4 @@ pub mod AtDesk
 pub mod Redoing
 pub mod Saving
 pub mod After
+pub mod Running

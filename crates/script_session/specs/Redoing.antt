@@ -19,7 +19,7 @@ use Rattle.desk_book.specs.declared.call.Call.{Call}
 use Rattle.desk_book.specs.Calls.{replayed, AreAnswered}
 use Rattle.desk_book.specs.Logs.{RomEntry}
 use Rattle.station_files.specs.declared.faults.Fault.{Fault}
-use Rattle.station_files.specs.declared.faults.ExitStatus.TheVariants.{Done}
+use Rattle.station_line.specs.declared.answered.Answered.TheVariants.{AllAccepted}
 use Rattle.script_session.specs.AtDesk.{IsServedAtDesk, TellsWhy}
 
 -- The station was just opened on what its site holds: the disk is synced and holds this journal, and no slave is busy.
@@ -57,7 +57,7 @@ IsCount count words = count < 2 ^ 64 → words ≡ count
 -- The line of this station was taken apart, served at a desk to which no command was submitted, and put together again. The desk was
 -- closed, so all is settled that was live. `words` is the number of words that the book has issued to its slaves.
 pub record IsRedone (opened : Station) (words : ℕ) (site : SiteValue) : Type 0 where
-  pub served : IsServedAtDesk opened [] true Done (Ok tt) site
+  pub served : IsServedAtDesk opened [] true AllAccepted (Ok tt) site
   pub counts : IsCount (words_issued (replayed opened.book served.closes.calls).slaves) words
   pub keeps : KeepsLine opened site.seen.state
 

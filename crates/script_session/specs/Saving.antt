@@ -9,8 +9,8 @@ use Rattle.station_text.specs.declared.line_file.LineFile.{LineFile}
 use Rattle.station_files.specs.Files.{Known}
 use Rattle.station_files.specs.Faults.{IsOfStream}
 use Rattle.station_files.specs.declared.faults.Fault.{Fault}
-use Rattle.station_files.specs.declared.faults.ExitStatus.{ExitStatus}
-use Rattle.station_files.specs.declared.faults.ExitStatus.TheVariants.{Done}
+use Rattle.station_line.specs.declared.answered.Answered.{Answered}
+use Rattle.station_line.specs.declared.answered.Answered.TheVariants.{AllAccepted}
 use Rattle.station_line.specs.Site.{HoldsSite, IsFollowed}
 use Rattle.station_line.specs.Opened.{is_old, StartsFrom}
 use Rattle.station_line.specs.Rounds.{AreAmong, Goes, IsServed}
@@ -32,54 +32,54 @@ pub record IsReportedLine {D T : Type 0} (follows : D → Seen → Type 0) (well
   pub ends : IsFollowed (KeepsReported follows well tells reported) last
   pub count : slaves ≡ length last.state.halves
 
--- The files hold the state of this station after some of the commands were accepted and served: all of them if the status is `Done`.
-pub record SavesServed (files : Known) (line : LineFile) (opened : Station) (commands : List Command) (status : ExitStatus) : Type 0 where
+-- The files hold the state of this station after some of the commands were accepted and served: all of them if that is how they were answered.
+pub record SavesServed (files : Known) (line : LineFile) (opened : Station) (commands : List Command) (answered : Answered) : Type 0 where
   pub s : Station
   pub accepted : List Command
   pub goes : Goes accepted opened s
   pub among : AreAmong accepted commands
-  pub all : status ≡ Done → accepted ≡ commands
+  pub all : answered ≡ AllAccepted → accepted ≡ commands
   pub served : IsServed s.book
   pub held : HoldsSite files line s.seen.state
 
 -- The files hold the state of this recovered station. If no command had been submitted at the desk, the commands are served on it first.
-abbrev pub HoldsAfter : (is_driven : Bool) → Known → LineFile → Station → List Command → ExitStatus → Type 0
-HoldsAfter true files line r commands status = HoldsSite files line r.seen.state
-HoldsAfter false files line r commands status = SavesServed files line r commands status
+abbrev pub HoldsAfter : (is_driven : Bool) → Known → LineFile → Station → List Command → Answered → Type 0
+HoldsAfter true files line r commands answered = HoldsSite files line r.seen.state
+HoldsAfter false files line r commands answered = SavesServed files line r commands answered
 
 -- The site was recovered after the desk was closed, and the files hold its result.
 pub record SavesAfter (files : Known) (line : LineFile) (before : Seen) (is_driven : Bool) (commands : List Command)
-    (status : ExitStatus) : Type 0 where
+    (answered : Answered) : Type 0 where
   pub r : Station
   pub recovered : HasRecovered r
   pub begins : BeginsRecovered before r
-  pub holds : HoldsAfter is_driven files line r commands status
+  pub holds : HoldsAfter is_driven files line r commands answered
 
 -- No fault was told of the work at the desk, which was closed, and the files hold the line after it, with the commands that were not
 -- submitted there.
-pub record SavesLeft {T : Type 0} (files : Known) (line : LineFile) (left : Left SiteValue T) (status : ExitStatus) : Type 0 where
-  pub worst : status ≡ Done → left.ending.status ≡ Done
+pub record SavesLeft {T : Type 0} (files : Known) (line : LineFile) (left : Left SiteValue T) (answered : Answered) : Type 0 where
+  pub worst : answered ≡ AllAccepted → left.ending.answered ≡ AllAccepted
   pub reported : left.ending.reported ≡ Ok tt
-  pub after : SavesAfter files line left.site.seen left.ending.is_driven left.unserved.items status
+  pub after : SavesAfter files line left.site.seen left.ending.is_driven left.unserved.items answered
 
 -- The line of this station was taken apart, served by threads at a desk, put together again and recovered, and the files hold the result.
--- The desk was closed with some of the commands accepted: all of them if the status is `Done`.
-pub record SavesAtDesk (files : Known) (line : LineFile) (opened : Station) (commands : List Command) (status : ExitStatus) : Type 0 where
+-- The desk was closed with some of the commands accepted: all of them if that is how they were answered.
+pub record SavesAtDesk (files : Known) (line : LineFile) (opened : Station) (commands : List Command) (answered : Answered) : Type 0 where
   pub is_driven : Bool
-  pub answers : ExitStatus
-  pub worst : status ≡ Done → answers ≡ Done
+  pub answers : Answered
+  pub worst : answered ≡ AllAccepted → answers ≡ AllAccepted
   pub site : SiteValue
   pub served : IsServedAtDesk opened commands is_driven answers (Ok tt) site
-  pub after : SavesAfter files line site.seen is_driven commands status
+  pub after : SavesAfter files line site.seen is_driven commands answered
 
 -- A run with a planned power cut is served on one thread, any other by threads.
-abbrev pub Serves : (is_cut : Bool) → Known → LineFile → Station → List Command → ExitStatus → Type 0
-Serves true files line opened commands status = SavesServed files line opened commands status
-Serves false files line opened commands status = SavesAtDesk files line opened commands status
+abbrev pub Serves : (is_cut : Bool) → Known → LineFile → Station → List Command → Answered → Type 0
+Serves true files line opened commands answered = SavesServed files line opened commands answered
+Serves false files line opened commands answered = SavesAtDesk files line opened commands answered
 
 -- The station was opened on this site, after a recovery if the journal wasn't of version 2, and the files hold its state once served.
 pub record SavesRun (is_cut : Bool) (files : Known) (line : LineFile) (site : SiteValue) (commands : List Command)
-    (status : ExitStatus) : Type 0 where
+    (answered : Answered) : Type 0 where
   pub opened : Station
   pub starts : StartsFrom (is_old site.seen.state.disk.bytes) site opened
-  pub serves : Serves is_cut files line opened commands status
+  pub serves : Serves is_cut files line opened commands answered

@@ -10,37 +10,37 @@ use crate::saving::save_reported;
 use sii_edit::Command;
 use site_shadow::{Lends, ShadowSite};
 use station_alone::{Alone, recover};
-use station_files::{ExitStatus, Fault, Store};
-use station_line::{of_open, serve_commands};
+use station_files::{Fault, Store};
+use station_line::{Answered, of_open, serve_commands};
 use station_text::LineFile;
 use std::alloc::Global;
 use std::io::Write;
 
 /// A line that a desk has left.
 #[derive(Drop)]
-pub struct DeskLeft<S> {
+pub(crate) struct DeskLeft<S> {
     /// The site of the line.
-    pub site: S,
+    pub(crate) site: S,
     /// Whether the commands were submitted at the desk.
-    pub is_driven: bool,
+    pub(crate) is_driven: bool,
     /// The commands where they were not submitted, and otherwise none.
-    pub commands: Vec<Command>,
+    pub(crate) commands: Vec<Command>,
 }
 
 /// How the work on a line ended, and what is reported of its device.
 #[derive(Drop)]
-pub struct LineEnd<T> {
-    /// The status of the answers that were given, or the fault that ended the work.
-    pub ended: Result<ExitStatus, Fault>,
+pub(crate) struct LineEnd<T> {
+    /// How the commands were answered, or the fault that ended the work.
+    pub(crate) ended: Result<Answered, Fault>,
     /// What the line's device tells.
-    pub reported: T,
+    pub(crate) reported: T,
 }
 
 /// Recovers a line that a desk has left, and saves what it holds. If the commands were not submitted at the desk, they are served between the two.
 /// After a fault nothing more is written.
 ///
 /// The result is the fault of the recovery, as `of_open` gives it; then that of `serve_commands`; then that of `save_reported`.
-pub fn end_line<D: Lends, S: Store, O: Write>(
+pub(crate) fn end_line<D: Lends, S: Store, O: Write>(
     alloc: Global,
     line: &LineFile,
     left: DeskLeft<ShadowSite<D>>,
@@ -66,7 +66,7 @@ pub fn end_line<D: Lends, S: Store, O: Write>(
                 return serve_alone(alloc, line, alone, commands, store, output);
             }
             drop(commands);
-            save_station(alloc, line, alone, ExitStatus::Done, store)
+            save_station(alloc, line, alone, Answered::AllAccepted, store)
         }
         Err((back, fault)) => {
             drop(commands);
@@ -94,10 +94,10 @@ fn serve_alone<D: Lends, S: Store, O: Write>(
     ensures saved { IfOk result.ended (SavesServed (S.files store.new) line.now alone commands.items) }
     ensures serves { ServesSome (Tells D.follows D.tells result.reported) commands.items alone }
 {
-    let mut status = ExitStatus::Done;
+    let mut answered = Answered::AllAccepted;
     let slaves = line.images.len() as u16;
-    match serve_commands(&mut alone, slaves, commands, output, &mut status) {
-        Ok(()) => save_station(alloc, line, alone, status, store),
+    match serve_commands(&mut alone, slaves, commands, output, &mut answered) {
+        Ok(()) => save_station(alloc, line, alone, answered, store),
         Err(fault) => {
             let (core, site) = alone.into_parts();
             drop(core);
@@ -109,12 +109,12 @@ fn serve_alone<D: Lends, S: Store, O: Write>(
     }
 }
 
-/// Saves what the line of this station holds. Gives this status of the answers.
+/// Saves what the line of this station holds, whose commands were answered so.
 fn save_station<D: Lends, S: Store>(
     alloc: Global,
     line: &LineFile,
     alone: Alone<ShadowSite<D>>,
-    status: ExitStatus,
+    answered: Answered,
     store: &mut S,
 ) -> LineEnd<D::Logged>
     requires disk { IsTrue alone.line.has_disk }
@@ -122,7 +122,7 @@ fn save_station<D: Lends, S: Store>(
     ensures others { ChangesAmong (S.files store.old) (S.files store.new) (files_of line.now) }
     ensures failed { IfErr result.ended (MayFail (S.files store.old) (S.files store.new)) }
     ensures saved { OnOk result.ended (HoldsSite (S.files store.new) line.now alone.seen.state) }
-    ensures status { IfOk result.ended (λ given. given ≡ status) }
+    ensures answered { IfOk result.ended (λ given. given ≡ answered) }
     ensures followed { IsFollowed (Tells D.follows D.tells result.reported) alone.seen }
     ensures reported { OnOk result.ended (IsReportedLine D.follows D.well D.tells result.reported (length line.now.images.items) alone.seen) }
 {
@@ -131,7 +131,7 @@ fn save_station<D: Lends, S: Store>(
     let (saved, reported) = save_reported(alloc, line, site, store);
     match saved {
         Ok(()) => LineEnd {
-            ended: Ok(status),
+            ended: Ok(answered),
             reported,
         },
         Err(fault) => LineEnd {
@@ -142,7 +142,7 @@ fn save_station<D: Lends, S: Store>(
 }
 
 /// What is reported of the device of a line that isn't worked on any more.
-fn reported_of<D: Lends>(site: ShadowSite<D>) -> D::Logged
+pub fn reported_of<D: Lends>(site: ShadowSite<D>) -> D::Logged
     ensures { IsFollowed (Tells D.follows D.tells result) site.seen }
 {
     let (parts, mut device) = site.into_parts();

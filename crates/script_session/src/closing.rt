@@ -11,8 +11,8 @@ use crate::submitter::Submitter;
 use sii_edit::Command;
 use site_core::Site;
 use site_shadow::{Device, ShadowSite};
-use station_files::{ExitStatus, Fault};
-use station_line::fault_of_book;
+use station_files::Fault;
+use station_line::{Answered, fault_of_book};
 use station_threads::{
     CloseFault, Closed, Desk, Ends, NotClosed, Receipt, Refusals, Served, Share, Tickets, close,
 };
@@ -24,8 +24,8 @@ use std::io::Write;
 pub struct Ending {
     /// Whether the commands were submitted. If a thread can't be started, none is.
     pub is_driven: bool,
-    /// The highest status of the answers to the commands: `Done` if none was refused.
-    pub status: ExitStatus,
+    /// How the commands were answered: all accepted if none was submitted.
+    pub answered: Answered,
     /// Why the desk wasn't closed, if it wasn't.
     pub closed: Result<(), CloseFault>,
     /// The fault that is reported to the user, if there is one. The desk can be closed all the same: where an answer or the totals couldn't be
@@ -60,7 +60,7 @@ pub(crate) fn hand_in<T: Tickets, R: Refusals, C: NamesCommands, O: Write, D: De
         commands: unserved,
         output,
         share,
-        status,
+        answered,
         came,
         ..
     } = submitter;
@@ -71,7 +71,7 @@ pub(crate) fn hand_in<T: Tickets, R: Refusals, C: NamesCommands, O: Write, D: De
     let (ends, closed, ended) = close_desk(desk, shares, receipts, ends, is_driven, output);
     let ending = Ending {
         is_driven,
-        status,
+        answered,
         closed,
         reported: reported_of(asked, ended),
     };

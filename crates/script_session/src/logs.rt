@@ -1,8 +1,9 @@
 //! What is reported of the devices of a line that was served at a desk.
 
-ghost use Rattle.std.specs.Prelude.{◌≡◌};
+ghost use Rattle.std.specs.Prelude.{◌≡◌, Some, None};
 ghost use Rattle.site_core.specs.State.{Seen};
 ghost use Rattle.script_session.specs.Parts.{Telling};
+ghost use Rattle.script_session.specs.Running.{desk_of, opening_of, whole_of};
 
 use site_shadow::{Device, Lends};
 
@@ -35,6 +36,84 @@ pub enum UnservedLog<T> {
     Separate(DeskLog<T>),
     /// Of the devices at a desk that served the parts.
     Desk(DeskLog<T>),
+}
+
+/// What is reported of the devices of a line that was served at a desk. `T` is what one device tells.
+#[derive(Drop)]
+pub struct LineLog<T> {
+    /// Of the line's device as the station was opened, and of its parts' at the desk.
+    pub desk: DeskLog<T>,
+    /// Of the line's device after the desk.
+    pub after: T,
+}
+
+/// What a run tells of the devices of its line, as far as it came. `T` is what one device tells.
+#[derive(Drop)]
+pub struct RunLog<T> {
+    /// Of the line's device as the station was opened, if its parts got none.
+    pub opening: Option<T>,
+    /// Of the devices of a line that was taken apart: of the line's as the station was opened, and of its parts', also where no desk has served them.
+    pub desk: Option<DeskLog<T>>,
+    /// Of the line's device after the desk.
+    pub after: Option<T>,
+}
+
+impl<T> RunLog<T> {
+    /// Of the devices of a line that was not served, or not put together again after that.
+    pub(crate) fn of_unserved(reported: UnservedLog<T>) -> RunLog<T>
+        ensures opening { result.opening ≡ opening_of reported }
+        ensures desk { result.desk ≡ desk_of reported }
+    {
+        match reported {
+            UnservedLog::Line(line) => RunLog::of_opening(line.reported),
+            UnservedLog::Separate(desk) | UnservedLog::Desk(desk) => RunLog::of_desk(desk, None),
+        }
+    }
+
+    /// Of the line's device alone, as a station wasn't opened.
+    pub(crate) fn of_opening(reported: T) -> RunLog<T>
+        ensures opening { result.opening ≡ Some reported }
+        ensures desk { result.desk ≡ None }
+    {
+        RunLog {
+            opening: Some(reported),
+            desk: None,
+            after: None,
+        }
+    }
+
+    /// Of a line that was taken apart, and of its device after that.
+    pub(crate) fn of_desk(desk: DeskLog<T>, after: Option<T>) -> RunLog<T>
+        ensures opening { result.opening ≡ None }
+        ensures desk { result.desk ≡ Some desk }
+        ensures after { result.after ≡ after }
+    {
+        RunLog {
+            opening: None,
+            desk: Some(desk),
+            after,
+        }
+    }
+}
+
+impl<T: Drop> RunLog<T> {
+    /// Of the devices at the desk and of the line's after it, if both is told.
+    pub fn whole(self) -> Option<LineLog<T>>
+        ensures { result ≡ whole_of self.desk self.after }
+    {
+        let RunLog {
+            opening: _,
+            desk,
+            after,
+        } = self;
+        match desk {
+            Some(desk) => match after {
+                Some(after) => Some(LineLog { desk, after }),
+                None => None,
+            },
+            None => None,
+        }
+    }
 }
 
 /// What this device tells, which was behind a site that had stopped or not. It is then as one that has asked nothing yet.

@@ -1,6 +1,6 @@
 //! Redoes by threads what is live in a journal: has a desk serve the line, to which no command is submitted.
 
-ghost use Rattle.std.specs.Prelude.{◌≡◌, ◌+◌, ◌∷◌, [], IfErr, IfOk};
+ghost use Rattle.std.specs.Prelude.{◌≡◌, ◌+◌, ◌∷◌, [], false, IfErr, IfOk};
 ghost use Rattle.script_session.specs.Asking.{no_counts};
 ghost use Rattle.script_session.specs.AtDesk.{Closes, IsServedReported, OpensDesk};
 ghost use Rattle.script_session.specs.Parts.{AreEndsOfParts, IsLineOf, OwnUpTo};
@@ -70,7 +70,7 @@ pub fn redo_by_threads<D: Lends + Send, W: Wait + Threads + Sync>(
     requires { IsOpenedHere alone }
     ensures line { IfOk result (λ redone. IsLineOf slaves redone.site.line) }
     ensures redone { IfOk result (λ redone. IsRedone alone redone.words redone.site) }
-    ensures reported { IfOk result (λ redone. IsServedReported D.follows D.well D.tells alone redone.reported redone.site) }
+    ensures reported { IfOk result (λ redone. IsServedReported D.follows D.well D.tells false alone redone.reported redone.site) }
 {
     let capacity = alone.core().capacity();
     let (core, site) = alone.into_parts();

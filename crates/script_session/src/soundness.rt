@@ -1,28 +1,16 @@
 //! Whether the parts of a line ended soundly at a desk, as far as their devices and the log of the disk tell.
 
-ghost use Rattle.std.specs.Prelude.{◌≡◌, length, Ok, Some, IsTrue, OnOk};
+ghost use Rattle.std.specs.Prelude.{◌≡◌, Ok, Some, IsTrue, OnOk};
 ghost use Rattle.std.specs.List.{AllByRecursion};
 ghost use Rattle.book_model.specs.declared.next.DiskNext.TheVariants as next;
-ghost use Rattle.script_session.specs.Parts.{AreSound, EndsSynced, Soundly};
-ghost use Rattle.station_line.specs.Site.{IsFollowed};
+ghost use Rattle.script_session.specs.Parts.{AreSound, EndsSynced};
 
 use crate::logs::{DeskLog, PartLog};
 use book_model::DiskNext;
-use site_core::Site;
 use site_shadow::{Device, ShadowSite};
 use station_files::Fault;
 use station_jobs::DiskEntry;
 use station_threads::Ends;
-
-/// Whether the site goes on, and nothing has failed that its device was asked.
-pub fn is_sound<D: Device>(site: &ShadowSite<D>) -> bool
-    ensures followed { IsTrue result → IsFollowed (Soundly D.follows D.well) site.now.seen }
-    ensures count { length site.now.line.sizes ≡ length site.now.seen.state.halves }
-{
-    // Its contract says that there is a half for each slave.
-    let _slaves = site.slaves();
-    !site.has_stopped() && site.is_followed()
-}
 
 /// Whether the parts of a line ended soundly whose site did so before, by what is reported of their devices. `is_synced` says whether the disk's log
 /// ends with a sync (`disk_is_synced`).

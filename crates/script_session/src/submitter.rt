@@ -6,7 +6,8 @@ use crate::asked::NamesCommands;
 use crate::submitting::submit_and_wait;
 use crate::work::Work;
 use sii_edit::Command;
-use station_files::{ExitStatus, Fault};
+use station_files::Fault;
+use station_line::Answered;
 use station_threads::{Client, Desk, Receipt, Refusals, Share, Tickets};
 use std::alloc::Global;
 use std::io::Write;
@@ -15,8 +16,8 @@ use std::mem::replace;
 use std::sync::Wait;
 use std::thread::Threads;
 
-/// A client that submits the commands of the type `C` once. Contracts see the counts of its share, the highest status of the answers, and
-/// its result, once it has submitted.
+/// A client that submits the commands of the type `C` once. Contracts see the counts of its share, how the commands were answered, and its
+/// result, once it has submitted.
 #[derive(Drop)]
 pub(crate) struct Submitter<'o, T: Tickets, R: Refusals, C: NamesCommands, O: Write> {
     pub(crate) alloc: Global,
@@ -26,7 +27,7 @@ pub(crate) struct Submitter<'o, T: Tickets, R: Refusals, C: NamesCommands, O: Wr
     pub(crate) tells_events: bool,
     pub(crate) output: &'o mut O,
     pub(crate) share: Share<T, R>,
-    pub(crate) status: ExitStatus,
+    pub(crate) answered: Answered,
     pub(crate) came: Option<Result<Vec<Receipt>, Fault>>,
     pub(crate) of: PhantomData<C>,
 }
@@ -37,9 +38,9 @@ impl<'o, T: Tickets, R: Refusals, C: NamesCommands, O: Write> Model for Submitte
 
     ghost Value = { Submission };
 
-    ghost view = { λ s. record { counts = s.share; status = s.status; came = s.came } };
+    ghost view = { λ s. record { counts = s.share; answered = s.answered; came = s.came } };
 
-    ghost invariant = { λ s. (is_some s.came ≡ false → s.commands.items ≡ C.commands) × ComesTo C.commands s.status s.share s.came };
+    ghost invariant = { λ s. (is_some s.came ≡ false → s.commands.items ≡ C.commands) × ComesTo C.commands s.answered s.share s.came };
 }
 
 impl<'o, T: Tickets, R: Refusals, C: NamesCommands, O: Write> Client<T, R>
@@ -59,7 +60,7 @@ impl<'o, T: Tickets, R: Refusals, C: NamesCommands, O: Write> Client<T, R>
                 tells_events: self.tells_events,
             },
             self.output,
-            &mut self.status,
+            &mut self.answered,
         );
         self.came = Some(came);
     }

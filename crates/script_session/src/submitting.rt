@@ -8,8 +8,8 @@ use crate::events::tell_events;
 use crate::work::Work;
 use book_model::{Status, SubmitRefusal};
 use sii_edit::{Cause, Command, Refusal};
-use station_files::{ExitStatus, Fault};
-use station_line::{print_accepted, print_refused, refused_as};
+use station_files::Fault;
+use station_line::{Answered, print_accepted, print_refused, refused_as};
 use station_threads::{Desk, Receipt, Refusals, Refused, Share, Ticket, Tickets};
 use std::alloc::Global;
 use std::io::Write;
@@ -71,7 +71,7 @@ fn status_after<T: Tickets, R: Refusals, W: Wait>(
     }
 }
 
-/// Submits the command at position `place` of the script, and prints the answer. A refusal raises the status.
+/// Submits the command at position `place` of the script, and prints the answer.
 fn ask_one<T: Tickets, R: Refusals, O: Write, W: Wait>(
     rt: &W,
     desk: &Desk<T, R>,
@@ -79,9 +79,9 @@ fn ask_one<T: Tickets, R: Refusals, O: Write, W: Wait>(
     place: usize,
     command: Command,
     output: &mut O,
-    status: &mut ExitStatus,
+    answered: &mut Answered,
 ) -> Result<Option<Ticket>, Fault>
-    ensures asked { IfOk result (λ ticket. Asks command status.old status.new share.old share.new ticket) }
+    ensures asked { IfOk result (λ ticket. Asks command answered.old answered.new share.old share.new ticket) }
     ensures failed { IfErr result IsOfStream }
 {
     match ask(rt, desk, share, command) {
@@ -93,7 +93,7 @@ fn ask_one<T: Tickets, R: Refusals, O: Write, W: Wait>(
             }
         },
         Err(refusal) => {
-            print_refused(place, refused_as(refusal), output, status)?;
+            print_refused(place, refused_as(refusal), output, answered)?;
             Ok(None)
         }
     }
@@ -121,15 +121,15 @@ fn ask_all<T: Tickets, R: Refusals, O: Write, W: Wait>(
     share: &mut Share<T, R>,
     commands: Vec<Command>,
     output: &mut O,
-    status: &mut ExitStatus,
+    answered: &mut Answered,
 ) -> Result<Vec<Ticket>, Fault>
-    ensures asked { IfOk result (λ tickets. AsksAll commands.items status.old status.new share.old share.new tickets.items) }
+    ensures asked { IfOk result (λ tickets. AsksAll commands.items answered.old answered.new share.old share.new tickets.items) }
     ensures failed { IfErr result IsOfStream }
 {
     let mut tickets = Vec::with_capacity(alloc, commands.len())?;
     let mut place = 0usize;
     for command in commands {
-        let asked = ask_one(rt, desk, share, place, command, output, status)?;
+        let asked = ask_one(rt, desk, share, place, command, output, answered)?;
         keep(&mut tickets, asked)?;
         place = place.saturating_add(1);
     }
@@ -194,16 +194,16 @@ pub(crate) fn submit_and_wait<T: Tickets, R: Refusals, O: Write, W: Wait>(
     share: &mut Share<T, R>,
     work: Work,
     output: &mut O,
-    status: &mut ExitStatus,
+    answered: &mut Answered,
 ) -> Result<Vec<Receipt>, Fault>
-    ensures received { IfOk result (λ receipts. Receives work.commands.items status.old status.new share.old share.new receipts.items) }
+    ensures received { IfOk result (λ receipts. Receives work.commands.items answered.old answered.new share.old share.new receipts.items) }
     ensures failed { IfErr result GivesUp }
 {
     let Work {
         commands,
         tells_events,
     } = work;
-    let tickets = ask_all(rt, alloc, desk, share, commands, output, status)?;
+    let tickets = ask_all(rt, alloc, desk, share, commands, output, answered)?;
     if tells_events {
         tell_events(rt, desk, output)?;
     }

@@ -34,8 +34,9 @@ use sii_edit::Command;
 use site_core::Site;
 use site_shadow::{Device, Lends, Parts, ShadowSite};
 use station_alone::Alone;
-use station_files::{ExitStatus, Fault};
+use station_files::Fault;
 use station_jobs::NoHook;
+use station_line::Answered;
 use station_threads::{BlankLedger, Desk, Refusals, Share, Sites, Tickets, serve_line};
 use std::alloc::{AllocError, Global};
 use std::io::Write;
@@ -304,7 +305,7 @@ fn serve_at_desk<
         tells_events,
         output,
         share,
-        status: ExitStatus::Done,
+        answered: Answered::AllAccepted,
         came: None,
         of: PhantomData,
     };

@@ -3,7 +3,7 @@
 use crate::quirk_list::QuirkList;
 use crate::serving::{PowerCut, Practice};
 use command_line::{
-    Argument, Kind, ParsedArguments, Program, TEXT, TIMEOUT, Unread, WIRE, read_words, refuse,
+    Argument, ParsedArguments, Program, TEXT, TIMEOUT, Unread, WIRE, argument, read_words, refuse,
 };
 use std::alloc::Global;
 use std::time::Duration;
@@ -64,33 +64,17 @@ to 65536 words here; what its word 0x3E says is up to you.
 Example:
   sii_slaves -i eth1 line.toml --quirks 0:chip=128,missed=2,blocks";
 
-const LINE: Argument = Argument {
-    id: "LINE",
-    kind: Kind::Word,
-    help: "The line file: the slaves' image files and the journal's, in TOML",
-    long_help: "",
-};
+const LINE: Argument =
+    argument!("LINE": Word => "The line file: the slaves' image files and the journal's, in TOML");
 
-const CUT: Argument = Argument {
-    id: "cut",
-    kind: Kind::Large("K"),
-    help: "Cuts the slaves' power in the midst of word K, 0 to 4294967295",
-    long_help: "",
-};
+const CUT: Argument =
+    argument!("cut": Large("K") => "Cuts the slaves' power in the midst of word K, 0 to 4294967295");
 
-const LEFT: Argument = Argument {
-    id: "left",
-    kind: Kind::Small("W"),
-    help: "What the torn word leaves, 0 to 65535; 0 where nothing is said",
-    long_help: "",
-};
+const LEFT: Argument =
+    argument!("left": Small("W") => "What the torn word leaves, 0 to 65535; 0 where nothing is said");
 
-const QUIRKS: Argument = Argument {
-    id: "quirks",
-    kind: Kind::Text("LIST"),
-    help: "What the slaves do as some controllers and chips do, such as 0:chip=128,missed=2",
-    long_help: QUIRKS_HELP,
-};
+const QUIRKS: Argument =
+    argument!("quirks": Text("LIST") => "What the slaves do as some controllers and chips do, such as 0:chip=128,missed=2", QUIRKS_HELP);
 
 const PROGRAM: Program<'static> = Program {
     name: "sii_slaves",

@@ -13,7 +13,6 @@ use std::process::ExitCode;
 use std::rt::Clock;
 use std::sync::Wait;
 use std::thread::Threads;
-use std::time::SystemTime;
 use std::{env, io};
 use system_files::{FileStore, Text, hold_streams};
 use wire_frames::EthernetWire;
@@ -129,11 +128,8 @@ fn serve_task<
 
 /// The nanoseconds of the time, which no earlier program on this wire has likely numbered its frames from.
 fn first_number(rt: &HostRuntime) -> u32 {
-    match SystemTime::now(rt) {
-        Ok(now) => match now.duration_since(SystemTime::UNIX_EPOCH) {
-            Ok(since) => since.subsec_nanos(),
-            Err(_) => 0,
-        },
+    match rt.since_1970() {
+        Ok(since) => since.subsec_nanos(),
         Err(_) => 0,
     }
 }

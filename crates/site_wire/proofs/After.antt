@@ -12,9 +12,8 @@ use Rattle.esc_model.proofs.Serving.{Goes-served}
 use Rattle.esc_model.proofs.Status.{idle_not_busy}
 use Rattle.site_wire.specs.Due.{is_command, IsFit}
 use Rattle.site_wire.specs.Known.{IsKnown, begins}
-use Rattle.site_wire.specs.Likeness.{IsLike}
-use Rattle.site_wire.specs.RealSlaves.{Serves, Answered}
-use Rattle.site_wire.specs.Following.{IsAfter}
+use Rattle.site_wire.specs.RealSlaves.{IsLike, Serves, Servings, Answered}
+use Rattle.site_wire.specs.After.{IsAfter}
 use Rattle.site_wire.proofs.Stored.{offered_same, forced_same, offered_again, forced_again, command_given}
 use Rattle.site_wire.proofs.Validated.{validated, Doing, Nothing, Fetches, Writes, doing_of, done, begun_is, begun_as, SameCommand, Needs, needs_covers}
 use Rattle.site_wire.proofs.Validated.{validated_same, address_needed, first_needed, fetches_command}
@@ -286,9 +285,14 @@ module _ (shadow : SlaveHalf) (d : Pdu) (pass : MayPass shadow d) where
   serves_either real later found serves (inl first) = serves_first real later found serves first
   serves_either real later found serves (inr next) = serves_next real later found serves next
 
+  -- it takes it any number of times
+  pub silent_after : (real later : SlaveHalf) → Servings d real later → IsAfter shadow real → IsAfter shadow later ⊎ IsAfter after later
+  silent_after real later servings afterwards =
+      servings_keep d FirstOrNext (λ a b lost serves was. inr (serves_either a b lost serves was)) real later servings (inl afterwards)
+
   -- it takes it once or more
   pub answered_after : (real later : SlaveHalf) (found : Pdu) → Answered d real found later → IsAfter shadow real → IsAfter after later
   answered_after real later found answered afterwards =
       servings_keep d (IsAfter after) (λ a b lost serves was. serves_next a b lost serves was) answered.after later answered.afterwards
       (serves_either answered.mid answered.after found answered.reported
-      (servings_keep d FirstOrNext (λ a b lost serves was. inr (serves_either a b lost serves was)) real answered.mid answered.before (inl afterwards)))
+      (silent_after real answered.mid answered.before afterwards))

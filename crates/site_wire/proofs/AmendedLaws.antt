@@ -1,4 +1,4 @@
--- What a device does of its own keeps the real slave one of which a power cut leaves no more than of its shadow.
+-- What a device sends of its own keeps a real slave one of which a power cut leaves no more than of its half.
 use Rattle.std.proofs.Common.{◌≡◌, ◌⊎◌, ℕ, ◌+◌, ◌-◌, ◌%◌, ◌≤◌, ◌&&◌, true, false, nat_le, List, length}
 use Rattle.std.proofs.Common.{slice_index, slice_set, refl, sym, ap, subst, ◌∙◌, inl, inr, arith}
 use Rattle.std.proofs.lemmas.List.{set-set, set-get_or}
@@ -6,16 +6,14 @@ use Rattle.std.proofs.lemmas.Bool.{le-leb}
 use Rattle.ecat_frame.specs.Command.{command_of}
 use Rattle.ecat_frame.specs.Frame.{Pdu}
 use Rattle.esc_model.specs.Bytes.{register_of}
-use Rattle.esc_model.specs.SlaveHalf.{SlaveHalf, Activity, Idle, Reading, Writing, is_busy, settled, with_errors, MayEnd, MayRest, MayHold, written}
+use Rattle.esc_model.specs.SlaveHalf.{SlaveHalf, Activity, Idle, Reading, Writing, is_busy, MayEnd, MayRest, MayHold, written}
 use Rattle.esc_model.specs.Datagrams.{served_datagram}
-use Rattle.esc_model.proofs.Resting.{MayHold-same, MayLeave-same, MayRest-station, MayRest-leaves}
+use Rattle.esc_model.proofs.Resting.{MayLeave-same, MayRest-station, MayRest-leaves}
 use Rattle.esc_model.proofs.Status.{idle_not_busy}
 use Rattle.esc_model.proofs.WordTaking.{number_back, value_back}
 use Rattle.site_wire.specs.Due.{IsOwn, clears, reads, writes}
-use Rattle.site_wire.specs.Likeness.{IsLike}
-use Rattle.site_wire.specs.Amending.{IsAmended, start, next, PossibleIsAmended, AmendedStays, AmendedLeavesNoMore, BusyIsPossible, ReadBackIsPossible}
-use Rattle.site_wire.specs.Amending.{OtherIsKept}
-use Rattle.site_wire.proofs.Liking.{MayHold-then, like_is_possible}
+use Rattle.site_wire.specs.RealSlaves.{IsLike}
+use Rattle.site_wire.specs.After.{IsAmended, BroughtUpIsAfter, AmendedLeavesNoMore}
 use Rattle.site_wire.proofs.Stored.{offered_kept, forced_kept, command_given}
 use Rattle.site_wire.proofs.Validated.{validated, Doing, Nothing, Fetches, Writes, doing_of, done, begun_is, writes_command}
 use Rattle.site_wire.proofs.Taking.{true_or_false, writes_here, served_other, served_write, written_idle, written_ignored, validates}
@@ -26,8 +24,10 @@ use Rattle.site_wire.proofs.Showing.{reads_only}
 abbrev DoesNoMore : Activity → Activity → Type 0
 DoesNoMore shadow real = (real ≡ Idle) ⊎ ((real ≡ Reading) ⊎ (real ≡ shadow))
 
-holds_same : (activity : Activity) (a b : List ℕ) → b ≡ a → MayHold activity a b
-holds_same activity a b same = subst (MayHold activity a) (sym same) (MayHold-same activity a)
+MayHold-then : (activity : Activity) (a b c : List ℕ) → MayHold activity a b → MayHold activity b c → MayHold activity a c
+MayHold-then Idle a b c f g = g ∙ f
+MayHold-then Reading a b c f g = g ∙ f
+MayHold-then (Writing word value) a b c f g = (g.0, g.1 ∙ ap (λ (w : List ℕ). slice_set w word g.0) f.1 ∙ set-set a word f.0 g.0)
 
 -- what it leaves of its words is what the shadow may hold
 holds_through : (shadow real : Activity) (a b c : List ℕ) → DoesNoMore shadow real → MayHold shadow a b → MayHold real b c → MayHold shadow a c
@@ -150,49 +150,6 @@ module _ (shadow half : SlaveHalf) (d : Pdu) (am : IsAmended shadow half) where
     | inr other ↦ unchanged other
   ]
 
-pub amended_stays : AmendedStays
-amended_stays shadow real later am start = am
-amended_stays shadow real later am (next d found mid _ before own takes) =
-    amended_like shadow (served_datagram takes.rested d).half later
-    (served_amended shadow takes.rested d (amended_rests shadow mid takes.rested (amended_stays shadow real mid am before) takes.rests) own)
-    takes.half
-
--- FROM AND TO WHAT THE SHADOW MAY BE
-
-like_amended : (shadow real : SlaveHalf) → IsLike shadow real → IsAmended shadow real
-like_amended shadow real like = record {
-  station = like.station;
-  offered = like.registers.offered;
-  forced = like.registers.forced;
-  words = like.words;
-  activity = inr (inr like.activity);
-}
-
-pub possible_is_amended : PossibleIsAmended
-possible_is_amended shadow real busy be =
-    amended_like shadow be.rested real (amended_rests shadow shadow be.rested (like_amended shadow shadow (like_itself shadow)) be.rests) be.like
-  where
-    like_itself : (half : SlaveHalf) → IsLike half half
-    like_itself half = record {
-      station = refl;
-      activity = refl;
-      registers = record { offered = refl; forced = refl; command_error = refl; enable_error = refl };
-      words = MayHold-same half.activity half.words;
-    }
-
-pub busy_is_possible : BusyIsPossible
-busy_is_possible shadow real at_work am same command_error enable_error = like_is_possible shadow real (record {
-  station = am.station;
-  activity = same;
-  registers = record {
-    offered = am.offered;
-    forced = am.forced;
-    command_error = command_error ∙ sym at_work.command_error;
-    enable_error = enable_error ∙ sym at_work.enable_error;
-  };
-  words = am.words;
-})
-
 -- the words of a slave whose word in flight holds this
 pub held_is : (shadow real : SlaveHalf) (word value : ℕ) → IsAmended shadow real → shadow.activity ≡ Writing word value
     → real.words ≡ slice_set shadow.words word (slice_index real.words word)
@@ -201,14 +158,10 @@ held_is shadow real word value am flying =
     sym (set-get_or real.words word 0) ∙ ap (λ (w : List ℕ). slice_set w word (slice_index real.words word)) h.1
     ∙ set-set shadow.words word h.0 (slice_index real.words word)
 
-pub other_is_kept : OtherIsKept
-other_is_kept shadow real word value am flying = held_is shadow real word value am flying
+-- BROUGHT UP
 
-pub read_back_is_possible : ReadBackIsPossible
-read_back_is_possible shadow real word value am flying idle command_error enable_error holds =
-    like_is_possible (with_errors (settled shadow word value) false false) real (record {
-      station = am.station;
-      activity = idle;
-      registers = record { offered = am.offered; forced = am.forced; command_error = command_error; enable_error = enable_error };
-      words = held_is shadow real word value am flying ∙ ap (λ (n : ℕ). slice_set shadow.words word n) holds;
-    })
+pub brought_up_is_after : BroughtUpIsAfter
+brought_up_is_after words station real up = record {
+  amended = record { station = up.station_is; offered = up.offered; forced = up.forced; words = up.words_are; activity = inl up.idle };
+  idle = λ none. up.idle;
+}

@@ -22,10 +22,10 @@ use Rattle.site_shadow.specs.declared.device.Resting.TheVariants as resting
 use Rattle.site_shadow.specs.Resting.{RestsAs, Ends}
 use Rattle.site_wire.specs.Due.{WritesControl, IsFit, IsOwn, clears, reads, writes}
 use Rattle.site_wire.specs.Known.{IsKnown, TellsNothing, begins, fetches, waits as waits_for}
-use Rattle.site_wire.specs.Amending.{IsAmended}
+use Rattle.site_wire.specs.After.{IsAmended, IsAfter}
 use Rattle.site_wire.specs.Sent.{Exchanged, exchanged}
 use Rattle.site_wire.specs.RealSlaves.{Serves, Lives, ends}
-use Rattle.site_wire.specs.Following.{IsOwnTo, RestsBy, stays, read_back, rests_with, Carries, waits, known, passes, follows_up, IsAfter}
+use Rattle.site_wire.specs.Following.{IsOwnTo, RestsBy, stays, read_back, rests_with, Carries, waits, known, passes, follows_up}
 use Rattle.site_wire.proofs.Stored.{offered_same, forced_same, offered_kept, forced_kept, command_given}
 use Rattle.site_wire.proofs.Validated.{validated, Doing, Nothing, Fetches, Writes, doing_of, done, begun_is, writes_command}
 use Rattle.site_wire.proofs.Taking.{true_or_false, writes_here, writes_same, writes_code, writes_inside, served_other, served_write, written_quiet}
@@ -39,7 +39,7 @@ use Rattle.site_wire.proofs.After.{answered_after}
 -- NOTHING IS SENT
 
 -- nothing changes a slave to which nothing is sent
-untouched : (real later : SlaveHalf) → Lives [] real later → later ≡ real
+pub untouched : (real later : SlaveHalf) → Lives [] real later → later ≡ real
 untouched real later (ends _) = refl
 
 -- a busy half takes nothing of a write to control and status
@@ -162,7 +162,7 @@ known_after half rested real d is fits so afterwards =
 -- A WORD IN FLIGHT
 
 -- what the device sends of its own
-own_amended : (slave : ℕ) (half after : SlaveHalf) → after.activity ≡ half.activity → (call : Exchanged) (mid later : SlaveHalf) (found : Pdu) → IsOwnTo slave half call
+pub own_amended : (slave : ℕ) (half after : SlaveHalf) → (IsTrue (is_busy half.activity) → after.activity ≡ half.activity) → (call : Exchanged) (mid later : SlaveHalf) (found : Pdu) → IsOwnTo slave half call
     → Serves call.sent mid found later → IsAmended after mid → IsAmended after later
 own_amended slave half after same call mid later found own serves am =
     amended_like after (served_datagram serves.takes.rested call.sent).half later
@@ -172,14 +172,14 @@ own_amended slave half after same call mid later found own serves am =
     own_as : IsOwn half call.sent → IsOwn after call.sent
     own_as (clears at is) = clears at is
     own_as (reads word rest at is) = reads word rest at is
-    own_as (writes word value flying small fits at is) = writes word value (same ∙ flying) small fits at is
+    own_as (writes word value flying small fits at is) = writes word value (same (ap is_busy flying) ∙ flying) small fits at is
 
     own_of_after : (call.sent.command ≡ 4) ⊎ ((call.sent.command ≡ 5) × IsOwn half call.sent) → (call.sent.command ≡ 4) ⊎ ((call.sent.command ≡ 5) × IsOwn after call.sent)
     own_of_after (inl read) = inl read
     own_of_after (inr write) = inr (write.0, own_as write.1)
 
 -- a half that is busy goes on
-same_activity : (half : SlaveHalf) (d : Pdu) → IsTrue (is_busy half.activity) → (served_datagram half d).half.activity ≡ half.activity
+pub same_activity : (half : SlaveHalf) (d : Pdu) → IsTrue (is_busy half.activity) → (served_datagram half d).half.activity ≡ half.activity
 same_activity half d busy = elim (Goes-served half (command_of d.command) d.address d.content).activity [
   | inl same ↦ same
   | inr begun_now ↦ absurd (let e : true ≡ false = sym busy ∙ ap is_busy begun_now.0 in cc)
@@ -311,7 +311,7 @@ module _ (slave : ℕ) (half : SlaveHalf) (d : Pdu) (fits : IsFit half d) (bytes
 
       am : IsAmended (served_datagram half d).half later
       am = lives_keep calls (IsAmended (served_datagram half d).half) (IsOwnTo slave half)
-          (own_amended slave half (served_datagram half d).half same) own parts.mid later parts.afterwards mid.amended
+          (own_amended slave half (served_datagram half d).half (λ _. same)) own parts.mid later parts.afterwards mid.amended
 
       with_rest : {how : Resting} → RestsBy slave write calls how → RestsAs how half rested → IsAfter (served_datagram rested d).half later
       with_rest stays is =

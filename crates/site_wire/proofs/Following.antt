@@ -8,36 +8,44 @@ use Rattle.std.proofs.lemmas.List.{get_or_past}
 use Rattle.std.proofs.lemmas.List.Elements.{All-append, All-get_or, All-nil}
 use Rattle.ecat_frame.specs.Frame.{Pdu}
 use Rattle.esc_model.specs.Orders.{station}
-use Rattle.esc_model.specs.SlaveHalf.{SlaveHalf}
+use Rattle.esc_model.specs.Bytes.{station_of}
+use Rattle.esc_model.specs.SlaveHalf.{SlaveHalf, is_busy, MayLeave}
+use Rattle.esc_model.proofs.Status.{idle_not_busy}
 use Rattle.esc_model.specs.Datagrams.{served_datagram}
 use Rattle.site_core.specs.declared.fault.DeviceFault.{DeviceFault}
 use Rattle.site_core.specs.declared.fault.DeviceFault.TheVariants as faults
-use Rattle.site_core.specs.State.{State, Seen, Moment, with_half}
+use Rattle.site_core.specs.State.{State, Seen, Pair, Leaves, Moment, with_half, clock}
 use Rattle.site_core.specs.Calls.{WritesDisk, SyncsDisk}
-use Rattle.site_shadow.specs.Following.{begin_of, first_of, Keeps, AskKeeps, WriteKeeps, SyncKeeps, ExchangeKeeps, RestKeeps, TakenKeeps}
+use Rattle.site_shadow.specs.Following.{begin_of, first_of, LeftTowards, Extends, Keeps, AskKeeps, WriteKeeps, SyncKeeps, ExchangeKeeps, RestKeeps, TakenKeeps}
 use Rattle.site_shadow.specs.declared.pattern.Pattern.{Pattern}
 use Rattle.site_shadow.proofs.Asked.{ask_keeps, exchange_keeps, taken_keeps}
 use Rattle.site_shadow.proofs.Keeping.{Extends-by}
 use Rattle.site_shadow.specs.declared.device.Passing.{Passing}
 use Rattle.site_shadow.specs.declared.device.Passing.TheVariants.{Passes}
 use Rattle.site_shadow.specs.declared.device.Resting.{Resting}
+use Rattle.site_shadow.specs.declared.device.Resting.TheVariants as resting
 use Rattle.site_shadow.specs.Resting.{RestsAs}
-use Rattle.site_shadow.proofs.Towards.{Extends-first}
+use Rattle.site_shadow.proofs.Towards.{now_left, Extends-now, Extends-first}
 use Rattle.site_shadow.proofs.GoingThrough.{get-set}
 use Rattle.site_file.specs.declared.files.FileDevice.{FileDevice}
 use Rattle.site_file.specs.declared.asking.Call.TheVariants.{Writes as writes, Syncs as syncs}
 use Rattle.site_file.specs.Asking.{HasLog}
 use Rattle.site_file.specs.Device.{CallsJournal, AsksLength, ReadsJournal}
+use Rattle.site_wire.specs.After.{IsAfter}
 use Rattle.site_wire.specs.Journal.{JournalFollows}
-use Rattle.site_wire.specs.Following.{SendsNothing, CarriesFrame, IsAfter, SlavesFollow, SlavesFollowed, WireFollows, still_follows, stays_so}
+use Rattle.site_wire.specs.Following.{SendsNothing, SendsFirst, IsDueTo, CarriesFrame, SlavesFollow, SlavesFollowed, WireFollows, still_follows, stays_so}
+use Rattle.site_wire.specs.Following.{SlavesLeave, LeavesNoMore, CutsLeaveNoMore, leaves_on}
 use Rattle.site_wire.proofs.Journal.{length_follows, length_sound, read_follows, read_sound, write_follows, call_sound, sync_follows, rest_follows}
 use Rattle.site_wire.proofs.Journal.{journal_begins}
 use Rattle.site_wire.specs.declared.device.WireDevice.{WireDevice}
 use Rattle.site_wire.specs.declared.sending.Exchange.{Exchange}
-use Rattle.site_wire.specs.Sent.{Exchanged, HasSent, exchanges}
-use Rattle.site_wire.specs.RealSlaves.{Lives, ends}
-use Rattle.site_wire.proofs.Living.{Between, lives_parts, lives_station, lives_untouched}
-use Rattle.site_wire.proofs.Carrying.{carries_after}
+use Rattle.site_wire.specs.Sent.{Exchanged, exchanges}
+use Rattle.site_wire.specs.RealSlaves.{Lives, ends, IsSoFar}
+use Rattle.site_wire.proofs.AmendedLaws.{amended_leaves_no_more}
+use Rattle.site_wire.proofs.Taking.{true_or_false}
+use Rattle.site_wire.proofs.Living.{Between, lives_parts, lives_station, lives_untouched, Parts, early, late, so_far_parts, so_far_none, so_far_all}
+use Rattle.site_wire.proofs.Carrying.{untouched, carries_after}
+use Rattle.site_wire.proofs.Cuts.{busy_leaves, idle_rests, carried_leaves}
 use Rattle.site_shadow.specs.declared.lending.LinePart.{LinePart}
 use Rattle.site_wire.specs.Parts.{AreFor, IsForPart, SendsAsPart}
 use Rattle.site_wire.proofs.Sends.{nothing_sent}
@@ -49,6 +57,7 @@ module _ {L F C : Type 0} where
     log = follows.log;
     has = ap exchanges nothing.sent ∙ follows.has;
     follow = λ going running. follows.follow (nothing.over going) running;
+    cuts = follows.cuts;
   }
 
   -- a device whose journal was asked nothing more
@@ -160,35 +169,41 @@ begins_to_follow state slave first half real later at_first at_now station_is af
     let same : first ≡ half = (let e : Some first ≡ Some half = sym at_first ∙ at_now in cc) in
     subst (λ (h : SlaveHalf). IsAfter h real) same afterwards
 
-slaves_begin : {L F C : Type 0} (device : WireDevice L F C) (seen : Seen) → (device.is_over ≡ false → device.sender.log.all ≡ []) → (device.is_over ≡ false → seen.past ≡ [])
+-- nothing was sent yet
+begins_to_leave : (seen : Seen) → CutsLeaveNoMore [] seen
+begins_to_leave seen part so_far = subst (λ (sent : List Exchanged). LeavesNoMore sent seen) (sym (so_far_none part so_far)) (record {
+  state = first_of seen;
+  towards = record { time = 0; early = omega arith; left = λ pair leaves. leaves };
+  slaves = λ slave first half real later left at_first at_now station_is afterwards lives leaves.
+      amended_leaves_no_more half later left
+      (begins_to_follow (first_of seen) slave first half real later at_first at_now station_is afterwards lives).amended leaves;
+})
+
+slaves_begin : {L F C : Type 0} (device : WireDevice L F C) (seen : Seen) → device.sender.log.all ≡ [] → (device.is_over ≡ false → seen.past ≡ [])
     → SlavesFollowed device seen
 slaves_begin device seen none new = record {
-  log = exchanges device.sender.log.all;
-  has = refl;
+  log = [];
+  has = ap exchanges none ∙ nothing_sent;
   follow = λ going running.
-      subst (λ (sent : List Exchange). SlavesFollow (exchanges sent) (first_of seen).halves seen.state.halves) (sym (none going))
-      (subst (λ (begun : State). SlavesFollow (exchanges []) begun.halves seen.state.halves) (sym (begun_first (new going))) (subst (λ (log : List Exchanged). SlavesFollow log seen.state.halves seen.state.halves) (sym nothing_sent) (begins_to_follow seen.state)));
+      subst (λ (begun : State). SlavesFollow [] begun.halves seen.state.halves) (sym (begun_first (new going))) (begins_to_follow seen.state);
+  cuts = begins_to_leave seen;
 }
   where
     begun_first : seen.past ≡ [] → first_of seen ≡ seen.state
     begun_first new = ap (λ (past : List Moment). begin_of past seen.state) new
 
-pub begins : {L F C : Type 0} (device : WireDevice L F C) (was_over had_failed is_unsent is_new : Bool) (seen : Seen) → (is_unsent ≡ true → device.sender.log.all ≡ [])
+pub begins : {L F C : Type 0} (device : WireDevice L F C) (was_over had_failed is_unsent is_new : Bool) (seen : Seen) → device.sender.log.all ≡ []
     → HasLog device.journal.asking.calls [] → device.journal.has_failed ≡ (had_failed || not is_new)
     → device.is_over ≡ ((was_over || device.journal.has_failed) || not is_unsent) → (IsTrue is_new ↔ seen.past ≡ []) → WireFollows device seen
-begins device was_over had_failed is_unsent is_new seen none unasked failed over reported = record {
+begins device was_over had_failed is_unsent is_new seen unsent unasked failed over reported = record {
   slaves = slaves_begin device seen unsent (λ going. reported.0 (is_first had_failed is_new (sym failed ∙ sound going)));
   journal = journal_begins device.journal had_failed is_new seen unasked failed reported;
   sound = sound;
   own = λ going.
-      subst (λ (sent : List Exchange). AreFor device.journal.asking.part (exchanges sent)) (sym (unsent going))
+      subst (λ (sent : List Exchange). AreFor device.journal.asking.part (exchanges sent)) (sym unsent)
       (subst (AreFor device.journal.asking.part) (sym nothing_sent) (All-nil (IsForPart device.journal.asking.part)));
 }
   where
-    is_it : (is : Bool) → not is ≡ false → is ≡ true
-    is_it true e = refl
-    is_it false e = absurd cc
-
     front : (was is : Bool) → (was || is) ≡ false → was ≡ false
     front true is e = absurd cc
     front false is e = refl
@@ -196,9 +211,6 @@ begins device was_over had_failed is_unsent is_new seen none unasked failed over
     neither : (was is : Bool) → (was || is) ≡ false → is ≡ false
     neither true is e = absurd cc
     neither false is e = e
-
-    unsent : device.is_over ≡ false → device.sender.log.all ≡ []
-    unsent going = none (is_it is_unsent (neither (was_over || device.journal.has_failed) (not is_unsent) (sym over ∙ going)))
 
     sound : device.is_over ≡ false → device.journal.has_failed ≡ false
     sound going = neither was_over device.journal.has_failed (front (was_over || device.journal.has_failed) (not is_unsent) (sym over ∙ going))
@@ -232,6 +244,107 @@ only_datagram frame k d e one at = by k (ap (λ (f : List Pdu). slice_get f k) (
     by : (k : ℕ) → slice_get (e ∷ []) k ≡ Some d → e ≡ d
     by zero is = cc
     by (suc k) is = absurd cc
+
+-- WHAT A POWER CUT LEAVES
+
+-- What is sent for a datagram, since the slaves have followed the site.
+module _ (slave : ℕ) (half : SlaveHalf) (frame : List Pdu) (k : ℕ) (calls : List Exchanged) (result : Resting)
+    (to : All (λ (call : Exchanged). station_of call.sent.address ≡ station slave) calls)
+    (due : (calls ≡ []) ⊎ ((e : Pdu) × IsDueTo slave half frame e × SendsFirst slave half e calls))
+    (old new : Seen) (rested : SlaveHalf) (d : Pdu) (here : slice_get old.state.halves slave ≡ Some half) (at : slice_get frame k ≡ Some d)
+    (so : RestsAs result half rested) (state : new.state ≡ with_half old.state slave (served_datagram rested d).half) (extends : Extends old new)
+    (log : List Exchanged) (followed : SlavesFollow log (first_of old).halves old.state.halves) where
+  -- what is left of this slave, by its half among these, where those of the others are as before
+  module _ (more : List Exchanged) (so_far : IsSoFar calls more) (now : List SlaveHalf)
+      (others : (other : ℕ) → other ≢ slave → slice_get now other ≡ slice_get old.state.halves other)
+      (own : (its mid later : SlaveHalf) (left : List ℕ) → slice_get now slave ≡ Some its → mid.station ≡ station slave → IsAfter half mid → Lives more mid later
+      → MayLeave later left → MayLeave its left) where
+    all_leave : SlavesLeave (log ++ more) (first_of old).halves now
+    all_leave other first its real later left at_first at_now station_is afterwards lives leaves = by (eqb_tells other slave)
+      where
+        parts : Between log more real later
+        parts = lives_parts log more real later lives
+
+        near : parts.mid.station ≡ station other
+        near = lives_station log real parts.mid parts.before ∙ afterwards.amended.station ∙ station_is
+
+        by : ((eqb other slave ≡ true) × (other ≡ slave)) ⊎ ((eqb other slave ≡ false) × (other ≢ slave)) → MayLeave its left
+        by (inl same) =
+            own its parts.mid later left (ap (slice_get now) (sym same.1) ∙ at_now) (near ∙ ap station same.1)
+            (followed other first half real parts.mid at_first (ap (slice_get old.state.halves) same.1 ∙ here) station_is afterwards parts.before)
+            parts.afterwards leaves
+        by (inr separate) =
+            let near_by = so_far_all (λ (call : Exchanged). station_of call.sent.address ≡ station slave) (λ call is. is) calls more so_far to in
+            let untouched : later ≡ parts.mid =
+            lives_untouched more (station slave) parts.mid later near_by (λ e. separate.1 (let f : station slave ≡ station other = e ∙ near in omega arith))
+            parts.afterwards in
+            let was = followed other first its real parts.mid at_first (sym (others other separate.1) ∙ at_now) station_is afterwards parts.before in
+            amended_leaves_no_more its later left (subst (IsAfter its) (sym untouched) was).amended leaves
+
+  -- in the state before it, or in the state after it
+  in_state : (sent : List Exchanged) (one : State) → ((pair : Pair) → Leaves one pair → LeftTowards new (clock new) pair)
+      → SlavesLeave sent (first_of old).halves one.halves → LeavesNoMore sent new
+  in_state sent one left slaves = record {
+    state = one;
+    towards = record { time = clock new; early = omega arith; left = left };
+    slaves = subst (λ (begun : State). SlavesLeave sent begun.halves one.halves) (sym (Extends-first old new extends)) slaves;
+  }
+
+  before_it : (more : List Exchanged) → IsSoFar calls more
+      → ((mid later : SlaveHalf) (left : List ℕ) → mid.station ≡ station slave → IsAfter half mid → Lives more mid later → MayLeave later left → MayLeave half left)
+      → LeavesNoMore (log ++ more) new
+  before_it more so_far own =
+      in_state (log ++ more) old.state (λ pair leaves. Extends-now old new pair extends leaves)
+      (all_leave more so_far old.state.halves (λ other separate. refl) (λ its mid later left at_now near is lives leaves.
+      let same : half ≡ its = (let e : Some half ≡ Some its = sym here ∙ at_now in cc) in
+      subst (λ (h : SlaveHalf). MayLeave h left) same (own mid later left near is lives leaves)))
+
+  after_it : (more : List Exchanged) → IsSoFar calls more
+      → ((mid later : SlaveHalf) (left : List ℕ) → mid.station ≡ station slave → IsAfter half mid → Lives more mid later → MayLeave later left
+      → MayLeave (served_datagram rested d).half left)
+      → LeavesNoMore (log ++ more) new
+  after_it more so_far own =
+      in_state (log ++ more) new.state (λ pair leaves. now_left new (clock new) pair refl leaves)
+      (all_leave more so_far new.state.halves
+      (λ other separate. ap (λ (s : State). slice_get s.halves other) state
+      ∙ get_other old.state.halves slave other (served_datagram rested d).half separate)
+      (λ its mid later left at_now near is lives leaves.
+      let same : (served_datagram rested d).half ≡ its =
+      (let e : Some (served_datagram rested d).half ≡ Some its =
+      sym (get-set old.state.halves slave half (served_datagram rested d).half here) ∙ ap (λ (s : State). slice_get s.halves slave) (sym state) ∙ at_now in cc) in
+      subst (λ (h : SlaveHalf). MayLeave h left) same (own mid later left near is lives leaves)))
+
+  while_sent : (more : List Exchanged) → IsSoFar calls more → LeavesNoMore (log ++ more) new
+  while_sent more so_far = by due
+    where
+      by : (calls ≡ []) ⊎ ((e : Pdu) × IsDueTo slave half frame e × SendsFirst slave half e calls) → LeavesNoMore (log ++ more) new
+      by (inl none) =
+          let nothing : more ≡ [] = so_far_none more (subst (λ (l : List Exchanged). IsSoFar l more) none so_far) in
+          before_it more so_far (λ mid later left near is lives leaves.
+          let same : later ≡ mid = untouched mid later (subst (λ (l : List Exchanged). Lives l mid later) nothing lives) in
+          amended_leaves_no_more half later left (subst (IsAfter half) (sym same) is).amended leaves)
+      by (inr sent) = elim (true_or_false (is_busy half.activity)) [
+        | inl busy ↦ before_it more so_far (λ mid later left near is lives leaves. busy_leaves half sent.0 left busy (carried mid later left near is lives leaves))
+        | inr vacant ↦
+            let same : rested ≡ half = idle_rests result half rested (idle_not_busy half.activity vacant) so in
+            after_it more so_far (λ mid later left near is lives leaves.
+            subst (λ (h : SlaveHalf). MayLeave (served_datagram h d).half left) (sym same)
+            (subst (λ (e : Pdu). MayLeave (served_datagram half e).half left) (only_datagram frame k d sent.0 sent.1.one at) (carried mid later left near is lives leaves)))
+      ]
+        where
+          carried : (mid later : SlaveHalf) (left : List ℕ) → mid.station ≡ station slave → IsAfter half mid → Lives more mid later → MayLeave later left
+              → MayLeave (served_datagram half sent.0).half left
+          carried mid later left near is lives leaves =
+              carried_leaves slave half sent.0 sent.1.fits (bytes_below sent.0.content sent.1.bytes) sent.1.to mid near is calls more sent.2 so_far later left lives leaves
+
+  pub carried_cuts : CutsLeaveNoMore log old → CutsLeaveNoMore (log ++ calls) new
+  carried_cuts cuts part so_far = by (so_far_parts log calls part so_far)
+    where
+      by : Parts log calls part → LeavesNoMore part new
+      by (early is) = leaves_on old new part extends (cuts part is)
+      by (late more same is) = subst (λ (sent : List Exchanged). LeavesNoMore sent new) (sym same) (while_sent more is)
+
+-- ITS STEP
 
 module _ {L F C : Type 0} (slave : ℕ) (half : SlaveHalf) (frame : List Pdu) (k : ℕ) (before after : WireDevice L F C) (result : Resting)
     (carried : CarriesFrame slave half frame before.sender.log.all after.sender.log.all after.is_over after.resting)
@@ -297,6 +410,8 @@ module _ {L F C : Type 0} (slave : ℕ) (half : SlaveHalf) (frame : List Pdu) (k
           subst (λ (begun : State). SlavesFollow (follows.slaves.log ++ carried.calls) begun.halves new.state.halves) (sym (Extends-first old new extends))
           (follow_on old new rested d here at so state follows.slaves.log going (first_of old).halves
           (follows.slaves.follow was_going running));
+      cuts = carried_cuts slave half frame k carried.calls result carried.to carried.first old new rested d here at so state extends follows.slaves.log
+          (follows.slaves.follow was_going running) follows.slaves.cuts;
     };
     journal = rest_follows slave (served_datagram rested d).half before.journal after.journal old new same running state extends follows.journal;
     sound = still_sound before after same (λ going. was_going) follows.sound;
@@ -305,23 +420,17 @@ module _ {L F C : Type 0} (slave : ℕ) (half : SlaveHalf) (frame : List Pdu) (k
         (own_calls (follows.own was_going));
   }
 
--- a half that rests while the device is over: the slaves may be anything
-module _ {L F C : Type 0} (slave : ℕ) (half : SlaveHalf) (frame : List Pdu) (k : ℕ) (before after : WireDevice L F C) (result : Resting)
-    (over : IsTrue after.is_over) (same : after.journal ≡ before.journal) where
-  over_keeps : ((log : List Exchanged) → HasSent before.sender.log.all log → (later : List Exchanged) × HasSent after.sender.log.all later)
-      → RestKeeps WireFollows slave half frame k before result after
-  over_keeps sends old new rested d running here at so state extends follows =
-      let sent = sends follows.slaves.log follows.slaves.has in
-      record {
-        slaves = record { log = sent.0; has = sent.1; follow = λ going still. absurd (let e : true ≡ false = sym over ∙ going in cc) };
-        journal = rest_follows slave (served_datagram rested d).half before.journal after.journal old new same running state extends follows.journal;
-        sound = λ going. absurd (let e : true ≡ false = sym over ∙ going in cc);
-        own = λ going. absurd (let e : true ≡ false = sym over ∙ going in cc);
-      }
-
-  pub over_before : after.sender.log.all ≡ before.sender.log.all → RestKeeps WireFollows slave half frame k before result after
-  over_before none = over_keeps (λ log has. (log, ap exchanges none ∙ has))
-
-  pub over_after : CarriesFrame slave half frame before.sender.log.all after.sender.log.all after.is_over after.resting
-      → RestKeeps WireFollows slave half frame k before result after
-  over_after carried = over_keeps (λ log has. (log ++ carried.calls, carried.sends.goes_on ∙ ap (λ (l : List Exchanged). l ++ carried.calls) has))
+-- a half that rests while the device is over: nothing is sent
+module _ {L F C : Type 0} (slave : ℕ) (half : SlaveHalf) (frame : List Pdu) (k : ℕ) (device : WireDevice L F C) (over : IsTrue device.is_over) where
+  pub over_before : RestKeeps WireFollows slave half frame k device resting.Stays device
+  over_before old new rested d running here at so state extends follows = record {
+    slaves = record {
+      log = follows.slaves.log;
+      has = follows.slaves.has;
+      follow = λ going still. absurd (let e : true ≡ false = sym over ∙ going in cc);
+      cuts = λ part so_far. leaves_on old new part extends (follows.slaves.cuts part so_far);
+    };
+    journal = rest_follows slave (served_datagram rested d).half device.journal device.journal old new refl running state extends follows.journal;
+    sound = follows.sound;
+    own = follows.own;
+  }

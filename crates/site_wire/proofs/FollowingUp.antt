@@ -19,7 +19,7 @@ use Rattle.site_wire.specs.declared.answers.Answer.{Answer}
 use Rattle.site_wire.specs.declared.sending.Exchange.{Exchange}
 use Rattle.site_wire.specs.Sent.{Exchanged, exchanged, Sends}
 use Rattle.site_wire.specs.Following.{IsOwnTo, SendsOwn, TellsWord, ReadsBack, RestsBy, stays, read_back, rests_with, FollowsUp, Carries, waits}
-use Rattle.site_wire.specs.Following.{known, passes, follows_up, SendsFor, IsDueTo, CarriesFrame}
+use Rattle.site_wire.specs.Following.{known, passes, follows_up, SendsFirst, is_lost, comes_back, SendsFor, IsDueTo, CarriesFrame}
 use Rattle.site_wire.proofs.Living.{lives_parts, lives_station}
 use Rattle.site_wire.proofs.Due.{writing_by}
 use Rattle.site_wire.proofs.Sends.{sends_none, sends_then, both_own}
@@ -80,6 +80,11 @@ module _ (slave : ℕ) (half : SlaveHalf) (write : WordWrite) where
 
 -- ALL THAT IS SENT
 
+-- nothing came back
+pub none_came : (answer : Option Answer) → answer ≡ None → IsSome answer → ⊥
+none_came None is some = absurd cc
+none_came (Some answer) is some = absurd cc
+
 -- a half is busy while a word is in flight
 pub is_busy_of : (half : SlaveHalf) (write : WordWrite) → in_flight half.activity ≡ Some write → IsTrue (is_busy half.activity)
 is_busy_of half write flying = ap is_busy (writing_by half.activity write flying)
@@ -88,20 +93,16 @@ module _ (slave : ℕ) (half : SlaveHalf) (d : Pdu) where
   abbrev ToThis : Exchanged → Type 0
   ToThis call = station_of call.sent.address ≡ station slave
 
-  -- a busy half takes nothing
-  pub for_nothing : (sent : List Exchange) (is_over : Bool) (how : Resting) → how ≡ resting.Stays → IsTrue (is_busy half.activity) → WritesControl d
-      → SendsFor slave half d sent sent is_over how
-  for_nothing sent is_over how is busy writes = record {
-    calls = [];
-    sends = sends_none sent;
-    to = All-nil ToThis;
-    carries = λ going. subst (Carries slave half d []) (sym is) (waits busy writes);
-  }
-
   -- the answer that came
   came : (answer : Option Answer) → IsSome answer → (found : Pdu) × (option_map found_of answer ≡ Some found)
   came (Some answer) some = (found_of answer, refl)
   came None none = absurd cc
+
+  -- it is sent first
+  once_first : (answer : Option Answer) → (IsTrue (is_busy half.activity) → ¬ WritesControl d) → ¬ IsKnown half d
+      → SendsFirst slave half d (exchanged d (option_map found_of answer) ∷ [])
+  once_first (Some answer) may news = comes_back (found_of answer) [] may news (All-nil (IsOwnTo slave half))
+  once_first None may news = is_lost may news
 
   -- the datagram, and nothing after it
   pub for_once : (old new : List Exchange) (answer : Option Answer) (is_over : Bool) (how : Resting) → how ≡ resting.Stays → station_of d.address ≡ station slave
@@ -110,6 +111,7 @@ module _ (slave : ℕ) (half : SlaveHalf) (d : Pdu) where
       → SendsFor slave half d old new is_over how
   for_once old new answer is_over how is to sends back may news quiet = record {
     calls = exchanged d (option_map found_of answer) ∷ [];
+    first = once_first answer may news;
     sends = sends;
     to = All-cons ToThis (exchanged d (option_map found_of answer)) [] to
         (All-nil ToThis);
@@ -125,6 +127,7 @@ module _ (slave : ℕ) (half : SlaveHalf) (d : Pdu) where
       → FollowsUp slave half write mid new how → SendsFor slave half d old new is_over how
   for_word old mid new answer write is_over how to sends quiet flying up = record {
     calls = exchanged d (Some (found_of answer)) ∷ up.calls;
+    first = comes_back (found_of answer) up.calls (λ _. quiet) (λ is. absurd (let e : None ≡ Some write = sym is.quiet ∙ flying in cc)) up.own;
     sends = sends_then old mid new (exchanged d (Some (found_of answer)) ∷ []) up.calls sends up.sends;
     to = All-cons ToThis (exchanged d (Some (found_of answer))) up.calls to
         (All-weaker (IsOwnTo slave half) ToThis (λ call own. own.to) up.calls up.own);
@@ -139,6 +142,7 @@ module _ (slave number : ℕ) (half : SlaveHalf) (frame : List Pdu) (same : numb
       → CarriesFrame slave half frame sent sent is_over how
   by_itself d sent is_over how due carries = record {
     calls = [];
+    first = inl refl;
     sends = sends_none sent;
     to = All-nil (λ (call : Exchanged). station_of call.sent.address ≡ station slave);
     carries = λ going. (d, subst (λ (n : ℕ). IsDueTo n half frame d) same due, carries);
@@ -158,6 +162,7 @@ module _ (slave number : ℕ) (half : SlaveHalf) (frame : List Pdu) (same : numb
   frame_sent d old new is_over how due sent =
       subst (λ (n : ℕ). CarriesFrame n half frame old new is_over how) same (record {
         calls = sent.calls;
+        first = inr (d, due, sent.first);
         sends = sent.sends;
         to = sent.to;
         carries = λ going. (d, due, sent.carries going);
@@ -169,6 +174,7 @@ pub frame_over : (slave : ℕ) (half : SlaveHalf) (frame : List Pdu) (old new : 
 frame_over slave half frame old new is_over how same over =
     subst (λ (s : List Exchange). CarriesFrame slave half frame old s is_over how) (sym same) (record {
       calls = [];
+      first = inl refl;
       sends = sends_none old;
       to = All-nil (λ (call : Exchanged). station_of call.sent.address ≡ station slave);
       carries = λ going. absurd (let e : true ≡ false = sym over ∙ going in cc);

@@ -1,14 +1,10 @@
-mod Liking
 mod Storing
 mod Stored
 mod Validated
 mod Taking
 mod Again
-mod Chain
 mod Showing
-mod Alone
-mod Agreeing
-mod AmendedLaws
+pub mod AmendedLaws
 mod Boards
 mod Due
 mod Only
@@ -20,9 +16,11 @@ mod Sends
 mod ReadingBack
 mod After
 mod Carrying
+mod Cuts
 mod FollowingUp
 mod Journal
 mod JournalFile
 mod Following
+mod Together
 mod DueTo
 pub mod Sent

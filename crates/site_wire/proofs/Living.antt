@@ -1,19 +1,27 @@
 -- What real slaves are after what was sent to them.
-use Rattle.std.proofs.Common.{inl, ◌≡◌, ◌≢◌, ℕ, List, [], ◌∷◌, ◌++◌, Some, None, refl, sym, subst, ◌∙◌}
+use Rattle.std.proofs.Common.{inl, ◌≡◌, ◌≢◌, ℕ, List, [], ◌∷◌, ◌++◌, Some, None, refl, sym, ap, subst, ◌∙◌}
 use Rattle.std.specs.List.{All}
-use Rattle.std.proofs.lemmas.List.Elements.{All-head, All-tail}
+use Rattle.std.proofs.lemmas.List.Elements.{All-nil, All-cons, All-head, All-tail}
 use Rattle.ecat_frame.specs.Command.{command_of}
 use Rattle.ecat_frame.specs.Frame.{Pdu}
 use Rattle.esc_model.specs.Bytes.{station_of}
 use Rattle.esc_model.specs.SlaveHalf.{SlaveHalf}
 use Rattle.esc_model.specs.Datagrams.{served_datagram}
-use Rattle.esc_model.proofs.Resting.{MayRest-station}
+use Rattle.esc_model.proofs.Resting.{MayHold-same, MayRest-station}
 use Rattle.esc_model.proofs.Serving.{Goes-served}
-use Rattle.site_wire.specs.Sent.{Exchanged}
-use Rattle.site_wire.proofs.Liking.{IsLike-refl}
-use Rattle.site_wire.specs.RealSlaves.{DefinedServes, Serves, Servings, none, more, Answered, Lives, ends, answers, is_silent, of_another}
+use Rattle.site_wire.specs.Sent.{Exchanged, exchanged}
+use Rattle.site_wire.specs.RealSlaves.{DefinedServes, IsLike, Serves, Servings, none, more, Answered, Lives, ends, answers, is_silent, of_another}
+use Rattle.site_wire.specs.RealSlaves.{IsSoFar, nothing, under_way, and_more}
 
 -- THE SLAVE OF THE DEFINITION
+
+IsLike-refl : (half : SlaveHalf) → IsLike half half
+IsLike-refl half = record {
+  station = refl;
+  activity = refl;
+  registers = record { offered = refl; forced = refl; command_error = refl; enable_error = refl };
+  words = MayHold-same half.activity half.words;
+}
 
 pub defined_serves : DefinedServes
 defined_serves d half = record {
@@ -119,3 +127,39 @@ lives_once call found real later here is (answers _ _ other _ mid _ to came answ
     subst (λ (f : Pdu). Answered call.sent real f mid) (let same : Some other ≡ Some found = sym came ∙ is in cc) answered
 lives_once call found real later here is (is_silent _ _ _ mid _ to none_came serves afterwards) = absurd (let same : None ≡ Some found = sym none_came ∙ is in cc)
 lives_once call found real later here is (of_another _ _ _ _ other afterwards) = absurd (other here)
+
+-- One datagram to this station didn't come back.
+pub lives_silent : (call : Exchanged) (real later : SlaveHalf) → station_of call.sent.address ≡ real.station → call.answer ≡ None
+    → Lives (call ∷ []) real later → Servings call.sent real later
+lives_silent call real later here is (answers _ _ other _ mid _ to came answered (ends _)) = absurd (let same : Some other ≡ None = sym came ∙ is in cc)
+lives_silent call real later here is (is_silent _ _ _ mid _ to none_came serves (ends _)) = serves
+lives_silent call real later here is (of_another _ _ _ _ other afterwards) = absurd (other here)
+
+-- A PART OF WHAT WAS SENT
+
+-- A part of what was sent before; or all of that, and a part of what was sent later.
+pub data Parts (first second part : List Exchanged) : Type 0 where
+  early : IsSoFar first part → Parts first second part
+  late : (later : List Exchanged) → part ≡ first ++ later → IsSoFar second later → Parts first second part
+
+pub so_far_parts : (first second part : List Exchanged) → IsSoFar (first ++ second) part → Parts first second part
+so_far_parts [] second part so_far = late part refl so_far
+so_far_parts (call ∷ first) second _ (nothing _) = early (nothing (call ∷ first))
+so_far_parts (call ∷ first) second _ (under_way _ _) = early (under_way call first)
+so_far_parts (call ∷ first) second _ (and_more _ _ part so_far) = by (so_far_parts first second part so_far)
+  where
+    by : Parts first second part → Parts (call ∷ first) second (call ∷ part)
+    by (early is) = early (and_more call first part is)
+    by (late later same is) = late later (ap (λ (l : List Exchanged). call ∷ l) same) is
+
+pub so_far_none : (part : List Exchanged) → IsSoFar [] part → part ≡ []
+so_far_none _ (nothing _) = refl
+
+-- what is so of each datagram, whatever came back of it
+pub so_far_all : (Q : Exchanged → Type 0) → ((call : Exchanged) → Q call → Q (exchanged call.sent None)) → (all part : List Exchanged)
+    → IsSoFar all part → All Q all → All Q part
+so_far_all Q lost all _ (nothing _) holds = All-nil Q
+so_far_all Q lost (call ∷ all) _ (under_way _ _) holds =
+    All-cons Q (exchanged call.sent None) [] (lost call (All-head Q call all holds)) (All-nil Q)
+so_far_all Q lost (call ∷ all) _ (and_more _ _ part so_far) holds =
+    All-cons Q call part (All-head Q call all holds) (so_far_all Q lost all part so_far (All-tail Q call all holds))

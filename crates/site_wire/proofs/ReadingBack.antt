@@ -25,8 +25,7 @@ use Rattle.site_wire.specs.declared.answers.AccessState.TheVariants as shown
 use Rattle.site_wire.specs.declared.amending.Tried.{Tried}
 use Rattle.site_wire.specs.declared.amending.Tried.TheVariants as tried
 use Rattle.site_wire.specs.Following.{IsOwnTo, SendsOwn, EndsWell, Polls, TellsWord, TellsPair, TriesPair, ReadsBack}
-use Rattle.site_wire.specs.Likeness.{IsLike}
-use Rattle.site_wire.specs.RealSlaves.{Serves, Answered, Lives}
+use Rattle.site_wire.specs.RealSlaves.{IsLike, Serves, Answered, Lives}
 use Rattle.site_wire.specs.declared.sending.Exchange.{Exchange}
 use Rattle.site_wire.specs.Sent.{Exchanged, exchanged, Sends}
 use Rattle.site_wire.proofs.Living.{servings_keep, lives_station, lives_keep, lives_parts, lives_once}

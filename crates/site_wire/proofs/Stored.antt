@@ -6,7 +6,6 @@ use Rattle.std.proofs.lemmas.Bool.Decides.{nat_tests}
 use Rattle.esc_model.specs.Bytes.{overlaid}
 use Rattle.esc_model.specs.Registers.{Registers, access_byte, status_byte}
 use Rattle.esc_model.specs.SlaveHalf.{SlaveHalf, is_busy, shown_bytes, with_stored}
-use Rattle.site_wire.specs.Likeness.{SameRegisters}
 use Rattle.site_wire.proofs.Storing.{byte_after, Lies, before, within, afterwards, lies, after_before, after_after, overlaid_at, after_within}
 use Rattle.site_wire.proofs.Storing.{after_covered}
 use Rattle.esc_model.proofs.WordTaking.{offered_again as offered_bit}
@@ -73,14 +72,6 @@ module _ (a b : SlaveHalf) (at : ℕ) (over : List ℕ) where
       → (with_stored b at over).registers.forced ≡ (with_stored a at over).registers.forced
   forced_same o f =
       forced_is b at over ∙ ap (λ (n : ℕ). byte_after n at over 0 / 2 % 2 == 1) (access_same a.registers b.registers o f) ∙ sym (forced_is a at over)
-
-  pub stored_same : SameRegisters a.registers b.registers → SameRegisters (with_stored a at over).registers (with_stored b at over).registers
-  stored_same same = record {
-    offered = offered_same same.offered same.forced;
-    forced = forced_same same.offered same.forced;
-    command_error = same.command_error;
-    enable_error = same.enable_error;
-  }
 
   -- of what the content covers only the content counts
   pub control_same : at ≤ 2 → 4 ≤ at + length over → (with_stored b at over).registers.control ≡ (with_stored a at over).registers.control

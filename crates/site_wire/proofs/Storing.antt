@@ -77,14 +77,6 @@ after_twice old at i over = by (lies at i over)
     by (within from h) = after_within (byte_after old at over i) at i over from h ∙ sym (after_within old at i over from h)
     by (afterwards from past) = after_after (byte_after old at over i) at i over from past
 
-pub after_small : (old at i : ℕ) (over : List ℕ) → old < 256 → ((k : ℕ) → slice_index over k < 256) → byte_after old at over i < 256
-after_small old at i over small bytes = by (lies at i over)
-  where
-    by : Lies at i over → byte_after old at over i < 256
-    by (before h) = subst (λ (n : ℕ). n < 256) (sym (after_before old at i over h)) small
-    by (within from h) = subst (λ (n : ℕ). n < 256) (sym (after_within old at i over from h)) (bytes (i - at))
-    by (afterwards from past) = subst (λ (n : ℕ). n < 256) (sym (after_after old at i over from past)) small
-
 -- where the content covers a place, the old byte doesn't matter
 pub after_covered : (old other at i : ℕ) (over : List ℕ) → at ≤ i → i < at + length over → byte_after old at over i ≡ byte_after other at over i
 after_covered old other at i over from h = after_within old at i over from h ∙ sym (after_within other at i over from h)

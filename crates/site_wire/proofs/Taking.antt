@@ -1,20 +1,15 @@
--- How halves that are like one another take a datagram, and how one takes it that comes to rest before.
+-- How a half takes a datagram.
 use Rattle.std.proofs.Common.{◌≡◌, ◌⊎◌, ℕ, ◌+◌, ◌-◌, ◌<◌, ◌≤◌, ◌&&◌, Bool, true, false, nat_lt, nat_le, List}
-use Rattle.std.proofs.Common.{length, refl, sym, ap, subst, ◌∙◌, inl, inr, arith}
+use Rattle.std.proofs.Common.{length, refl, ap, ◌∙◌, inl, inr, arith}
 use Rattle.std.specs.Prelude.{◌==◌, if◌then◌else◌}
 use Rattle.std.proofs.lemmas.Bool.{and_parts, leb-true, lt-ltb, lt-leb, eqb-true}
-use Rattle.std.proofs.lemmas.Bool.Decides.{leb_tells}
 use Rattle.ecat_frame.specs.declared.Command.{Command}
 use Rattle.ecat_frame.specs.declared.Command.TheVariants.{Fprd, Fpwr, Lrw, Other}
 use Rattle.ecat_frame.specs.Command.{command_of}
 use Rattle.ecat_frame.specs.Frame.{Pdu}
 use Rattle.esc_model.specs.Bytes.{lies_in, station_of, register_of}
 use Rattle.esc_model.specs.SlaveHalf.{SlaveHalf, Idle, is_busy, concerns, replied, passed_on, with_stored, begun, after_write, written, served}
-use Rattle.esc_model.proofs.Resting.{MayLeave-idle}
-use Rattle.esc_model.proofs.Status.{idle_not_busy}
-use Rattle.site_wire.specs.Likeness.{IsLike}
-use Rattle.site_wire.proofs.Stored.{stored_same}
-use Rattle.site_wire.proofs.Validated.{validated, Needs, begun_like}
+use Rattle.site_wire.proofs.Validated.{validated, Needs}
 
 pub true_or_false : (b : Bool) → (b ≡ true) ⊎ (b ≡ false)
 true_or_false true = inl refl
@@ -114,61 +109,6 @@ module _ (half : SlaveHalf) (at : ℕ) (over : List ℕ) where
       let e : (is_busy half.activity && nat_lt 2 (at + length over)) ≡ true = rw (busy, lt-ltb 2 (at + length over) past) refl in
       ap (λ (b : Bool). (if b then passed_on half over else record { half = after_write half at over; content = over; added = 1 }).half) e
 
--- LIKE HALVES STAY LIKE
-
-stored_like : (a b : SlaveHalf) (at : ℕ) (over : List ℕ) → IsLike a b → IsLike (with_stored a at over) (with_stored b at over)
-stored_like a b at over like = record {
-  station = like.station;
-  activity = like.activity;
-  registers = stored_same a b at over like.registers;
-  words = like.words;
-}
-
--- two halves that a write made from two that are like one another
-from_both : (a b c d : SlaveHalf) → a ≡ c → b ≡ d → IsLike c d → IsLike a b
-from_both a b c d e f like = subst (λ (h : SlaveHalf). IsLike h b) (sym e) (subst (IsLike c) (sym f) like)
-
 -- What covers control and status begins there, and has all that its command needs.
 abbrev pub HasAll : (at : ℕ) → List ℕ → Type 0
 HasAll at over = (nat_le at 2 && nat_le 4 (at + length over)) ≡ true → (at ≡ 2) × Needs over
-
-after_like : (a b : SlaveHalf) (at : ℕ) (over : List ℕ) → HasAll at over → a.activity ≡ Idle → IsLike a b → IsLike (after_write a at over) (after_write b at over)
-after_like a b at over all idle like = by (true_or_false (nat_le at 2 && nat_le 4 (at + length over)))
-  where
-    by : ((nat_le at 2 && nat_le 4 (at + length over)) ≡ true) ⊎ ((nat_le at 2 && nat_le 4 (at + length over)) ≡ false)
-        → IsLike (after_write a at over) (after_write b at over)
-    by (inr part) = from_both _ _ _ _ (stores a at over part) (stores b at over part) (stored_like a b at over like)
-    by (inl covers) =
-        from_both _ _ _ _ (validates a at over covers) (validates b at over covers)
-        (subst (λ (n : ℕ). IsLike (begun (validated a n over)) (begun (validated b n over))) (sym (all covers).0)
-        (begun_like a b over (all covers).1 like (MayLeave-idle a b.words idle like.words)))
-
-written_like : (a b : SlaveHalf) (at : ℕ) (over : List ℕ) → HasAll at over → IsLike a b → IsLike (written a at over).half (written b at over).half
-written_like a b at over all like = by (true_or_false (is_busy a.activity)) (leb_tells (at + length over) 2)
-  where
-    by : (is_busy a.activity ≡ true) ⊎ (is_busy a.activity ≡ false)
-        → ((nat_le (at + length over) 2 ≡ true) × (at + length over ≤ 2)) ⊎ ((nat_le (at + length over) 2 ≡ false) × (2 < at + length over))
-        → IsLike (written a at over).half (written b at over).half
-    by (inr vacant) _ =
-        let idle : a.activity ≡ Idle = idle_not_busy a.activity vacant in
-        from_both _ _ _ _ (written_idle a at over idle) (written_idle b at over (like.activity ∙ idle)) (after_like a b at over all idle like)
-    by (inl busy) (inl quiet) = from_both _ _ _ _ (written_quiet a at over quiet.1) (written_quiet b at over quiet.1) (stored_like a b at over like)
-    by (inl busy) (inr past) =
-        from_both _ _ _ _ (written_ignored a at over busy past.1) (written_ignored b at over (ap is_busy like.activity ∙ busy) past.1) like
-
--- halves that are like one another are so once they took a datagram
-pub served_like : (a b : SlaveHalf) (command : Command) (address : ℕ) (content : List ℕ)
-    → (writes_here a command address content ≡ true → HasAll (register_of address - 0x0500) content) → IsLike a b
-    → IsLike (served a command address content).half (served b command address content).half
-served_like a b command address content all like = by (true_or_false (writes_here a command address content))
-  where
-    same : writes_here b command address content ≡ writes_here a command address content
-    same = writes_same a b command address content like.station
-
-    by : (writes_here a command address content ≡ true) ⊎ (writes_here a command address content ≡ false)
-        → IsLike (served a command address content).half (served b command address content).half
-    by (inl writes) =
-        from_both _ _ _ _ (served_write a command address content writes) (served_write b command address content (same ∙ writes))
-        (written_like a b (register_of address - 0x0500) content (all writes) like)
-    by (inr other) =
-        from_both _ _ _ _ (served_other a command address content other) (served_other b command address content (same ∙ other)) like

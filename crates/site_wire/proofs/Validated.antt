@@ -1,12 +1,10 @@
 -- Commands that are judged by registers that are the same.
 use Rattle.std.proofs.Common.{◌≡◌, ℕ, ◌+◌, ◌%◌, ◌≤◌, ◌||◌, ◌&&◌, Bool, true, false, nat_lt, nat_le, List, length}
-use Rattle.std.proofs.Common.{slice_index, refl, sym, ap, subst, ◌∙◌, arith}
+use Rattle.std.proofs.Common.{slice_index, refl, sym, ap, ◌∙◌, arith}
 use Rattle.std.specs.Prelude.{◌==◌, if◌then◌else◌}
 use Rattle.std.proofs.lemmas.Bool.{eqb-true}
-use Rattle.esc_model.specs.SlaveHalf.{SlaveHalf, Activity, Writing, with_stored, with_command_errors, begun, fetching, writing, MayHold}
-use Rattle.esc_model.proofs.Resting.{MayHold-same}
-use Rattle.site_wire.specs.Likeness.{SameRegisters, IsLike}
-use Rattle.site_wire.proofs.Stored.{offered_same, forced_same, address_covered, first_covered, control_same, command_same, command_given}
+use Rattle.esc_model.specs.SlaveHalf.{SlaveHalf, with_stored, with_command_errors, begun, fetching, writing}
+use Rattle.site_wire.proofs.Stored.{address_covered, first_covered, control_same, command_same, command_given}
 
 -- the half with its content stored, and its command judged
 abbrev pub validated : SlaveHalf → ℕ → List ℕ → SlaveHalf
@@ -49,19 +47,6 @@ does_nothing half zero = (rw zero refl) ∙ by (half.registers.command_error || 
     by : (error : Bool) → (if error then Nothing else Nothing) ≡ Nothing
     by true = refl
     by false = refl
-
--- a read that begins has no error
-pub fetches_well : (half : SlaveHalf) → doing_of half ≡ Fetches → (half.registers.command_error ≡ false) × (half.registers.enable_error ≡ false)
-unfolding doing
-fetches_well half is =
-    by half.registers.command_error half.registers.enable_error (half.registers.command == 1) (half.registers.command == 2) is
-  where
-    by : (first second reads writes : Bool)
-        → (if first || second then Nothing else if reads then Fetches else if writes then Writes else Nothing) ≡ Fetches
-        → (first ≡ false) × (second ≡ false)
-    by true second reads writes e = absurd cc
-    by false true reads writes e = absurd cc
-    by false false reads writes e = (refl, refl)
 
 pub fetches_command : (half : SlaveHalf) → doing_of half ≡ Fetches → half.registers.command ≡ 1
 unfolding doing
@@ -202,70 +187,6 @@ module _ (a b : SlaveHalf) (over : List ℕ) (needs : Needs over) where
 doing_same : (a b : SlaveHalf) → SameCommand a b → doing_of b ≡ doing_of a
 doing_same a b same = rw (same.command_error, same.enable_error, same.command) refl
 
--- WHAT THEY DO
-
-module _ (a b : SlaveHalf) (same : SameCommand a b) where
-  registers_same : SameRegisters a.registers b.registers
-  registers_same = record {
-    offered = same.offered;
-    forced = same.forced;
-    command_error = same.command_error;
-    enable_error = same.enable_error;
-  }
-
-  pub nothing_alike : b.activity ≡ a.activity → MayHold a.activity a.words b.words → IsLike a b
-  nothing_alike activity words = record { station = same.station; activity = activity; registers = registers_same; words = words }
-
-  pub fetching_alike : b.words ≡ a.words → IsLike (fetching a) (fetching b)
-  fetching_alike words = record {
-    station = same.station;
-    activity = refl;
-    registers = record {
-      offered = same.offered;
-      forced = same.forced;
-      command_error = same.command_error;
-      enable_error = same.enable_error;
-    };
-    words = words;
-  }
-
-  pub writing_alike : b.registers.address ≡ a.registers.address → b.registers.first ≡ a.registers.first
-      → MayHold (Writing a.registers.address a.registers.first) a.words b.words → IsLike (writing a) (writing b)
-  writing_alike address first words = record {
-    station = same.station;
-    activity = writing_is address first;
-    registers = registers_same;
-    words = words;
-  }
-    where
-      writing_is : {p q r s : ℕ} → p ≡ q → r ≡ s → Writing p r ≡ Writing q s
-      writing_is e f = cc
-
 -- the second does what the first does
 pub begun_as : (a b : SlaveHalf) → SameCommand a b → begun b ≡ done (doing_of a) b
 begun_as a b same = begun_is b ∙ ap (λ (d : Doing). done d b) (doing_same a b same)
-
--- IDLE HALVES THAT ARE LIKE ONE ANOTHER
-
-hold_same : (activity : Activity) (words others : List ℕ) → others ≡ words → MayHold activity words others
-hold_same activity words others same = subst (MayHold activity words) (sym same) (MayHold-same activity words)
-
-module _ (a b : SlaveHalf) (over : List ℕ) (needs : Needs over) (like : IsLike a b) (words : b.words ≡ a.words) where
-  pub validated_like : SameCommand (validated a 2 over) (validated b 2 over)
-  validated_like = validated_same a b over needs like.station
-      (offered_same a b 2 over like.registers.offered like.registers.forced)
-      (forced_same a b 2 over like.registers.offered like.registers.forced)
-      (ap length words)
-
-  done_like : (d : Doing) → doing_of (validated a 2 over) ≡ d → IsLike (done d (validated a 2 over)) (done d (validated b 2 over))
-  done_like Nothing is = nothing_alike (validated a 2 over) (validated b 2 over) validated_like like.activity (hold_same a.activity a.words b.words words)
-  done_like Fetches is = fetching_alike (validated a 2 over) (validated b 2 over) validated_like words
-  done_like Writes is = writing_alike (validated a 2 over) (validated b 2 over) validated_like
-      (address_needed a b over needs Writes is (λ e. absurd cc)) (first_needed a b over needs is)
-      (hold_same (Writing (validated a 2 over).registers.address (validated a 2 over).registers.first) a.words b.words words)
-
-  pub begun_like : IsLike (begun (validated a 2 over)) (begun (validated b 2 over))
-  begun_like =
-      subst (λ (h : SlaveHalf). IsLike h (begun (validated b 2 over))) (sym (begun_is (validated a 2 over)))
-      (subst (IsLike (done (doing_of (validated a 2 over)) (validated a 2 over))) (sym (begun_as (validated a 2 over) (validated b 2 over) validated_like))
-      (done_like (doing_of (validated a 2 over)) refl))

@@ -9,8 +9,7 @@ use Rattle.esc_model.specs.SlaveHalf.{SlaveHalf, is_busy}
 use Rattle.site_wire.specs.declared.device.Reaction.{Reaction}
 use Rattle.site_wire.specs.declared.device.Reaction.TheVariants as next
 use Rattle.site_wire.specs.Due.{WritesControl}
-use Rattle.site_wire.specs.Answers.{compared, ReadAlike}
-use Rattle.site_wire.specs.Exchanges.{Agrees}
+use Rattle.site_wire.specs.Answers.{compared, ReadAlike, AnswersAlike}
 use Rattle.site_wire.specs.declared.answers.Answer.{Answer}
 use Rattle.site_wire.specs.declared.answers.AccessState.{AccessState}
 use Rattle.site_wire.specs.declared.answers.AccessState.TheVariants as shown
@@ -112,6 +111,11 @@ pub record IsUnconfirmed (half : SlaveHalf) (given : Pdu) (answer : Answer) : Ty
   pub writes : WritesControl given
   pub given_counter : given.counter ≡ 1
   pub found_counter : answer.counter ≡ 0
+
+-- The answer is the shadow's, in what is compared. Or it is to a command with which the shadow is busy now, and doesn't count it.
+pub data Agrees (shadow : SlaveHalf) (given found : Pdu) : Type 0 where
+  alike : AnswersAlike given found → Agrees shadow given found
+  unconfirmed : IsTrue (is_busy shadow.activity) → WritesControl given → given.counter ≡ 1 → found.counter ≡ 0 → Agrees shadow given found
 
 -- What came back agrees with the first datagram of the shadow's answer.
 pub record AgreesWith (half : SlaveHalf) (frame : List Pdu) (answer : Answer) : Type 0 where

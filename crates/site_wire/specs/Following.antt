@@ -1,28 +1,29 @@
 -- A device on a wire behind its shadow: what it sends for a datagram, and what real slaves are after it (ETG.1000.4, slave information interface).
-use Rattle.std.specs.Prelude.{◌≡◌, ℕ, ◌+◌, ◌<◌, ◌⊎◌, ◌==◌, Bool, true, false, IsTrue, refl, List, [], ◌∷◌, ◌++◌}
+use Rattle.std.specs.Prelude.{◌≡◌, ℕ, ◌+◌, ◌<◌, ◌≤◌, ◌⊎◌, ◌==◌, Bool, true, false, IsTrue, refl, List, [], ◌∷◌, ◌++◌}
 use Rattle.std.specs.Prelude.{Option, Some, None, slice_get}
 use Rattle.std.specs.Prelude.{slice_index, if◌then◌else◌}
 use Rattle.std.specs.List.{All}
 use Rattle.std.proofs.Common.{sym, subst}
+use Rattle.std.proofs.Math.Nat.{le_trans}
 use Rattle.ecat_frame.specs.Frame.{Pdu}
 use Rattle.esc_model.specs.Bytes.{station_of, word_at}
 use Rattle.esc_model.specs.Orders.{station, poll_order}
 use Rattle.esc_model.specs.declared.rest.WordWrite.{WordWrite}
-use Rattle.esc_model.specs.SlaveHalf.{SlaveHalf, Idle, is_busy, in_flight}
-use Rattle.site_core.specs.State.{State, Seen}
-use Rattle.site_shadow.specs.Following.{first_of, Extends, GoesOn, IsUnasked}
-use Rattle.site_shadow.proofs.Towards.{Extends-first}
+use Rattle.esc_model.specs.SlaveHalf.{SlaveHalf, Idle, is_busy, in_flight, MayLeave}
+use Rattle.site_core.specs.State.{State, Seen, Pair, Leaves, clock}
+use Rattle.site_shadow.specs.Following.{first_of, LeftTowards, Extends, GoesOn, IsUnasked}
+use Rattle.site_shadow.proofs.Towards.{Extends-first, Extends-clock, Extends-towards}
 use Rattle.site_shadow.specs.declared.device.Resting.{Resting}
 use Rattle.site_shadow.specs.declared.device.Resting.TheVariants as resting
 use Rattle.wire_frames.specs.Sending.{IsForEeprom}
 use Rattle.site_wire.specs.Due.{WritesControl, IsFit, IsOwn}
 use Rattle.site_wire.specs.Known.{IsKnown}
-use Rattle.site_wire.specs.Amending.{IsAmended}
+use Rattle.site_wire.specs.After.{IsAfter}
 use Rattle.site_wire.specs.Answers.{shown_status}
 use Rattle.site_wire.specs.Answering.{shown_by}
 use Rattle.site_wire.specs.declared.sending.Exchange.{Exchange}
 use Rattle.site_wire.specs.Sent.{Exchanged, exchanged, exchanges, HasSent, Sends}
-use Rattle.site_wire.specs.RealSlaves.{Lives}
+use Rattle.site_wire.specs.RealSlaves.{Lives, IsSoFar}
 use Rattle.site_wire.specs.Journal.{JournalFollows, journal_on}
 use Rattle.site_wire.specs.Parts.{AreFor}
 use Rattle.site_wire.specs.declared.amending.Tried.{Tried}
@@ -112,9 +113,16 @@ pub data Carries (slave : ℕ) (half : SlaveHalf) (d : Pdu) : List Exchanged →
       → in_flight half.activity ≡ Some write → All (IsOwnTo slave half) calls → RestsBy slave write calls resting
       → Carries slave half d (exchanged d (Some found) ∷ calls) resting
 
+-- The datagram is sent, as the half may take it, and what is sent after it is the device's own; also where the device stops.
+pub data SendsFirst (slave : ℕ) (half : SlaveHalf) (d : Pdu) : List Exchanged → Type 0 where
+  is_lost : (IsTrue (is_busy half.activity) → ¬ WritesControl d) → ¬ IsKnown half d → SendsFirst slave half d (exchanged d None ∷ [])
+  comes_back : (found : Pdu) (own : List Exchanged) → (IsTrue (is_busy half.activity) → ¬ WritesControl d) → ¬ IsKnown half d
+      → All (IsOwnTo slave half) own → SendsFirst slave half d (exchanged d (Some found) ∷ own)
+
 -- From the one to the other a device sends to the slave at this place alone, and unless its site is over then, it carries the datagram.
 pub record SendsFor (slave : ℕ) (half : SlaveHalf) (d : Pdu) (old new : List Exchange) (is_over : Bool) (resting : Resting) : Type 0 where
   pub calls : List Exchanged
+  pub first : SendsFirst slave half d calls
   pub sends : Sends old new calls
   pub to : All (λ call. station_of call.sent.address ≡ station slave) calls
   pub carries : is_over ≡ false → Carries slave half d calls resting
@@ -129,10 +137,11 @@ pub record IsDueTo (slave : ℕ) (half : SlaveHalf) (frame : List Pdu) (d : Pdu)
   pub to : station_of d.address ≡ station slave
   pub bytes : All (λ (byte : ℕ). byte < 256) d.content
 
--- the same of a frame, which is due to this slave unless the site is over
+-- the same of a frame, which is due to this slave unless nothing is sent and the site is over
 pub record CarriesFrame (slave : ℕ) (half : SlaveHalf) (frame : List Pdu) (old new : List Exchange) (is_over : Bool) (resting : Resting)
     : Type 0 where
   pub calls : List Exchanged
+  pub first : (calls ≡ []) ⊎ ((d : Pdu) × IsDueTo slave half frame d × SendsFirst slave half d calls)
   pub sends : Sends old new calls
   pub to : All (λ call. station_of call.sent.address ≡ station slave) calls
   pub carries : is_over ≡ false → (d : Pdu) × IsDueTo slave half frame d × Carries slave half d calls resting
@@ -144,23 +153,56 @@ pub record SendsNothing {L F C : Type 0} (old new : WireDevice L F C) : Type 0 w
 
 -- WHAT REAL SLAVES ARE BEHIND IT
 
--- The real slave is one that a shadow may be, but for its errors: at the same station, with the same access, with the shadow's words, but
--- for a word in flight; and while none is in flight, idle.
-pub record IsAfter (shadow real : SlaveHalf) : Type 0 where
-  pub amended : IsAmended shadow real
-  pub idle : in_flight shadow.activity ≡ None → real.activity ≡ Idle
-
 -- Where this was sent since a site began: a real slave at the station address of its place that was after its half then is after its half now,
 -- if it could have answered so.
 abbrev pub SlavesFollow : List Exchanged → (begun now : List SlaveHalf) → Type 0
 SlavesFollow log begun now = (slave : ℕ) (first half real later : SlaveHalf) → slice_get begun slave ≡ Some first
     → slice_get now slave ≡ Some half → first.station ≡ station slave → IsAfter first real → Lives log real later → IsAfter half later
 
--- The slaves have followed the site behind a device on a wire: unless it or the site has stopped.
+-- WHAT A POWER CUT LEAVES OF THEM
+
+-- Where this was sent since a site began: of a real slave at the station address of its place that was after its half then, and could have answered
+-- so, a power cut leaves what it may leave of its half in this state.
+abbrev pub SlavesLeave : List Exchanged → (begun now : List SlaveHalf) → Type 0
+SlavesLeave sent begun now = (slave : ℕ) (first half real later : SlaveHalf) (left : List ℕ) → slice_get begun slave ≡ Some first
+    → slice_get now slave ≡ Some half → first.station ≡ station slave → IsAfter first real → Lives sent real later → MayLeave later left
+    → MayLeave half left
+
+-- What a power cut leaves of this state, it could have left of the site towards this time of its clock.
+pub record IsTowards (seen : Seen) (state : State) : Type 0 where
+  pub time : ℕ
+  pub early : time ≤ clock seen
+  pub left : (pair : Pair) → Leaves state pair → LeftTowards seen time pair
+
+-- There is a state of the site, now or before, of which a power cut may leave what it leaves of all real slaves where this was sent.
+pub record LeavesNoMore (sent : List Exchanged) (seen : Seen) : Type 0 where
+  pub state : State
+  pub towards : IsTowards seen state
+  pub slaves : SlavesLeave sent (first_of seen).halves state.halves
+
+-- That is so at each moment since the site began, also with a datagram under way.
+abbrev pub CutsLeaveNoMore : List Exchanged → Seen → Type 0
+CutsLeaveNoMore log seen = (part : List Exchanged) → IsSoFar log part → LeavesNoMore part seen
+
+-- it stays so
+pub leaves_on : (old new : Seen) (sent : List Exchanged) → Extends old new → LeavesNoMore sent old → LeavesNoMore sent new
+leaves_on old new sent extends leaves = record {
+  state = leaves.state;
+  towards = record {
+    time = leaves.towards.time;
+    early = le_trans leaves.towards.early (Extends-clock old new extends);
+    left = λ pair left. Extends-towards old new leaves.towards.time pair extends leaves.towards.early (leaves.towards.left pair left);
+  };
+  slaves = subst (λ (begun : State). SlavesLeave sent begun.halves leaves.state.halves) (sym (Extends-first old new extends)) leaves.slaves;
+}
+
+-- The slaves have followed the site behind a device on a wire: unless it or the site has stopped. At each moment, also of a stop and after it,
+-- a power cut has left of them what it could have left of the site.
 pub record SlavesFollowed {L F C : Type 0} (device : WireDevice L F C) (seen : Seen) : Type 0 where
   pub log : List Exchanged
   pub has : HasSent device.sender.log.all log
   pub follow : device.is_over ≡ false → seen.is_stopped ≡ false → SlavesFollow log (first_of seen).halves seen.state.halves
+  pub cuts : CutsLeaveNoMore log seen
 
 -- they go on where no half changes
 pub still_follows : {L F C : Type 0} (device : WireDevice L F C) (old new : Seen) → Extends old new
@@ -172,6 +214,7 @@ still_follows device old new extends same follows = record {
       subst (λ (halves : List SlaveHalf). SlavesFollow follows.log (first_of new).halves halves) (sym (same (never running)))
       (subst (λ (begun : State). SlavesFollow follows.log begun.halves old.state.halves) (sym (Extends-first old new extends))
       (follows.follow going (before old.is_stopped refl running)));
+  cuts = λ part so_far. leaves_on old new part extends (follows.cuts part so_far);
 }
   where
     never : {b : Bool} → b ≡ false → ¬ IsTrue b

@@ -1,9 +1,5 @@
 pub mod Due
-pub mod Likeness
 pub mod Answers
-pub mod Exchanges
-pub mod Laws
-pub mod Amending
 pub mod Answering
 pub mod Joining
 pub mod Known
@@ -14,5 +10,6 @@ pub mod Logged
 pub mod Reaching
 pub mod RealSlaves
 pub mod Journal
+pub mod After
 pub mod Following
 pub mod JournalLaws

@@ -178,8 +178,7 @@ impl<'f, L: Reach, F: RandomAccessFile, C: Clock> WireDevice<'f, L, F, C> {
     /// Whether nothing may be sent: the site is over, or the journal refuses, as it does behind a shadow that has seen a call; or something was sent
     /// before, so that what is told would not be what was sent behind this site alone.
     fn must_refuse(&self) -> bool
-        ensures refuses { result ≡ ((self.now.is_over || self.now.journal.has_failed) || not self.now.sender.log.is_empty) }
-        ensures unsent { self.now.sender.log.is_empty ≡ true → self.now.sender.log.all ≡ [] }
+        ensures { result ≡ ((self.now.is_over || self.now.journal.has_failed) || not self.now.sender.log.is_empty) }
     {
         let is_unsent = self.sender.is_unsent();
         self.is_over || self.journal.has_failed() || !is_unsent
@@ -568,7 +567,7 @@ impl<'f, L: Reach, F: RandomAccessFile, C: Clock> Device for WireDevice<'f, L, F
     ghost well = { λ device. device.is_over ≡ false };
 
     /// What the journal is asked is noted from here on, as is what is sent. Behind a shadow that has seen a call the device would not know what the
-    /// slaves and the journal are: it sends and asks nothing. Nor does it where it has sent anything before.
+    /// slaves and the journal are: it sends and asks nothing. Nor does it where it has sent anything before, which is forgotten.
     fn begin(&mut self, is_new: bool)
         ensures begins { Begins self.old.journal.asking.calls self.new.journal.asking.calls }
         ensures sound { self.new.journal.has_failed ≡ (self.old.journal.has_failed || not is_new) }
@@ -576,6 +575,7 @@ impl<'f, L: Reach, F: RandomAccessFile, C: Clock> Device for WireDevice<'f, L, F
     {
         self.journal.begin(is_new);
         self.is_over = self.must_refuse();
+        let _earlier = self.sender.tell();
     }
 
     fn len(&mut self, length: usize) -> Passing

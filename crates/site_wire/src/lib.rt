@@ -1,5 +1,5 @@
 //! The slaves of a line that was brought up on a wire, and a journal's file, as the device behind the shadow: it sends each frame and compares
-//! its answer. `laws` says why comparing so little is enough.
+//! its answer. `laws` says what a power cut leaves of a slave that follows its half.
 #![tactic(auto)]
 
 mod amending;
@@ -17,10 +17,7 @@ mod sending;
 
 pub use device::{WireDevice, WireLog, WireSite};
 pub use faults::{Difference, LeftAs, LineSeen, OpenWord, StopReason};
-pub use laws::{
-    agreed_is_possible, amending_is_possible, defined_slave_serves, journal_follows,
-    possible_leaves_no_more, stop_leaves_no_more,
-};
+pub use laws::{brought_up_follows, defined_slave_serves, journal_follows, leave_no_more};
 pub use order::Order;
 pub use parts::TellsPart;
 pub use reach::{LiveLine, LockedLine, Reach, SharedLine};

@@ -3,8 +3,7 @@ use Rattle.std.proofs.Common.{◌≡◌, ℕ, zero, suc, ◌+◌, ◌<◌, ◌�
 use Rattle.std.proofs.lemmas.Bool.{cases_lt}
 use Rattle.std.proofs.lemmas.Bool.Decides.{nat_tests}
 use Rattle.std.proofs.lemmas.Option.{slice_get_past}
-use Rattle.slave_match.specs.declared.comparing.Difference.{Difference}
-use Rattle.slave_match.specs.Difference.{counted, difference_from, difference_of, is_same, next_difference}
+use Rattle.slave_match.specs.Difference.{counted, difference_from, difference_of, is_same}
 
 if_none : {A : Type 0} (test : Bool) (rest : Option A) (one : A) → (if test then rest else Some one) ≡ None → (test ≡ true) × (rest ≡ None)
 if_none true rest one is = (refl, is)

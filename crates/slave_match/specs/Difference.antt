@@ -1,5 +1,5 @@
 -- In which words two lists of words differ. A word that only one of them has differs too.
-use Rattle.std.specs.Prelude.{ℕ, zero, suc, ◌+◌, ◌==◌, Bool, true, false, if◌then◌else◌, List, [], ◌∷◌, length, max, Option, Some, None, slice_get}
+use Rattle.std.specs.Prelude.{ℕ, zero, suc, ◌+◌, ◌==◌, Bool, true, false, if◌then◌else◌, List, length, max, Option, Some, None, slice_get}
 use Rattle.slave_match.specs.declared.comparing.Difference.{Difference}
 
 -- both have the word with one value, or neither has it

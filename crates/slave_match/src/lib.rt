@@ -7,5 +7,5 @@ mod reason;
 mod redoing;
 
 pub use comparing::{Difference, difference_between};
-pub use reason::{Reason, reason_of};
+pub use reason::{Reason, is_same_type, reason_of};
 pub use redoing::redo_batches;

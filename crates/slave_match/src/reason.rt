@@ -1,8 +1,9 @@
 //! What it usually is where a slave has other words than its image file.
+ghost use Rattle.std.specs.Prelude.{◌↔◌, IsTrue, MatchOption, slice_get};
+ghost use Rattle.slave_match.specs.Reason.{AreSameType, AreTorn, HasIdentity, HasNoOther, HasWords, IsBeside, IsFirstOther, IsOfNoOther, IsPlaceOf, IsReason, IsReasonAt, NamesPage};
 
-use crate::comparing::difference_between;
 use jrn_format::Batch;
-use sii_words::{Identity, Words};
+use sii_words::{Identity, Run, Words};
 
 /// How many words the largest page of a serial EEPROM has, which some chips write anew as a whole with each word.
 const PAGE: usize = 64;
@@ -50,18 +51,32 @@ pub fn reason_of(
     slaves: &[Words],
     images: &[Option<Words>],
     batches: &[Batch],
-) -> Reason {
+) -> Reason
+    ensures { IsReasonAt slave (slice_get slaves.now slave) (slice_get images.now slave) images.now batches.now result }
+{
     let (Some(words), Some(Some(image))) = (slaves.get(slave), images.get(slave)) else {
         return Reason::Changed;
     };
-    let (own, kept) = (words.identity(), image.identity());
-    if let Some(place) = place_of(words, slave, images) {
+    usual_reason(slave, words, image, images, batches)
+}
+
+/// The same where slave and image file are there.
+fn usual_reason(
+    slave: usize,
+    words: &Words,
+    image: &Words,
+    images: &[Option<Words>],
+    batches: &[Batch],
+) -> Reason
+    ensures { IsReason slave words.now image.now images.now batches.now result }
+{
+    if let Some(place) = place_of(slave, words, image, images) {
         return Reason::Elsewhere(place);
     }
-    if !is_same_type(own, kept) {
+    if !is_same_type(words.identity(), image.identity()) {
         return Reason::OtherType;
     }
-    if !is_same_device(own, kept) {
+    if !has_identity(image, words) {
         return Reason::SameType;
     }
     if are_torn(slave, words, image, batches) {
@@ -71,62 +86,101 @@ pub fn reason_of(
 }
 
 /// The other place whose image file has all words of a slave; else the one that has its identity, where its own image file has another one.
-fn place_of(words: &Words, slave: usize, images: &[Option<Words>]) -> Option<usize> {
-    let is_own = match images.get(slave) {
-        Some(Some(image)) => is_same_device(words.identity(), image.identity()),
-        _ => false,
-    };
-    let mut found = None;
+fn place_of(slave: usize, words: &Words, image: &Words, images: &[Option<Words>]) -> Option<usize>
+    ensures { MatchOption result (IsOfNoOther slave words.now image.now images.now) (IsPlaceOf slave words.now image.now images.now) }
+{
+    match place_of_words(slave, words, images) {
+        None if !has_identity(image, words) => place_of_identity(slave, words, images),
+        found => found,
+    }
+}
+
+/// The first other place whose image file has all words of a slave.
+fn place_of_words(slave: usize, words: &Words, images: &[Option<Words>]) -> Option<usize>
+    ensures { MatchOption result (HasNoOther (HasWords words.now) slave images.now) (IsFirstOther (HasWords words.now) slave images.now) }
+{
     for (place, image) in images.iter().enumerate() {
-        if place == slave {
-            continue;
-        }
-        let Some(image) = image else {
-            continue;
-        };
-        if difference_between(words.as_slice(), image.as_slice()).is_none() {
-            return Some(place);
-        }
-        if !is_own && found.is_none() && is_same_device(words.identity(), image.identity()) {
-            found = Some(place);
+        match image {
+            Some(image) if place != slave && has_words(image, words) => return Some(place),
+            _ => {}
         }
     }
-    found
+    None
+}
+
+/// The first other place whose image file has the identity of a slave.
+fn place_of_identity(slave: usize, words: &Words, images: &[Option<Words>]) -> Option<usize>
+    ensures { MatchOption result (HasNoOther (HasIdentity words.now) slave images.now) (IsFirstOther (HasIdentity words.now) slave images.now) }
+{
+    for (place, image) in images.iter().enumerate() {
+        match image {
+            Some(image) if place != slave && has_identity(image, words) => return Some(place),
+            _ => {}
+        }
+    }
+    None
+}
+
+/// Whether an image file has all words of a slave.
+fn has_words(image: &Words, words: &Words) -> bool
+    ensures { IsTrue result ↔ HasWords words.now image.now }
+{
+    image.as_slice() == words.as_slice()
+}
+
+/// Whether an image file has the identity of a slave.
+#[tactic(auto, unfolding(crate::specs::Reason::HasIdentity))]
+fn has_identity(image: &Words, words: &Words) -> bool
+    ensures { IsTrue result ↔ HasIdentity words.now image.now }
+{
+    let (kept, own) = (image.identity(), words.identity());
+    is_same_type(kept, own) && kept.revision == own.revision && kept.serial == own.serial
 }
 
 /// Whether two slaves are of one vendor and product.
-pub(crate) fn is_same_type(one: Identity, other: Identity) -> bool {
+pub fn is_same_type(one: Identity, other: Identity) -> bool
+    ensures { IsTrue result ↔ AreSameType one other }
+{
     one.vendor == other.vendor && one.product == other.product
 }
 
-/// Whether two identities are the same.
-fn is_same_device(one: Identity, other: Identity) -> bool {
-    is_same_type(one, other) && one.revision == other.revision && one.serial == other.serial
-}
-
 /// Whether each word that differs lies in the page of a word that a live batch names for the slave.
-fn are_torn(slave: usize, words: &Words, image: &Words, batches: &[Batch]) -> bool {
-    for at in 0..words.len().min(image.len()) {
+fn are_torn(slave: usize, words: &Words, image: &Words, batches: &[Batch]) -> bool
+    ensures { IsTrue result ↔ AreTorn slave words.now image.now batches.now }
+{
+    if words.len() != image.len() {
+        return false;
+    }
+    for at in 0..words.len() {
         if words.get(at) != image.get(at) && !is_beside(slave, at, batches) {
             return false;
         }
     }
-    words.len() == image.len()
+    true
 }
 
 /// Whether a live batch names a word of this one's page for the slave.
-fn is_beside(slave: usize, at: usize, batches: &[Batch]) -> bool {
+fn is_beside(slave: usize, at: usize, batches: &[Batch]) -> bool
+    ensures { IsTrue result ↔ IsBeside slave at batches.now }
+{
     for batch in batches {
         for entry in batch.entries.as_slice() {
             for run in entry.runs.as_slice() {
-                let first = usize::from(run.first) / PAGE;
-                let after = usize::from(run.first) + run.words.as_slice().len();
-                let is_in = first <= at / PAGE && at / PAGE * PAGE < after;
-                if usize::from(run.slave) == slave && is_in {
+                if names_page(slave, at, run) {
                     return true;
                 }
             }
         }
     }
     false
+}
+
+/// Whether a run names a word of this one's page for the slave.
+fn names_page(slave: usize, at: usize, run: &Run) -> bool
+    ensures { IsTrue result ↔ NamesPage slave at run.now }
+{
+    let first = usize::from(run.first);
+    let after = first + run.words.as_slice().len();
+    let named = first.max(at / PAGE * PAGE);
+    usize::from(run.slave) == slave && named / PAGE == at / PAGE && named < after
 }

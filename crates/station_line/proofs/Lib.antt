@@ -1,3 +1,4 @@
+pub mod Answering
 pub mod Formatted
 pub mod Validated
 pub mod Refused

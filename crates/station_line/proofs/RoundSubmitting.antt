@@ -14,8 +14,8 @@ use Rattle.station_alone.specs.Station.{Station}
 use Rattle.station_alone.specs.Steps.{reported_number, reported_refusal}
 use Rattle.station_alone.specs.Keeping.{Went, accepted_by}
 use Rattle.station_files.specs.declared.faults.Fault.{Fault}
-use Rattle.station_files.specs.declared.faults.ExitStatus.{ExitStatus}
-use Rattle.station_files.specs.declared.faults.ExitStatus.TheVariants.{Done}
+use Rattle.station_line.specs.declared.answered.Answered.{Answered}
+use Rattle.station_line.specs.declared.answered.Answered.TheVariants.{AllAccepted}
 use Rattle.station_line.specs.Rounds.{AnswersCommand, AreAmong, Goes, IsAccepted, SubmitsSo}
 use Rattle.station_line.proofs.Extending.{one_step}
 use Rattle.station_line.proofs.RoundLaws.{goes-by, goes-none, goes-then}
@@ -103,55 +103,55 @@ goes-refused command answer old new not went = subst (λ (l : List Command). Goe
 -- ---- several commands
 
 module _ {E : Type 0} where
-  all-on : (commands accepted : List Command) (before after : ExitStatus) (result : Result (Unit {0}) E) → (after ≡ Done → (before ≡ Done) × (accepted ≡ commands)) → OnOk result (after ≡ Done → (before ≡ Done) × (accepted ≡ commands))
+  all-on : (commands accepted : List Command) (before after : Answered) (result : Result (Unit {0}) E) → (after ≡ AllAccepted → (before ≡ AllAccepted) × (accepted ≡ commands)) → OnOk result (after ≡ AllAccepted → (before ≡ AllAccepted) × (accepted ≡ commands))
   all-on commands accepted before after (Ok done) all = all
   all-on commands accepted before after (Err fault) all = tt
 
-  pub submits-none : (status : ExitStatus) (s : Station) → SubmitsSo {E = E} [] (Ok tt) status status s s
-  submits-none status s = record { accepted = []; goes = goes-none s; among = refl; all = λ done. (done, refl) }
+  pub submits-none : (answered : Answered) (s : Station) → SubmitsSo {E = E} [] (Ok tt) answered answered s s
+  submits-none answered s = record { accepted = []; goes = goes-none s; among = refl; all = λ done. (done, refl) }
 
   -- a fault came first
-  pub submits-failed : (commands : List Command) (fault : E) (before after : ExitStatus) (old new : Station) → Goes [] old new → SubmitsSo {E = E} commands (Err fault) before after old new
+  pub submits-failed : (commands : List Command) (fault : E) (before after : Answered) (old new : Station) → Goes [] old new → SubmitsSo {E = E} commands (Err fault) before after old new
   submits-failed commands fault before after old new goes = record { accepted = []; goes = goes; among = among-none commands; all = tt }
 
   -- the command was answered, after some rounds
-  pub submits-one : (command : Command) (answer : Answer) (result : Result (Unit {0}) E) (before status after : ExitStatus) (a b c : Station) → status ≡ before → Goes [] a b → Went (Submit command) b answer c
-      → (after ≡ Done → (status ≡ Done) × IsAccepted answer) → SubmitsSo {E = E} (command ∷ []) result before after a c
-  submits-one command answer result before status after a b c same first went all = record {
+  pub submits-one : (command : Command) (answer : Answer) (result : Result (Unit {0}) E) (before answered after : Answered) (a b c : Station) → answered ≡ before → Goes [] a b → Went (Submit command) b answer c
+      → (after ≡ AllAccepted → (answered ≡ AllAccepted) × IsAccepted answer) → SubmitsSo {E = E} (command ∷ []) result before after a c
+  submits-one command answer result before answered after a b c same first went all = record {
     accepted = accepted_by (Submit command) answer;
     goes = goes-then [] (accepted_by (Submit command) answer) a b c first (goes-went command answer b c went);
     among = among-by command answer;
     all = all-on (command ∷ []) (accepted_by (Submit command) answer) before after result (λ done. let x = all done in (sym same ∙ x.0, all-by command answer x.1));
   }
 
-  all-then : (first second one two : List Command) (before status after : ExitStatus) (result : Result (Unit {0}) E) → (status ≡ Done → (before ≡ Done) × (one ≡ first)) → OnOk result (after ≡ Done → (status ≡ Done) × (two ≡ second))
-      → OnOk result (after ≡ Done → (before ≡ Done) × (one ++ two ≡ first ++ second))
-  all-then first second one two before status after (Ok done) x y = λ is.
+  all-then : (first second one two : List Command) (before answered after : Answered) (result : Result (Unit {0}) E) → (answered ≡ AllAccepted → (before ≡ AllAccepted) × (one ≡ first)) → OnOk result (after ≡ AllAccepted → (answered ≡ AllAccepted) × (two ≡ second))
+      → OnOk result (after ≡ AllAccepted → (before ≡ AllAccepted) × (one ++ two ≡ first ++ second))
+  all-then first second one two before answered after (Ok done) x y = λ is.
       let q = y is in
       let p = x q.0 in
       (p.0, ap (λ (l : List Command). l ++ two) p.1 ∙ ap (λ (l : List Command). first ++ l) q.1)
-  all-then first second one two before status after (Err fault) x y = tt
+  all-then first second one two before answered after (Err fault) x y = tt
 
-  pub submits-then : (first second : List Command) (result : Result (Unit {0}) E) (before status after : ExitStatus) (a b c : Station) → SubmitsSo {E = E} first (Ok tt) before status a b → SubmitsSo {E = E} second result status after b c
+  pub submits-then : (first second : List Command) (result : Result (Unit {0}) E) (before answered after : Answered) (a b c : Station) → SubmitsSo {E = E} first (Ok tt) before answered a b → SubmitsSo {E = E} second result answered after b c
       → SubmitsSo {E = E} (first ++ second) result before after a c
-  submits-then first second result before status after a b c one two = record {
+  submits-then first second result before answered after a b c one two = record {
     accepted = one.accepted ++ two.accepted;
     goes = goes-then one.accepted two.accepted a b c one.goes two.goes;
     among = among-then one.accepted two.accepted first second one.among two.among;
-    all = all-then first second one.accepted two.accepted before status after result one.all two.all;
+    all = all-then first second one.accepted two.accepted before answered after result one.all two.all;
   }
 
   -- a fault came between two of the commands
-  pub submits-cut : (first second : List Command) (fault other : E) (before after : ExitStatus) (a b : Station) → SubmitsSo {E = E} first (Err fault) before after a b → SubmitsSo {E = E} (first ++ second) (Err other) before after a b
+  pub submits-cut : (first second : List Command) (fault other : E) (before after : Answered) (a b : Station) → SubmitsSo {E = E} first (Err fault) before after a b → SubmitsSo {E = E} (first ++ second) (Err other) before after a b
   submits-cut first second fault other before after a b one =
       record { accepted = one.accepted; goes = one.goes; among = among-more one.accepted first second one.among; all = tt }
 
   -- the next of the commands was submitted, and a fault came
-  pub submits-stopped : (first : List Command) (command : Command) (rest all : List Command) (fault other : E) (before status after : ExitStatus) (a b c : Station) → (first ++ command ∷ []) ++ rest ≡ all
-      → SubmitsSo {E = E} first (Ok tt) before status a b → SubmitsSo {E = E} (command ∷ []) (Err fault) status after b c → SubmitsSo {E = E} all (Err other) before after a c
-  submits-stopped first command rest all fault other before status after a b c is one two =
+  pub submits-stopped : (first : List Command) (command : Command) (rest all : List Command) (fault other : E) (before answered after : Answered) (a b c : Station) → (first ++ command ∷ []) ++ rest ≡ all
+      → SubmitsSo {E = E} first (Ok tt) before answered a b → SubmitsSo {E = E} (command ∷ []) (Err fault) answered after b c → SubmitsSo {E = E} all (Err other) before after a c
+  submits-stopped first command rest all fault other before answered after a b c is one two =
       subst (λ (l : List Command). SubmitsSo {E = E} l (Err other) before after a c) is
-      (submits-cut (first ++ command ∷ []) rest fault other before after a c (submits-then first (command ∷ []) (Err fault) before status after a b c one two))
+      (submits-cut (first ++ command ∷ []) rest fault other before after a c (submits-then first (command ∷ []) (Err fault) before answered after a b c one two))
 
 -- ---- a fault that is handed on
 

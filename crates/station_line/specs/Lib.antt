@@ -1,3 +1,4 @@
+pub mod Answers
 pub mod DeviceFaults
 pub mod Site
 pub mod Faults

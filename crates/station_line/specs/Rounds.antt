@@ -8,8 +8,8 @@ use Rattle.station_alone.specs.declared.choice.Answer.{Answer}
 use Rattle.station_alone.specs.declared.choice.Answer.TheVariants.{Accepted, Refused, NoMemory}
 use Rattle.station_alone.specs.Station.{Station}
 use Rattle.station_alone.specs.Keeping.{GoesOn, Keeps}
-use Rattle.station_files.specs.declared.faults.ExitStatus.{ExitStatus}
-use Rattle.station_files.specs.declared.faults.ExitStatus.TheVariants.{Done}
+use Rattle.station_line.specs.declared.answered.Answered.{Answered}
+use Rattle.station_line.specs.declared.answered.Answered.TheVariants.{AllAccepted}
 
 -- The session went on with these commands accepted, and calls alone led its site on. If a power cut before could leave only what is kept, so it could
 -- at each moment since.
@@ -46,21 +46,21 @@ AreAmong some [] = some ≡ []
 AreAmong some (command ∷ commands) = ((rest : List Command) × (some ≡ command ∷ rest) × AreAmong rest commands) ⊎ AreAmong some commands
 
 -- Some of these commands were accepted: all of them if the result is no fault and none was refused.
-pub record SubmitsSo {E : Type 0} (commands : List Command) (result : Result (Unit {0}) E) (before after : ExitStatus)
+pub record SubmitsSo {E : Type 0} (commands : List Command) (result : Result (Unit {0}) E) (before after : Answered)
     (old new : Station) : Type 0 where
   pub accepted : List Command
   pub goes : Goes accepted old new
   pub among : AreAmong accepted commands
-  pub all : OnOk result (after ≡ Done → (before ≡ Done) × (accepted ≡ commands))
+  pub all : OnOk result (after ≡ AllAccepted → (before ≡ AllAccepted) × (accepted ≡ commands))
 
 -- The commands were submitted so, and then served, or a fault closed the book, if the result is no fault.
-pub record ServesOrCloses {E : Type 0} (commands : List Command) (result : Result (Unit {0}) E) (before after : ExitStatus)
+pub record ServesOrCloses {E : Type 0} (commands : List Command) (result : Result (Unit {0}) E) (before after : Answered)
     (old new : Station) : Type 0 where
   pub submits : SubmitsSo commands result before after old new
   pub ended : OnOk result (IsServedOrClosed new.book)
 
 -- The commands were submitted so, and then served if the result is no fault.
-pub record ServesSo {E : Type 0} (commands : List Command) (result : Result (Unit {0}) E) (before after : ExitStatus)
+pub record ServesSo {E : Type 0} (commands : List Command) (result : Result (Unit {0}) E) (before after : Answered)
     (old new : Station) : Type 0 where
   pub submits : SubmitsSo commands result before after old new
   pub served : OnOk result (IsServed new.book)

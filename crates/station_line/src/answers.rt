@@ -4,8 +4,9 @@ ghost use Rattle.std.specs.Prelude.{◌≡◌, ◌≢◌, IfErr, Some};
 ghost use Rattle.station_files.specs.Faults.{IsOfStream};
 ghost use Rattle.station_line.specs.Faults.{fault_of_book};
 
+use crate::answered::Answered;
 use book_model::{Fault as BookFault, SubmitRefusal};
-use station_files::{ExitStatus, Fault, Refused, worse};
+use station_files::{Fault, Refused};
 use station_listing::Code;
 use std::io::Write;
 
@@ -97,7 +98,7 @@ pub fn print_accepted<W: Write>(place: usize, number: u64, output: &mut W) -> Re
     Ok(())
 }
 
-/// Prints why the command at this place of the script, counted from 0, is refused, and raises the status.
+/// Prints why the command at this place of the script, counted from 0, is refused, which is one more answer.
 ///
 /// # Errors
 ///
@@ -106,12 +107,12 @@ pub fn print_refused<W: Write>(
     place: usize,
     refused: Refused,
     output: &mut W,
-    status: &mut ExitStatus,
+    answered: &mut Answered,
 ) -> Result<(), Fault>
-    ensures status { status.new ≢ ExitStatus.Done }
+    ensures answered { answered.new ≢ Answered.AllAccepted }
     ensures failed { IfErr result IsOfStream }
 {
-    *status = worse(*status, refused.status());
+    *answered = answered.and_refused(refused);
     writeln!(output, "command {place} {refused}")?;
     Ok(())
 }

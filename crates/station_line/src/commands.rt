@@ -2,6 +2,7 @@
 ghost use Rattle.std.specs.Prelude.{◌≡◌, ◌∷◌, [], IsTrue, OnOk, None};
 ghost use Rattle.station_line.specs.Rounds.{AnswersCommand, IsAccepted, ServesOrCloses, ServesSo, SubmitsSo};
 
+use crate::answered::Answered;
 use crate::answers::{Answers, fault_of_book, refused_as};
 use crate::rounds::{serve_all, serve_round};
 use book_core::Core;
@@ -9,11 +10,11 @@ use book_model::SubmitRefusal;
 use sii_edit::Command;
 use site_core::Site;
 use station_alone::{Alone, Answer};
-use station_files::{ExitStatus, Fault, Refused, worse};
+use station_files::{Fault, Refused};
 use station_listing::Code;
 
 /// Submits the commands in order to a station of `slaves` slaves, tells the answer to each, serves them in rounds, and tells the totals,
-/// also after a fault. A refusal raises the status. A command is dropped once it is answered.
+/// also after a fault. A command is dropped once it is answered.
 ///
 /// # Errors
 ///
@@ -24,11 +25,11 @@ pub fn serve_commands<S: Site, A: Answers>(
     slaves: u16,
     commands: Vec<Command>,
     answers: &mut A,
-    status: &mut ExitStatus,
+    answered: &mut Answered,
 ) -> Result<(), Fault>
-    ensures { ServesSo commands.items result status.old status.new alone.old alone.new }
+    ensures { ServesSo commands.items result answered.old answered.new alone.old alone.new }
 {
-    let served = serve_in_rounds(alone, slaves, commands, answers, status);
+    let served = serve_in_rounds(alone, slaves, commands, answers, answered);
     let ended = end_session(alone.core(), answers);
     match served {
         Ok(()) => ended,
@@ -42,11 +43,11 @@ fn serve_in_rounds<S: Site, A: Answers>(
     slaves: u16,
     commands: Vec<Command>,
     answers: &mut A,
-    status: &mut ExitStatus,
+    answered: &mut Answered,
 ) -> Result<(), Fault>
-    ensures { ServesOrCloses commands.items result status.old status.new alone.old alone.new }
+    ensures { ServesOrCloses commands.items result answered.old answered.new alone.old alone.new }
 {
-    submit_all(alone, slaves, commands, answers, status)?;
+    submit_all(alone, slaves, commands, answers, answered)?;
     serve_all(alone, slaves)
 }
 
@@ -68,13 +69,13 @@ fn submit_all<S: Site, A: Answers>(
     slaves: u16,
     commands: Vec<Command>,
     answers: &mut A,
-    status: &mut ExitStatus,
+    answered: &mut Answered,
 ) -> Result<(), Fault>
-    ensures { SubmitsSo commands.items result status.old status.new alone.old alone.new }
+    ensures { SubmitsSo commands.items result answered.old answered.new alone.old alone.new }
 {
     let mut place = 0usize;
     for command in commands {
-        submit_next(alone, slaves, place, command, answers, status)?;
+        submit_next(alone, slaves, place, command, answers, answered)?;
         place = place.saturating_add(1);
     }
     Ok(())
@@ -87,11 +88,11 @@ fn submit_next<S: Site, A: Answers>(
     place: usize,
     command: Command,
     answers: &mut A,
-    status: &mut ExitStatus,
+    answered: &mut Answered,
 ) -> Result<(), Fault>
-    ensures { SubmitsSo (command ∷ []) result status.old status.new alone.old alone.new }
+    ensures { SubmitsSo (command ∷ []) result answered.old answered.new alone.old alone.new }
 {
-    submit_one(alone, slaves, place, &command, answers, status)
+    submit_one(alone, slaves, place, &command, answers, answered)
 }
 
 /// Submits the command at position `place` of the script, from 0, and tells the answer. While the book is full, it makes a round and
@@ -102,14 +103,14 @@ fn submit_one<S: Site, A: Answers>(
     place: usize,
     command: &Command,
     answers: &mut A,
-    status: &mut ExitStatus,
+    answered: &mut Answered,
 ) -> Result<(), Fault>
-    ensures { SubmitsSo (command.now ∷ []) result status.old status.new alone.old alone.new }
+    ensures { SubmitsSo (command.now ∷ []) result answered.old answered.new alone.old alone.new }
 {
     for _round in 0..u64::MAX {
         let answer = alone.submit(command);
         if !is_full(answer) {
-            return tell_answer(place, answer, answers, status);
+            return tell_answer(place, answer, answers, answered);
         }
         serve_round(alone, slaves)?;
     }
@@ -123,15 +124,15 @@ fn is_full(answer: Answer) -> bool
     matches!(answer, Answer::Refused(SubmitRefusal::Full))
 }
 
-/// Tells the answer to the command at position `place` of the script. A refusal raises the status.
+/// Tells the answer to the command at position `place` of the script.
 fn tell_answer<A: Answers>(
     place: usize,
     answer: Answer,
     answers: &mut A,
-    status: &mut ExitStatus,
+    answered: &mut Answered,
 ) -> Result<(), Fault>
     requires { AnswersCommand answer }
-    ensures { status.new ≡ ExitStatus.Done → (status.old ≡ ExitStatus.Done) × IsAccepted answer }
+    ensures { answered.new ≡ Answered.AllAccepted → (answered.old ≡ Answered.AllAccepted) × IsAccepted answer }
 {
     let refused = match answer {
         Answer::Accepted(number) => return answers.accepted(place, number),
@@ -142,6 +143,6 @@ fn tell_answer<A: Answers>(
         },
         Answer::Did | Answer::Idle | Answer::Ended | Answer::Failed(_) => unreachable!(),
     };
-    *status = worse(*status, refused.status());
+    *answered = answered.and_refused(refused);
     answers.refused(place, refused)
 }

@@ -1,6 +1,7 @@
 //! A line as it is read from its files: made a line in memory, opened as a station, served on one thread, and saved. The subcommand `init`.
 #![tactic(auto)]
 
+mod answered;
 mod answers;
 mod bad_journal;
 mod commands;
@@ -16,6 +17,7 @@ mod site;
 mod starting;
 mod validating;
 
+pub use answered::Answered;
 pub use answers::{Answers, fault_of_book, print_accepted, print_refused, refused_as};
 pub use bad_journal::note_journal;
 pub use commands::serve_commands;

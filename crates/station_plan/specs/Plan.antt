@@ -9,8 +9,8 @@ use Rattle.station_alone.specs.Station.{Station}
 use Rattle.station_text.specs.declared.line_file.LineFile.{LineFile}
 use Rattle.station_files.specs.Files.{Known}
 use Rattle.station_files.specs.ScriptFiles.{SpellsCommands}
-use Rattle.station_files.specs.declared.faults.ExitStatus.{ExitStatus}
-use Rattle.station_files.specs.declared.faults.ExitStatus.TheVariants.{Done}
+use Rattle.station_line.specs.declared.answered.Answered.{Answered}
+use Rattle.station_line.specs.declared.answered.Answered.TheVariants.{AllAccepted}
 use Rattle.station_files.specs.declared.faults.Fault.{Fault}
 use Rattle.station_line.specs.Rounds.{ServesSo}
 use Rattle.station_line.specs.Opened.{is_old, Loads, StartsFrom}
@@ -19,10 +19,10 @@ use Rattle.book_model.specs.Opening.{words_in}
 use Rattle.station_plan.specs.declared.plan.Planned.{Planned}
 
 -- The commands were submitted to this station in order and served, without a fault. Its site then had this line, state and past.
-pub record IsServedStation (opened : Station) (commands : List Command) (status_before status_after : ExitStatus) (line : Line)
+pub record IsServedStation (opened : Station) (commands : List Command) (answered_before answered_after : Answered) (line : Line)
     (seen : Seen) : Type 0 where
   pub s : Station
-  pub serves : ServesSo {E = Fault} commands (Ok tt) status_before status_after opened s
+  pub serves : ServesSo {E = Fault} commands (Ok tt) answered_before answered_after opened s
   pub line_is : line ≡ s.line
   pub seen_is : seen ≡ s.seen
 
@@ -34,32 +34,30 @@ pub record IsComparison (words : List (List ℕ)) (halves : List SlaveHalf) (pla
 
 -- The commands were submitted to this station in order and served, without a fault. These are the words of its slaves before and after, and
 -- their differences.
-pub record ServesPlan (opened : Station) (commands : List Command) (status_before status_after : ExitStatus) (words : List (List ℕ))
+pub record ServesPlan (opened : Station) (commands : List Command) (answered_before answered_after : Answered) (words : List (List ℕ))
     (planned : Planned) : Type 0 where
   pub s : Station
-  pub serves : ServesSo {E = Fault} commands (Ok tt) status_before status_after opened s
+  pub serves : ServesSo {E = Fault} commands (Ok tt) answered_before answered_after opened s
   pub before : planned.before ≡ words
   pub after : planned.after ≡ words_in s.seen.state.halves
   pub changes : planned.changes.items ≡ changes_between planned.before planned.after
 
 -- The same, of a station that was opened on this site as `run` opens it.
-pub record IsPlanOf (site : SiteValue) (commands : List Command) (status_before status_after : ExitStatus) (planned : Planned) : Type 0 where
+pub record IsPlanOf (site : SiteValue) (commands : List Command) (answered_before answered_after : Answered) (planned : Planned) : Type 0 where
   pub opened : Station
   pub starts : StartsFrom (is_old site.seen.state.disk.bytes) site opened
-  pub served : ServesPlan opened commands status_before status_after (words_in site.seen.state.halves) planned
+  pub served : ServesPlan opened commands answered_before answered_after (words_in site.seen.state.halves) planned
 
--- There is such a plan. If the status is `Done`, no command was refused.
-pub record PlansSite (site : SiteValue) (commands : List Command) (status : ExitStatus) : Type 0 where
+-- There is such a plan, in which the commands were answered so.
+pub record PlansSite (site : SiteValue) (commands : List Command) (answered : Answered) : Type 0 where
   pub planned : Planned
-  pub answers : ExitStatus
-  pub is : IsPlanOf site commands Done answers planned
-  pub worst : status ≡ Done → answers ≡ Done
+  pub is : IsPlanOf site commands AllAccepted answered planned
 
 -- The line and the script were read, and this is planned for them.
-pub record PlansFiles (files : Known) (name script : List ℕ) (status : ExitStatus) : Type 0 where
+pub record PlansFiles (files : Known) (name script : List ℕ) (answered : Answered) : Type 0 where
   pub line : LineFile
   pub site : SiteValue
   pub loaded : Loads files name line site
   pub commands : List Command
   pub spelt : SpellsCommands files script commands
-  pub plans : PlansSite site commands status
+  pub plans : PlansSite site commands answered

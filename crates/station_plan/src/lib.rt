@@ -10,4 +10,4 @@ mod plan_rows;
 mod tally;
 
 pub use journal::show_journal;
-pub use plan::{plan_line, plan_script};
+pub use plan::{PlanAnswers, plan_line, plan_script};

@@ -16,9 +16,11 @@ use site_core::Site;
 use site_mem::FaultPlan;
 use site_shadow::ShadowSite;
 use station_alone::Alone;
-use station_files::{ExitStatus, Fault, Store};
-use station_line::{Answers, LoadedLine, Session, load, of_open, open_station, serve_commands};
-use station_rows::{Form, Rows};
+use station_files::{Fault, Store};
+use station_line::{
+    Answered, Answers, LoadedLine, Session, load, of_open, open_station, serve_commands,
+};
+use station_rows::{Form, RefusedCommand, Rows};
 use std::alloc::Global;
 use std::io::Write;
 
@@ -37,9 +39,18 @@ pub(crate) struct Planned {
     pub tally: Tally,
 }
 
+/// How a run would answer its commands.
+#[derive(Drop)]
+pub struct PlanAnswers {
+    /// The worst answer.
+    pub answered: Answered,
+    /// The commands that it would refuse, in order.
+    pub refused: Vec<RefusedCommand>,
+}
+
 /// Prints what `run_script` would do with the script file `script` on the line whose line file is `name`: the answers to the commands and
 /// the totals as it prints them, the words that change, the commands that make word 0x3E say another size than the slave has, and the process
-/// image before and after if it changes. Returns the exit status that it would return. No file is written.
+/// image before and after if it changes. Returns what it would answer. No file is written.
 ///
 /// The files are read as `run_script` reads them, with the journal locked. With `Form::Json` the same is printed as rows of JSON.
 ///
@@ -53,8 +64,8 @@ pub fn plan_script<S: Store, W: Write>(
     form: Form,
     store: &mut S,
     output: &mut W,
-) -> Result<ExitStatus, Fault>
-    ensures plans { IfOk result (PlansFiles (S.files store.old) name.now script.now) }
+) -> Result<PlanAnswers, Fault>
+    ensures plans { IfOk result (λ answers. PlansFiles (S.files store.old) name.now script.now answers.answered) }
     ensures same { S.files store.new ≡ S.files store.old }
 {
     match load(alloc, name, script, store) {
@@ -74,7 +85,7 @@ pub fn plan_script<S: Store, W: Write>(
 }
 
 /// Plans a run of the commands on this line in memory, whose journal was of another version than 2 if `was_old`, and prints the plan, as
-/// `plan_script` does. Returns the exit status of such a run: `Done`, or that of the worst refusal.
+/// `plan_script` does. Returns how the commands are answered in such a run.
 ///
 /// # Errors
 ///
@@ -87,23 +98,26 @@ pub fn plan_line<W: Write>(
     commands: Vec<Command>,
     form: Form,
     output: &mut W,
-) -> Result<ExitStatus, Fault>
+) -> Result<PlanAnswers, Fault>
     requires disk { IsTrue site.line.has_disk }
     requires owned { OwnsAll site.line }
     requires old { was_old ≡ is_old site.seen.state.disk.bytes }
-    ensures { IfOk result (PlansSite site commands.items) }
+    ensures { IfOk result (λ answers. PlansSite site commands.items answers.answered) }
 {
-    let mut status = ExitStatus::Done;
-    let mut rows = Rows::new(alloc, form);
-    let mut answers = AnswerRows { rows: &mut rows };
-    match plan_site(alloc, site, was_old, commands, &mut answers, &mut status) {
+    let mut answered = Answered::AllAccepted;
+    let mut answers = AnswerRows {
+        rows: Rows::new(alloc, form),
+        refused: Vec::new(alloc),
+    };
+    match plan_site(alloc, site, was_old, commands, &mut answers, &mut answered) {
         Ok(planned) => {
+            let AnswerRows { mut rows, refused } = answers;
             put_plan(&mut rows, &planned)?;
             rows.write(output)?;
-            Ok(status)
+            Ok(PlanAnswers { answered, refused })
         }
         Err(fault) => {
-            let _ = rows.write(output);
+            let _ = answers.rows.write(output);
             Err(fault)
         }
     }
@@ -121,17 +135,17 @@ fn plan_site<A: Answers>(
     was_old: bool,
     commands: Vec<Command>,
     answers: &mut A,
-    status: &mut ExitStatus,
+    answered: &mut Answered,
 ) -> Result<Planned, Fault>
     requires disk { IsTrue site.line.has_disk }
     requires owned { OwnsAll site.line }
     requires old { was_old ≡ is_old site.seen.state.disk.bytes }
-    ensures { IfOk result (IsPlanOf site commands.items status.old status.new) }
+    ensures { IfOk result (IsPlanOf site commands.items answered.old answered.new) }
 {
     let before = contents_of(alloc, &site)?;
     let site = site.with_device(Tally::new());
     match open_station(alloc, site, was_old) {
-        Ok(alone) => serve_plan(alloc, before, alone, commands, answers, status),
+        Ok(alone) => serve_plan(alloc, before, alone, commands, answers, answered),
         Err((left, fault)) => {
             drop(left);
             drop(commands);
@@ -147,13 +161,13 @@ fn serve_plan<A: Answers>(
     alone: Alone<ShadowSite<Tally>>,
     commands: Vec<Command>,
     answers: &mut A,
-    status: &mut ExitStatus,
+    answered: &mut Answered,
 ) -> Result<Planned, Fault>
     requires { OwnsAll alone.line }
-    ensures { IfOk result (ServesPlan alone commands.items status.old status.new before) }
+    ensures { IfOk result (ServesPlan alone commands.items answered.old answered.new before) }
 {
     let slaves = before.len() as u16;
-    let (site, resizes) = serve_station(alloc, alone, slaves, commands, answers, status)?;
+    let (site, resizes) = serve_station(alloc, alone, slaves, commands, answers, answered)?;
     let planned = compare(alloc, before, &site, resizes);
     drop(site);
     planned
@@ -167,13 +181,13 @@ fn serve_station<S: Site + Drop, A: Answers>(
     slaves: u16,
     commands: Vec<Command>,
     answers: &mut A,
-    status: &mut ExitStatus,
+    answered: &mut Answered,
 ) -> Result<(S, Vec<Resize>), Fault>
     requires { OwnsAll alone.line }
-    ensures served { IfOk result (λ served. IsServedStation alone commands.items status.old status.new (S.line served.0) (S.seen served.0)) }
+    ensures served { IfOk result (λ served. IsServedStation alone commands.items answered.old answered.new (S.line served.0) (S.seen served.0)) }
     ensures owned { IfOk result (λ served. OwnsAll (S.line served.0)) }
 {
-    match serve_resizes(alloc, &mut alone, slaves, commands, answers, status) {
+    match serve_resizes(alloc, &mut alone, slaves, commands, answers, answered) {
         Ok(resizes) => {
             let (core, site) = alone.into_parts();
             drop(core);
@@ -194,12 +208,12 @@ fn serve_resizes<S: Site, A: Answers>(
     slaves: u16,
     commands: Vec<Command>,
     answers: &mut A,
-    status: &mut ExitStatus,
+    answered: &mut Answered,
 ) -> Result<Vec<Resize>, Fault>
-    ensures { IfOk result (λ _. ServesSo {E = Fault} commands.items (Ok tt) status.old status.new alone.old alone.new) }
+    ensures { IfOk result (λ _. ServesSo {E = Fault} commands.items (Ok tt) answered.old answered.new alone.old alone.new) }
 {
     let base = alone.core().contents().try_copy();
-    serve_commands(alone, slaves, commands, answers, status)?;
+    serve_commands(alone, slaves, commands, answers, answered)?;
     let resizes = resizes(alloc, &base?, alone.core().accepted())?;
     Ok(resizes)
 }

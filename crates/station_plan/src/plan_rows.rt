@@ -1,26 +1,40 @@
 //! A plan, as rows.
+ghost use Rattle.std.specs.Prelude.{◌≡◌};
+ghost use Rattle.station_plan.specs.Refusals.{refused_at};
 
 use crate::plan::Planned;
 use line_changes::{Resize, put_changes, put_images};
 use station_files::{Fault, Refused};
 use station_line::Answers;
-use station_rows::{END, Rows, Value, bare, named, said};
+use station_rows::{END, RefusedCommand, Rows, Value, bare, named, said};
 use std::alloc::AllocError;
 
-/// Puts the answers to the commands of a script as rows.
+/// Puts the answers to the commands of a script as rows, and keeps the refusals.
 #[derive(Drop)]
-pub(crate) struct AnswerRows<'a> {
-    pub(crate) rows: &'a mut Rows,
+pub(crate) struct AnswerRows {
+    pub(crate) rows: Rows,
+    /// The commands that were refused, in order.
+    pub(crate) refused: Vec<RefusedCommand>,
 }
 
-impl Answers for AnswerRows<'_> {
-    fn accepted(&mut self, place: usize, number: u64) -> Result<(), Fault> {
+impl Answers for AnswerRows {
+    ghost use Rattle.std.specs.Prelude.{◌≡◌, ◌∷◌, ◌++◌, [], IfErr, OnOk};
+    ghost use Rattle.station_files.specs.Faults.{IsOfStream};
+    ghost use Rattle.station_plan.specs.Refusals.{refused_at};
+
+    fn accepted(&mut self, place: usize, number: u64) -> Result<(), Fault>
+        ensures failed { IfErr result IsOfStream }
+        ensures same { self.new.refused ≡ self.old.refused }
+    {
         let row = [named("command", place), named("accepted", number)];
         self.rows.put("answer", &row)?;
         Ok(())
     }
 
-    fn refused(&mut self, place: usize, refused: Refused) -> Result<(), Fault> {
+    fn refused(&mut self, place: usize, refused: Refused) -> Result<(), Fault>
+        ensures failed { IfErr result IsOfStream }
+        ensures kept { OnOk result (self.new.refused.items ≡ self.old.refused.items ++ refused_at place refused ∷ []) }
+    {
         let row = [
             named("command", place),
             named("refused", Value::Begin),
@@ -30,10 +44,14 @@ impl Answers for AnswerRows<'_> {
             END,
         ];
         self.rows.put("answer", &row)?;
+        self.refused.push(refused_at(place, refused))?;
         Ok(())
     }
 
-    fn totals(&mut self, accepted: u64, durable: u64, settled: u64) -> Result<(), Fault> {
+    fn totals(&mut self, accepted: u64, durable: u64, settled: u64) -> Result<(), Fault>
+        ensures failed { IfErr result IsOfStream }
+        ensures same { self.new.refused ≡ self.old.refused }
+    {
         let row = [
             named("accepted", accepted),
             named("durable", durable),
@@ -41,6 +59,21 @@ impl Answers for AnswerRows<'_> {
         ];
         self.rows.put("totals", &row)?;
         Ok(())
+    }
+}
+
+/// The command at this place of the script, which was refused so.
+fn refused_at(place: usize, refused: Refused) -> RefusedCommand
+    ensures { result ≡ refused_at place refused }
+{
+    let at = match refused.position {
+        Some(position) => Some(u64::from(position)),
+        None => None,
+    };
+    RefusedCommand {
+        command: place as u64,
+        code: refused.code,
+        at,
     }
 }
 

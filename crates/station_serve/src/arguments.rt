@@ -1,15 +1,12 @@
 //! Arguments that several subcommands have.
 
-use command_line::{Argument, INPUT, Kind, ParsedArguments};
+use command_line::{Argument, INPUT, ParsedArguments, argument};
 use line_changes::Compared;
 use station_rows::{Form, ShowOptions};
 
-/// The line file of a subcommand.
-pub(crate) const LINE: Argument = Argument {
-    id: "LINE",
-    kind: Kind::Word,
-    help: "The line file: the slaves' image files and the journal's",
-    long_help: "The line file: the slaves' image files and the journal's, in TOML:
+pub(crate) const LINE: Argument =
+    argument!("LINE": Word => "The line file: the slaves' image files and the journal's",
+    "The line file: the slaves' image files and the journal's, in TOML:
 
   journal = \"journal.bin\"
   area = 65536
@@ -20,15 +17,11 @@ pub(crate) const LINE: Argument = Argument {
 
 The journal's area has 4096 to 4194304 bytes, 65536 where nothing is said.
 There are 1 to 64 slaves, numbered from 0. Each image is a whole EEPROM of
-64 to 4096 words, a multiple of 64. Names are relative to the current folder.",
-};
+64 to 4096 words, a multiple of 64. Names are relative to the current folder.");
 
-/// The script file of a subcommand.
-pub(crate) const SCRIPT: Argument = Argument {
-    id: "SCRIPT",
-    kind: Kind::WordUnless("command"),
-    help: "The script file: the commands, in order; - for standard input",
-    long_help: "The script file, or - for standard input: the commands, in order, in TOML, here one
+pub(crate) const SCRIPT: Argument =
+    argument!("SCRIPT": WordUnless("command") => "The script file: the commands, in order; - for standard input",
+    "The script file, or - for standard input: the commands, in order, in TOML, here one
 of each kind:
 
   [[command]]
@@ -51,19 +44,13 @@ one act. An edit with expect is refused where the slave has another identity.
 Outside a group, expect stands among the fields of the edit:
   alias = { slave = 0, value = 7, expect = { vendor = 2, product = 0, revision = 0 } }
 With replace = true among its fields, an image may be one of another device, or
-have fewer words than the slave's EEPROM; only sii_wire looks at that.",
-};
+have fewer words than the slave's EEPROM; only sii_wire looks at that.");
 
-/// The flag.
-pub(crate) const JSON: Argument = Argument {
-    id: "json",
-    kind: Kind::Flag,
-    help: "Prints JSON, one object a line",
-    long_help: "Prints JSON in place of text: an object a line, whose key row says what it is. Numbers
+pub(crate) const JSON: Argument = argument!("json": Flag => "Prints JSON, one object a line",
+    "Prints JSON in place of text: an object a line, whose key row says what it is. Numbers
 are JSON numbers, and the other keys are named as in the text. Strings of an EEPROM
 are escaped as in the text. Later versions may add keys and rows; pass over what you
-don't know. Faults and the exit status stay as they are.",
-};
+don't know. Faults and the exit status stay as they are.");
 
 /// The form that a subcommand with this argument was asked for.
 pub(crate) fn form_of(given: &ParsedArguments<'_>) -> Form {
@@ -114,31 +101,18 @@ pub(crate) fn script_of<'a>(given: &ParsedArguments<'a>) -> &'a str {
     }
 }
 
-/// The flag for no line with the progress.
-pub(crate) const QUIET: Argument = Argument {
-    id: "quiet",
-    kind: Kind::ShortFlag('q'),
-    help: "Draws no line with the progress",
-    long_help: "Draws no line with the progress. Without this option, where standard error is a
+pub(crate) const QUIET: Argument =
+    argument!("quiet": ShortFlag('q') => "Draws no line with the progress",
+    "Draws no line with the progress. Without this option, where standard error is a
 terminal and the work takes longer than a second, a line there says how many of
 the script's commands no power cut can undo any more, how many words the slaves
 have written, and how many slaves are writing one. It is drawn over itself ten
-times a second at most, and erased before anything else is printed and at the end.",
-};
+times a second at most, and erased before anything else is printed and at the end.");
 
-/// The flag for a report at the end.
-pub(crate) const REPORT: Argument = Argument {
-    id: "report",
-    kind: Kind::Flag,
-    help: "Prints at the end which words have changed, and whether the line is in order",
-    long_help: line_changes::REPORT,
-};
+pub(crate) const REPORT: Argument =
+    argument!("report": Flag => "Prints at the end which words have changed, and whether the line is in order", line_changes::REPORT);
 
-/// The second line of a fault.
-pub(crate) const VERBOSE: Argument = Argument {
-    id: "verbose",
-    kind: Kind::GlobalFlag,
-    help: "Says of a fault which file it is about, or what was seen on the line, and what is wrong",
-    long_help: "Says of a fault which file it is about, what is wrong there and where, or of the line what was seen, what it usually is, and what to \
-        do, in a second line. Without this option the line comes where standard error is a terminal, or where PILZHOON_VERBOSE is in the environment.",
-};
+pub(crate) const VERBOSE: Argument =
+    argument!("verbose": GlobalFlag => "Says of a fault which file it is about, or what was seen on the line, and what is wrong",
+    "Says of a fault which file it is about, what is wrong there and where, or of the line what was seen, what it usually is, and what to do, \
+        in a second line. Without this option the line comes where standard error is a terminal, or where PILZHOON_VERBOSE is in the environment.");

@@ -7,7 +7,7 @@ ghost use Rattle.station_serve.specs.Images.{RenamesFile};
 use crate::arguments::JSON;
 use crate::request::Task;
 use crate::wire::ANY_DEVICE;
-use command_line::{Argument, Kind, ParsedArguments, Subcommand, small_in};
+use command_line::{Argument, ParsedArguments, Subcommand, argument, small_in, subcommand};
 use line_changes::Compared;
 use station_files::{
     ExitStatus, Failure, Fault, STANDARD_INPUT, Store, keep_output_separate, read_image, set_alias,
@@ -16,85 +16,37 @@ use station_rows::ShowOptions;
 use std::alloc::Global;
 use std::io::{Read, Write};
 
-const FILE: Argument = Argument {
-    id: "FILE",
-    kind: Kind::OptionalWord,
-    help: "The image file; standard input where it is left out, or -",
-    long_help: "",
-};
+const FILE: Argument =
+    argument!("FILE": OptionalWord => "The image file; standard input where it is left out, or -");
 
-pub(crate) const ALL: Argument = Argument {
-    id: "all",
-    kind: Kind::Flag,
-    help: "Prints each string, FMMU, sync manager, PDO and DC mode too, what General and the first words say, and names",
-    long_help: "",
-};
+pub(crate) const ALL: Argument =
+    argument!("all": Flag => "Prints each string, FMMU, sync manager, PDO and DC mode too, what General and the first words say, and names");
 
-/// Input that is hexadecimal text.
-const HEX: Argument = Argument {
-    id: "hex",
-    kind: Kind::Flag,
-    help: "Reads hexadecimal text in place of bytes",
-    long_help: "",
-};
+const HEX: Argument = argument!("hex": Flag => "Reads hexadecimal text in place of bytes");
 
-/// Input and output that are hexadecimal text.
-const HEX_BOTH: Argument = Argument {
-    id: "hex",
-    kind: Kind::Flag,
-    help: "Reads and writes hexadecimal text in place of bytes",
-    long_help: "",
-};
+const HEX_BOTH: Argument =
+    argument!("hex": Flag => "Reads and writes hexadecimal text in place of bytes");
 
-const VALUE: Argument = Argument {
-    id: "VALUE",
-    kind: Kind::Word,
-    help: "The new alias, 0 to 65535, or in hexadecimal, 0x0 to 0xffff",
-    long_help: "",
-};
+const VALUE: Argument =
+    argument!("VALUE": Word => "The new alias, 0 to 65535, or in hexadecimal, 0x0 to 0xffff");
 
-const IMAGE: Argument = Argument {
-    id: "IMAGE",
-    kind: Kind::Word,
-    help: "The file with the words of a slave's EEPROM",
-    long_help: "",
-};
+const IMAGE: Argument = argument!("IMAGE": Word => "The file with the words of a slave's EEPROM");
 
-const GIVEN: Argument = Argument {
-    id: "FILE",
-    kind: Kind::Word,
-    help: "The image file; - for standard input",
-    long_help: "",
-};
+const GIVEN: Argument = argument!("FILE": Word => "The image file; - for standard input");
 
-const IN_PLACE: Argument = Argument {
-    id: "inplace",
-    kind: Kind::ShortFlag('i'),
-    help: "Puts the new image in FILE's place, as a whole, and prints nothing",
-    long_help: "",
-};
+const IN_PLACE: Argument =
+    argument!("inplace": ShortFlag('i') => "Puts the new image in FILE's place, as a whole, and prints nothing");
 
-const FIRST: Argument = Argument {
-    id: "A",
-    kind: Kind::Word,
-    help: "The file of the first image; - for standard input",
-    long_help: "",
-};
+const FIRST: Argument = argument!("A": Word => "The file of the first image; - for standard input");
 
-const SECOND: Argument = Argument {
-    id: "B",
-    kind: Kind::Word,
-    help: "The file of the second image; - for standard input",
-    long_help: "",
-};
+const SECOND: Argument =
+    argument!("B": Word => "The file of the second image; - for standard input");
 
-const SHOW: Subcommand = Subcommand {
-    name: "show",
-    about: "Prints what an EEPROM image says",
-    long_about: "Reads the image of a slave's EEPROM from FILE, or from standard input, and prints its alias, whether its check byte is right, \
+const SHOW: Subcommand = subcommand!("show": "Prints what an EEPROM image says",
+    long: "Reads the image of a slave's EEPROM from FILE, or from standard input, and prints its alias, whether its check byte is right, \
         its identity and its categories. An image has 64 to 4096 words, low byte first.",
-    after_help: "Example:\n  sii_station show slave.bin\n  sii_station show < slave.bin",
-    after_long_help: "Answers:
+    after: "Example:\n  sii_station show slave.bin\n  sii_station show < slave.bin",
+    answers: "Answers:
   words N                        the number of words
   alias A                        the configured station alias
   check ok                       or: check bad 0xHH expected 0xHH
@@ -141,44 +93,36 @@ Example:
   sii_station show slave.bin
   sii_station show --all slave.bin
   sii_station show < slave.bin",
-    arguments: &[FILE, ALL, JSON, HEX],
-};
+    [FILE, ALL, JSON, HEX]);
 
 pub(crate) fn show_row() -> Subcommand {
     SHOW
 }
 
-const ALIAS: Subcommand = Subcommand {
-    name: "alias",
-    about: "Sets the configured station alias of an EEPROM image, and the check byte that goes with it",
-    long_about: "Reads the image of a slave's EEPROM from FILE, or from standard input, sets the configured station alias and the check byte \
+const ALIAS: Subcommand =
+    subcommand!("alias": "Sets the configured station alias of an EEPROM image, and the check byte that goes with it",
+    long: "Reads the image of a slave's EEPROM from FILE, or from standard input, sets the configured station alias and the check byte \
         that goes with it, and writes the image to standard output, or with -i in FILE's place. An image has 64 to 4096 words, low byte first. \
         An output that goes to FILE itself is refused (fault 96); with > FILE the shell has emptied it by then: use -i.",
-    after_help: "Examples:\n  sii_station alias 1001 -i slave.bin\n  sii_station alias 0x3e9 slave.bin > renamed.bin",
-    after_long_help: "",
-    arguments: &[VALUE, FILE, IN_PLACE, HEX_BOTH],
-};
+    after: "Examples:\n  sii_station alias 1001 -i slave.bin\n  sii_station alias 0x3e9 slave.bin > renamed.bin",
+    [VALUE, FILE, IN_PLACE, HEX_BOTH]);
 
 pub(crate) fn alias_row() -> Subcommand {
     ALIAS
 }
 
-const WRITE: Subcommand = Subcommand {
-    name: "write",
-    about: "Writes an image file over the first words of another one",
-    long_about: "Writes the image in FILE over the first words of a slave's EEPROM, which are in the file IMAGE, as sii_wire write does to a slave: \
+const WRITE: Subcommand =
+    subcommand!("write": "Writes an image file over the first words of another one",
+    long: "Writes the image in FILE over the first words of a slave's EEPROM, which are in the file IMAGE, as sii_wire write does to a slave: \
         what comes out is judged as an image command of a script is. IMAGE is replaced as a whole, and nothing is printed. An image of \
         another vendor or product, or with fewer words, is refused (fault 114).",
-    after_help: "Example:\n  sii_station write drive.bin new.bin",
-    after_long_help: "",
-    arguments: &[IMAGE, GIVEN, ANY_DEVICE],
-};
+    after: "Example:\n  sii_station write drive.bin new.bin",
+    [IMAGE, GIVEN, ANY_DEVICE]);
 
 pub(crate) fn write_row() -> Subcommand {
     WRITE
 }
 
-/// The help text on what `verify` prints.
 /// What `verify` prints.
 pub(crate) const VERIFY_ANSWERS: &str = "Answers:
   word 0xW found 0xF expected 0xE
@@ -186,26 +130,22 @@ pub(crate) const VERIFY_ANSWERS: &str = "Answers:
   words N wrong M  of the N words of FILE M differ, or aren't in the EEPROM
 The exit status is 0 where none is wrong, and 1 where some are.";
 
-const VERIFY: Subcommand = Subcommand {
-    name: "verify",
-    about: "Looks whether an image has the words of an image file",
-    long_about: "Prints which words of the image in the file IMAGE differ from those of the image in FILE.",
-    after_help: "Example:\n  sii_station verify drive.bin backup/drive.bin",
-    after_long_help: VERIFY_ANSWERS,
-    arguments: &[IMAGE, GIVEN],
-};
+const VERIFY: Subcommand =
+    subcommand!("verify": "Looks whether an image has the words of an image file",
+    long: "Prints which words of the image in the file IMAGE differ from those of the image in FILE.",
+    after: "Example:\n  sii_station verify drive.bin backup/drive.bin",
+    answers: VERIFY_ANSWERS,
+    [IMAGE, GIVEN]);
 
 pub(crate) fn verify_row() -> Subcommand {
     VERIFY
 }
 
-const DIFF: Subcommand = Subcommand {
-    name: "diff",
-    about: "Prints what two EEPROM images differ in",
-    long_about: "Reads two images of slaves' EEPROMs and prints what they differ in, a line for each: their lengths, alias, check byte, \
+const DIFF: Subcommand = subcommand!("diff": "Prints what two EEPROM images differ in",
+    long: "Reads two images of slaves' EEPROMs and prints what they differ in, a line for each: their lengths, alias, check byte, \
         identity, what their categories say, and the words. One of the two may be standard input. An image has 64 to 4096 words, low byte first.",
-    after_help: "Example:\n  sii_station diff drive.bin backup/drive.bin",
-    after_long_help: "Answers: what differs, a line for each, with what A has and then what B has:
+    after: "Example:\n  sii_station diff drive.bin backup/drive.bin",
+    answers: "Answers: what differs, a line for each, with what A has and then what B has:
   words 128 64                   the numbers of words
   alias 0 7                      the configured station alias
   check 0x30 0x62                the check byte, as it stands in word 7
@@ -230,8 +170,7 @@ Exit status: 0 equal, 1 different, 2 wrong usage, 3 a file or its form, 5 no mem
 Example:
   sii_station diff drive.bin backup/drive.bin
   sii_station diff drive.bin - < backup/drive.bin",
-    arguments: &[FIRST, SECOND, JSON, HEX],
-};
+    [FIRST, SECOND, JSON, HEX]);
 
 pub(crate) fn diff_row() -> Subcommand {
     DIFF
@@ -314,10 +253,6 @@ pub(crate) fn verify_image<R: Read, S: Store, O: Write>(
 }
 
 /// Refuses an output that goes to an image file which the task reads.
-///
-/// # Errors
-///
-/// As for `keep_output_separate`.
 pub(crate) fn keep_images_separate<S: Store>(
     alloc: Global,
     task: Task<'_>,
@@ -336,10 +271,6 @@ pub(crate) fn keep_images_separate<S: Store>(
 }
 
 /// The names of two files, of which only one may be standard input.
-///
-/// # Errors
-///
-/// The refusal, where both are.
 pub(crate) fn two_files<'a>(
     given: &ParsedArguments<'a>,
     one: &str,

@@ -2,11 +2,14 @@
 
 use crate::arguments::{JSON, LINE, QUIET, REPORT, SCRIPT, script_of};
 use crate::serving::Host;
-use command_line::{Argument, Kind, ParsedArguments, Subcommand, TYPED_COMMANDS as COMMANDS};
+use command_line::{
+    Argument, ParsedArguments, Subcommand, TYPED_COMMANDS as COMMANDS, argument, subcommand,
+};
 use line_changes::{look_before, report_after};
-use station_files::{ExitStatus, Store, worse};
+use line_watch::Watch;
+use station_files::{ExitStatus, Failures, Store, worse};
 use station_rows::Form;
-use station_session::{AnswerStreams, Fuse, RunNames, Watch, recover_line, run_script};
+use station_session::{Fuse, RunNames, recover_line, run_script};
 use std::io::Write;
 
 /// A run or a recovery of a line.
@@ -22,27 +25,17 @@ pub(crate) struct LineTask<'a> {
     pub reports: bool,
 }
 
-const FUSE: Argument = Argument {
-    id: "fuse",
-    kind: Kind::Large("K"),
-    help: "Cuts the power once K writes have passed, 0 to 4294967295",
-    long_help: "",
-};
+const FUSE: Argument =
+    argument!("fuse": Large("K") => "Cuts the power once K writes have passed, 0 to 4294967295");
 
-const LEFT: Argument = Argument {
-    id: "left",
-    kind: Kind::Small("W"),
-    help: "What a torn write leaves, 0 to 65535; 0 where nothing is said",
-    long_help: "",
-};
+const LEFT: Argument =
+    argument!("left": Small("W") => "What a torn write leaves, 0 to 65535; 0 where nothing is said");
 
-const INIT: Subcommand = Subcommand {
-    name: "init",
-    about: "Formats the journal of a line of slaves",
-    long_about: "Reads a line file and the EEPROM images that it names, and makes an empty journal in the file that it names for it. That file \
+const INIT: Subcommand = subcommand!("init": "Formats the journal of a line of slaves",
+    long: "Reads a line file and the EEPROM images that it names, and makes an empty journal in the file that it names for it. That file \
         must not be there yet.",
-    after_help: "Example:\n  sii_station init line.toml",
-    after_long_help: "Answers:
+    after: "Example:\n  sii_station init line.toml",
+    answers: "Answers:
   formatted AREA   the journal is there, and empty; its area has AREA bytes
 Faults go to standard error as: fault CODE NAME. The subcommand explain says what
 a code means.
@@ -52,20 +45,17 @@ already, 4 a device, 5 no memory.
 
 Example:
   sii_station init line.toml",
-    arguments: &[LINE, JSON],
-};
+    [LINE, JSON]);
 
 pub(crate) fn init_row() -> Subcommand {
     INIT
 }
 
-const RUN: Subcommand = Subcommand {
-    name: "run",
-    about: "Runs a script of commands on a line of slaves",
-    long_about: "Reads a line file, the EEPROM images and the journal that it names and a script file, submits the script's commands in order \
+const RUN: Subcommand = subcommand!("run": "Runs a script of commands on a line of slaves",
+    long: "Reads a line file, the EEPROM images and the journal that it names and a script file, submits the script's commands in order \
         and prints the answer to each, brings them to the slaves by way of the journal, and saves images and journal.",
-    after_help: "Examples:\n  sii_station run line.toml script.toml\n  sii_station run line.toml -e 'alias = { slave = 2, value = 7 }'",
-    after_long_help: "Answers:
+    after: "Examples:\n  sii_station run line.toml script.toml\n  sii_station run line.toml -e 'alias = { slave = 2, value = 7 }'",
+    answers: "Answers:
   command I accepted N           command I of the script has number N, from 0
   command I refused CODE NAME    it isn't done, and changes nothing
   ... at P                       of a group, edit P is the reason
@@ -86,20 +76,17 @@ form, 4 a device or a power cut, 5 no memory. The highest that applies wins.
 
 Example:
   sii_station run line.toml script.toml",
-    arguments: &[LINE, SCRIPT, COMMANDS, FUSE, LEFT, REPORT, JSON, QUIET],
-};
+    [LINE, SCRIPT, COMMANDS, FUSE, LEFT, REPORT, JSON, QUIET]);
 
 pub(crate) fn run_row() -> Subcommand {
     RUN
 }
 
-const RECOVER: Subcommand = Subcommand {
-    name: "recover",
-    about: "Ends what a run has left in the journal",
-    long_about: "Reads a line file, the EEPROM images and the journal that it names, brings to the slaves what the journal holds, and saves \
+const RECOVER: Subcommand = subcommand!("recover": "Ends what a run has left in the journal",
+    long: "Reads a line file, the EEPROM images and the journal that it names, brings to the slaves what the journal holds, and saves \
         images and journal. A journal of version 1 becomes one of version 2.",
-    after_help: "Example:\n  sii_station recover line.toml",
-    after_long_help: "Answers:
+    after: "Example:\n  sii_station recover line.toml",
+    answers: "Answers:
   recovered batches B commands C words W
                    the journal held B batches that weren't done, with C commands,
                    and W words of them were written to the slaves
@@ -113,8 +100,7 @@ Exit status: 0 done, 2 wrong usage, 3 a file or its form, 4 a device, 5 no memor
 
 Example:
   sii_station recover line.toml",
-    arguments: &[LINE, REPORT, JSON, QUIET],
-};
+    [LINE, REPORT, JSON, QUIET]);
 
 pub(crate) fn recover_row() -> Subcommand {
     RECOVER
@@ -137,22 +123,20 @@ pub(crate) fn work_on_line<H: Host, S: Store, W: Write, T: Write + Send>(
     asked: LineTask<'_>,
     form: Form,
     store: &mut S,
-    answers: AnswerStreams<'_, W>,
+    output: &mut W,
+    failures: &mut Failures,
 ) -> ExitStatus {
     let LineTask { line, fuse, .. } = asked;
     let alloc = watch.rt.alloc();
-    let AnswerStreams { output, failures } = answers;
     let looked = look_before(alloc, asked.reports, line, store);
-    let lent = AnswerStreams {
-        output: &mut *output,
-        failures: &mut *failures,
-    };
     let ended = match asked.script {
         Some(script) => {
             let names = RunNames { line, script };
-            run_script(watch, names, fuse, store, lent).map(|ran| ran.status)
+            run_script(watch, names, fuse, store, output, failures).map(|ran| ran.status)
         }
-        None => recover_line(watch, line, store, lent).map(|recovered| recovered.status),
+        None => {
+            recover_line(watch, line, store, output, failures).map(|recovered| recovered.status)
+        }
     };
     let status = failures.note_status(ended);
     let reported = report_after(alloc, form, looked, status, store, output);

@@ -1,6 +1,6 @@
 //! The subcommands that print of the program itself: `explain`, `completions` and `man`.
 
-use command_line::{Argument, Kind, ParsedArguments, Shell, Subcommand};
+use command_line::{Argument, ParsedArguments, Shell, Subcommand, argument, subcommand};
 use station_files::{Fault, write_complete};
 use station_listing::{CODES, Code, find_code};
 use std::alloc::{AllocError, Global};
@@ -14,55 +14,36 @@ sii_station \\- reprograms the SII EEPROMs of a line of EtherCAT slaves
 
 const SHELLS: &[&str] = &["bash", "zsh", "fish"];
 
-const WHICH_SHELL: Argument = Argument {
-    id: "SHELL",
-    kind: Kind::WordOf(SHELLS),
-    help: "The shell: bash, zsh or fish",
-    long_help: "",
-};
+const WHICH_SHELL: Argument = argument!("SHELL": WordOf(SHELLS) => "The shell: bash, zsh or fish");
 
-const EXPLAINED: Argument = Argument {
-    id: "CODE",
-    kind: Kind::OptionalWord,
-    help: "The number or the name of a fault or a refusal",
-    long_help: "",
-};
+const EXPLAINED: Argument =
+    argument!("CODE": OptionalWord => "The number or the name of a fault or a refusal");
 
-const EXPLAIN: Subcommand = Subcommand {
-    name: "explain",
-    about: "Says what the code of a fault or a refusal means",
-    long_about: "Prints what the code of a fault or a refusal means, why it comes and what to do about it. Without CODE it prints \
+const EXPLAIN: Subcommand =
+    subcommand!("explain": "Says what the code of a fault or a refusal means",
+    long: "Prints what the code of a fault or a refusal means, why it comes and what to do about it. Without CODE it prints \
         that of all codes.",
-    after_help: "Example:\n  sii_station explain 15\n  sii_station explain BadCheck",
-    after_long_help: "",
-    arguments: &[EXPLAINED],
-};
+    after: "Example:\n  sii_station explain 15\n  sii_station explain BadCheck",
+    [EXPLAINED]);
 
 pub(crate) fn explain_row() -> Subcommand {
     EXPLAIN
 }
 
-const COMPLETIONS: Subcommand = Subcommand {
-    name: "completions",
-    about: "Prints a script that makes a shell complete arguments",
-    long_about: "Prints a script for bash, zsh or fish. With it the shell completes subcommands, options and file names.",
-    after_help: "Example:\n  source <(sii_station completions bash)",
-    after_long_help: "",
-    arguments: &[WHICH_SHELL],
-};
+const COMPLETIONS: Subcommand =
+    subcommand!("completions": "Prints a script that makes a shell complete arguments",
+    long: "Prints a script for bash, zsh or fish. With it the shell completes subcommands, options and file names.",
+    after: "Example:\n  source <(sii_station completions bash)",
+    [WHICH_SHELL]);
 
 pub(crate) fn completions_row() -> Subcommand {
     COMPLETIONS
 }
 
-const MAN: Subcommand = Subcommand {
-    name: "man",
-    about: "Prints the manual page",
-    long_about: "Prints the manual page in roff: the help of each subcommand.",
-    after_help: "Example:\n  sii_station man > sii_station.1\n  man -l sii_station.1",
-    after_long_help: "",
-    arguments: &[],
-};
+const MAN: Subcommand = subcommand!("man": "Prints the manual page",
+    long: "Prints the manual page in roff: the help of each subcommand.",
+    after: "Example:\n  sii_station man > sii_station.1\n  man -l sii_station.1",
+    []);
 
 pub(crate) fn man_row() -> Subcommand {
     MAN
@@ -93,10 +74,6 @@ pub(crate) fn code_asked(given: &ParsedArguments<'_>) -> Result<Option<Code>, &'
 }
 
 /// What this code means, why it comes and what to do about it; or this of all codes, with empty lines between.
-///
-/// # Errors
-///
-/// Memory was refused.
 pub(crate) fn explanation(alloc: Global, asked: Option<Code>) -> Result<String, AllocError> {
     let mut text = String::new(alloc);
     for code in &CODES {

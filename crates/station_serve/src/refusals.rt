@@ -2,13 +2,27 @@
 
 use sii_edit::{Command, Edit, Expect, GuardedEdit};
 use sii_words::Identity;
-use station_files::{Store, load_line, load_script, load_slaves};
+use station_files::{ExitStatus, Store, load_line, load_script, load_slaves};
 use station_listing::Code;
+use station_plan::PlanAnswers;
 use station_rows::RefusedCommand;
 use station_session::RunNames;
 use std::alloc::Global;
 use std::io;
 use std::io::Write;
+
+/// The exit status of a plan. The commands that it refuses are put to `refused`.
+pub(crate) fn status_of_plan<F>(
+    planned: Result<PlanAnswers, F>,
+    refused: &mut Vec<RefusedCommand>,
+) -> Result<ExitStatus, F> {
+    let PlanAnswers {
+        answered,
+        refused: kept,
+    } = planned?;
+    *refused = kept;
+    Ok(answered.status())
+}
 
 /// Prints a line on each command that was refused: why, and what to do; of one that expects another slave, what is expected and what its image file
 /// has. An error of `faults` is ignored.

@@ -3,19 +3,19 @@
 use crate::images::{alias_in_place, keep_images_separate, verify_image};
 use crate::line_work::work_on_line;
 use crate::pages::{explanation, print_page};
-use crate::refusals::tell_refused;
+use crate::refusals::{status_of_plan, tell_refused};
 use crate::request::{Call, Request, Task, completions_for, manual_of, read_arguments};
+use crate::wire::all_done;
 use command_line::{INPUT, InputScript, Script, Unread};
 use line_changes::{Compared, diff_images};
-use line_watch::Progress;
+use line_watch::{Progress, Watch};
 use station_files::{
     ExitStatus, Failure, Failures, Fault, Store, report_fault, set_alias, write_complete,
     write_slave,
 };
 use station_line::init_line;
 use station_plan::{plan_script, show_journal};
-use station_rows::{LineRows, ShowOptions, show_image, show_layout};
-use station_session::{AnswerStreams, Watch};
+use station_rows::{LineRows, RefusedCommand, ShowOptions, show_image, show_layout};
 use station_troubles::{INPUT_OR_OUTPUT, Noting, OUTPUT, tell_more};
 use std::io::{Read, Write};
 use std::rt::Clock;
@@ -83,7 +83,7 @@ fn serve_request<H: Host, R: Read, S: Store, W: Write, E: Write, T: Write + Send
 }
 
 /// The runtime, and the progress that counts what a task does.
-fn watch_of<'a, T, H>(rt: &'a H, progress: Option<&'a Progress<T>>) -> Watch<'a, T, H> {
+pub(crate) fn watch_of<'a, T, H>(rt: &'a H, progress: Option<&'a Progress<T>>) -> Watch<'a, T, H> {
     Watch { rt, progress }
 }
 
@@ -104,14 +104,11 @@ fn serve_and_tell<H: Host, R: Read, S: Store, W: Write, E: Write, T: Write + Sen
     let alloc = watch.rt.alloc();
     let Streams { output, faults } = streams;
     let files = task.run_files();
-    let mut lines = LineRows::new(alloc, form, is_reported && files.is_some(), output);
+    let remembers = is_reported && matches!(task, Task::Work(_));
+    let mut lines = LineRows::new(alloc, form, remembers, output);
     let mut noting = Noting::new(alloc, store, is_reported);
     let mut failures = Failures::none();
-    let answers = AnswerStreams {
-        output: &mut lines,
-        failures: &mut failures,
-    };
-    let status = serve_task(watch, call, input, &mut noting, answers);
+    let (status, planned) = serve_task(watch, call, input, &mut noting, &mut lines, &mut failures);
     failures.print(faults);
     if lines.is_json() {
         failures.print(&mut lines);
@@ -124,9 +121,19 @@ fn serve_and_tell<H: Host, R: Read, S: Store, W: Write, E: Write, T: Write + Sen
         }
         _ => {}
     }
-    if let Some(files) = files {
-        let refused = lines.refused();
-        tell_refused(alloc, "sii_station", files, refused, &mut noting, faults);
+    match files {
+        Some(files) if is_reported => {
+            tell_refused(
+                alloc,
+                "sii_station",
+                files,
+                lines.refused(),
+                &mut noting,
+                faults,
+            );
+            tell_refused(alloc, "sii_station", files, &planned, &mut noting, faults);
+        }
+        _ => {}
     }
     status
 }
@@ -144,36 +151,37 @@ fn streams_of(task: Task<'_>) -> &'static str {
     }
 }
 
-/// Carries out a task.
+/// Carries out a task. Gives the commands that a plan refuses, too.
 fn serve_task<H: Host, R: Read, S: Store, W: Write, T: Write + Send>(
     watch: Watch<'_, T, H>,
     call: Call<'_>,
     input: &mut R,
     store: &mut S,
-    answers: AnswerStreams<'_, W>,
-) -> ExitStatus {
+    output: &mut W,
+    failures: &mut Failures,
+) -> (ExitStatus, Vec<RefusedCommand>) {
     let alloc = watch.rt.alloc();
     let form = call.form;
-    let AnswerStreams { output, failures } = answers;
+    let mut planned = Vec::new(alloc);
     if let Err(fault) = keep_images_separate(alloc, call.task, store) {
-        return failures.note(fault);
+        return (failures.note(fault), planned);
     }
     let ended = match call.task {
         Task::Work(asked) => {
-            let lent = AnswerStreams { output, failures };
-            return work_on_line(watch, asked, form, store, lent);
+            let status = work_on_line(watch, asked, form, store, output, failures);
+            return (status, planned);
         }
         Task::Alias { value, hex, file } => {
-            done(set_alias(alloc, value, hex, file, input, store, output))
+            all_done(set_alias(alloc, value, hex, file, input, store, output))
         }
         Task::AliasInPlace { value, hex, name } => {
-            done(alias_in_place(alloc, value, hex, name, input, store))
+            all_done(alias_in_place(alloc, value, hex, name, input, store))
         }
         Task::Write {
             name,
             file,
             any_device,
-        } => done(write_slave(alloc, name, file, any_device, input, store)),
+        } => all_done(write_slave(alloc, name, file, any_device, input, store)),
         Task::Verify { found, wanted } => {
             verify_image(alloc, found, wanted, input, store, output).map_err(Failure::from)
         }
@@ -183,29 +191,22 @@ fn serve_task<H: Host, R: Read, S: Store, W: Write, T: Write + Send>(
         Task::Diff(compared) => {
             diff_images(alloc, compared, input, store, output).map_err(Failure::from)
         }
-        Task::Layout(line, form) => done(show_layout(alloc, line, form, store, output)),
-        Task::Explain(code) => done(print_page(explanation(alloc, code), output)),
-        Task::Completions(shell) => done(print_page(completions_for(alloc, shell), output)),
-        Task::Man => done(print_page(manual_of(alloc), output)),
-        Task::Init(line) => done(init_line(alloc, line, store, output)),
+        Task::Layout(line, form) => all_done(show_layout(alloc, line, form, store, output)),
+        Task::Explain(code) => all_done(print_page(explanation(alloc, code), output)),
+        Task::Completions(shell) => all_done(print_page(completions_for(alloc, shell), output)),
+        Task::Man => all_done(print_page(manual_of(alloc), output)),
+        Task::Init(line) => all_done(init_line(alloc, line, store, output)),
         Task::Plan(names, form) => {
-            plan_script(alloc, names.line, names.script, form, store, output).map_err(Failure::from)
+            let ended = plan_script(alloc, names.line, names.script, form, store, output);
+            status_of_plan(ended, &mut planned).map_err(Failure::from)
         }
-        Task::Journal(line, form) => done(show_journal(alloc, line, form, store, output)),
+        Task::Journal(line, form) => all_done(show_journal(alloc, line, form, store, output)),
     };
-    match ended {
+    let status = match ended {
         Ok(status) => status,
         Err(failure) => failures.note_failure(failure),
-    }
-}
-
-/// `Done`, where no fault came.
-fn done<F>(ended: Result<(), F>) -> Result<ExitStatus, Failure>
-where
-    Failure: From<F>,
-{
-    ended?;
-    Ok(ExitStatus::Done)
+    };
+    (status, planned)
 }
 
 /// Prints the help or the version that was asked for, or what is wrong with the arguments.

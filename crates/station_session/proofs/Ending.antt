@@ -1,6 +1,7 @@
 -- What the files of a line hold after a run or a recovery.
 use Rattle.std.proofs.Common.{◌≡◌, ℕ, Bool, true, false, List, [], refl, sym, ◌∙◌, subst, inl, inr, Result, Ok, Err}
-use Rattle.std.specs.Prelude.{◌⊎◌, IfSome, IsTrue, OnErr, OnOk, Option, Some, None, is_some, unwrap_or}
+use Rattle.std.specs.Prelude.{◌⊎◌, IfOk, IfSome, IsErr, IsOkAnd, IsTrue, OnErr, OnOk, Option, Some, None, is_some, unwrap_or}
+use Rattle.std.proofs.lemmas.Result.{IfOk-weaker}
 use Rattle.sii_edit.specs.declared.command.Command.{Command}
 use Rattle.site_core.specs.State.{State, Seen}
 use Rattle.site_core.specs.Times.{Follows}
@@ -21,51 +22,145 @@ use Rattle.station_files.specs.Locations.{Leads}
 use Rattle.station_files.specs.ScriptFiles.{SpellsCommands}
 use Rattle.station_files.specs.declared.faults.Fault.{Fault}
 use Rattle.station_files.specs.declared.faults.ExitStatus.{ExitStatus}
-use Rattle.station_files.specs.declared.faults.ExitStatus.TheVariants.{Done}
+use Rattle.station_files.specs.declared.faults.ExitStatus.TheVariants.{Done, Refused}
+use Rattle.station_files.specs.declared.faults.ExitStatus.TheVariants as ends
 use Rattle.station_line.specs.Validating.{HasJournal, IsRunSeparate}
 use Rattle.station_line.specs.Site.{files_of, HoldsSite}
 use Rattle.station_line.specs.Rounds.{ServesSo}
+use Rattle.station_line.specs.declared.answered.Answered.{Answered}
+use Rattle.station_line.specs.declared.answered.Answered.TheVariants.{AllAccepted, OutOfMemory, SomeRefused}
+use Rattle.station_line.specs.Answers.{AnswersGive, exit_status}
+use Rattle.station_line.proofs.Answering.{all_accepted}
 use Rattle.station_line.specs.Opened.{is_old, Loads, StartsFrom}
-use Rattle.station_session.specs.Session.{EndsRecovery, EndsRun, EndsStation, RecoversFiles, RunsFiles, SavedSoundly}
+use Rattle.station_session.specs.Session.{EndsRecovery, EndsRun, RecoversFiles, RunsFiles}
 use Rattle.station_session.specs.Session.{SavesRecovered}
 use Rattle.script_session.specs.Saving.{SavesRun, SavesServed}
+use Rattle.script_session.specs.declared.running.LineRun.{LineRun}
+use Rattle.script_session.specs.Running.{HasEnded, SavesSite}
 
 -- ---- a station that was opened
 
 done-faultless : (status : ExitStatus) → status ≡ Done → IsFaultless status
 done-faultless status done = subst IsFaultless (sym done) tt
 
-saves-by : (new : Known) (line : LineFile) (commands : List Command) (opened left : Station) (served saved : Result (Unit {0}) Fault) (state : State) (status one other final : ExitStatus) → ServesSo commands served Done status opened left
-    → state ≡ left.seen.state → OnOk saved (HoldsSite new line state) → OnErr served (¬ IsFaultless one) → OnErr saved (¬ IsFaultless other) → IsFaultless one → IsFaultless other → (final ≡ Done → status ≡ Done)
-    → SavesServed new line opened commands final
-saves-by new line commands opened left (Ok done) (Ok kept) state status one other final so is held no_fault no_other good well done_too = record {
+-- the answers that give a status
+abbrev pub answers_of : ExitStatus → Answered
+answers_of Done = AllAccepted
+answers_of Refused = SomeRefused
+answers_of status = OutOfMemory
+
+of_faultless : (status : ExitStatus) → IsFaultless status → status ≡ exit_status (answers_of status)
+of_faultless Done well = refl
+of_faultless Refused well = refl
+of_faultless ends.Usage well = absurd well
+of_faultless ends.File well = absurd well
+of_faultless ends.Device well = absurd well
+of_faultless ends.Memory well = absurd well
+
+all_of : (status : ExitStatus) → answers_of status ≡ AllAccepted → status ≡ Done
+all_of Done all = refl
+all_of Refused all = absurd cc
+all_of ends.Usage all = absurd cc
+all_of ends.File all = absurd cc
+all_of ends.Device all = absurd cc
+all_of ends.Memory all = absurd cc
+
+-- what the files hold after a station on one thread, if neither its work nor saving failed
+pub saves-by : (new : Known) (line : LineFile) (commands : List Command) (opened left : Station) (served saved : Result (Unit {0}) Fault) (state : State) (answered : Answered) → ServesSo commands served AllAccepted answered opened left
+    → state ≡ left.seen.state → OnOk saved (HoldsSite new line state) → OnOk served (OnOk saved (SavesServed new line opened commands answered))
+saves-by new line commands opened left (Ok done) (Ok kept) state answered so is held = record {
   s = left;
   accepted = so.submits.accepted;
   goes = so.submits.goes;
   among = so.submits.among;
-  all = λ done. (so.submits.all (done_too done)).1;
+  all = λ all. (so.submits.all all).1;
   served = so.served;
   held = subst (λ (s : State). HoldsSite new line s) is held;
 }
-saves-by new line commands opened left (Ok done) (Err fault) state status one other final so is held no_fault no_other good well done_too = absurd (no_other well)
-saves-by new line commands opened left (Err fault) saved state status one other final so is held no_fault no_other good well done_too = absurd (no_fault good)
+saves-by new line commands opened left (Ok done) (Err fault) state answered so is held = tt
+saves-by new line commands opened left (Err fault) saved state answered so is held = tt
 
-pub ends-station : (old new : Known) (line : LineFile) (commands : List Command) (opened left : Station) (served saved : Result (Unit {0}) Fault) (state : State) (status one other ended final : ExitStatus) → ServesSo commands served Done status opened left
-    → state ≡ left.seen.state → OnOk saved (HoldsSite new line state) → ChangesAmong old new (files_of line) → OnErr served (¬ IsFaultless one) → OnErr saved (¬ IsFaultless other)
-    → (IsFaultless ended → IsFaultless one × IsFaultless other) → (final ≡ Done → (status ≡ Done) × (ended ≡ Done)) → (IsFaultless final → IsFaultless status × IsFaultless ended) → EndsStation true old new line opened commands final
-ends-station old new line commands opened left served saved state status one other ended final so is held others no_fault no_other each done_too faultless_too = record {
+-- what holds where neither failed
+on_both : (P : Type 0) (served saved : Result (Unit {0}) Fault) (one other : ExitStatus) → OnOk served (OnOk saved P) → OnErr served (¬ IsFaultless one) → OnErr saved (¬ IsFaultless other)
+    → IsFaultless one × IsFaultless other → P
+on_both P (Ok done) (Ok kept) one other holds bad worse good = holds
+on_both P (Ok done) (Err fault) one other holds bad worse good = absurd (worse good.1)
+on_both P (Err fault) saved one other holds bad worse good = absurd (bad good.0)
+
+pub ends-station : (old new : Known) (line : LineFile) (site : SiteValue) (was_old : Bool) (opened : Station) (commands : List Command) (answered : Answered) (served saved : Result (Unit {0}) Fault) (answers one other ended final : ExitStatus)
+    → was_old ≡ is_old site.seen.state.disk.bytes → StartsFrom was_old site opened → ChangesAmong old new (files_of line) → OnOk served (OnOk saved (SavesServed new line opened commands answered)) → answers ≡ exit_status answered
+    → OnErr served (¬ IsFaultless one) → OnErr saved (¬ IsFaultless other) → (IsFaultless ended → IsFaultless one × IsFaultless other) → (final ≡ Done → (answers ≡ Done) × (ended ≡ Done)) → (IsFaultless final → IsFaultless answers × IsFaultless ended)
+    → EndsRun true old new line site commands final
+ends-station old new line site was_old opened commands answered served saved answers one other ended final by_version starts others saves is no_fault no_other each done_too faultless_too = record {
   others = others;
   saved = λ good.
-      let both = each (faultless_too good).1 in
-      saves-by new line commands opened left served saved state status one other final so is held no_fault no_other both.0 both.1 (λ done. (done_too done).0);
+      let held = on_both (SavesServed new line opened commands answered) served saved one other saves no_fault no_other (each (faultless_too good).1) in
+      record {
+        answered = answers_of final;
+        is = of_faultless final good;
+        so = record {
+          opened = opened;
+          starts = subst (λ (b : Bool). StartsFrom b site opened) by_version starts;
+          serves = record {
+            s = held.s;
+            accepted = held.accepted;
+            goes = held.goes;
+            among = held.among;
+            all = λ all. held.all (all_accepted answered (sym is ∙ (done_too (all_of final all)).0));
+            served = held.served;
+            held = held.held;
+          };
+        };
+      };
 }
 
-pub ends-opened : (is_cut : Bool) (old new : Known) (line : LineFile) (site : SiteValue) (was_old : Bool) (opened : Station) (commands : List Command) (status : ExitStatus) → was_old ≡ is_old site.seen.state.disk.bytes → StartsFrom was_old site opened
-    → EndsStation is_cut old new line opened commands status → EndsRun is_cut old new line site commands status
-ends-opened is_cut old new line site was_old opened commands status by_version starts ends = record {
-  others = ends.others;
-  saved = λ good. record { opened = opened; starts = subst (λ (b : Bool). StartsFrom b site opened) by_version starts; serves = ends.saved good };
-}
+-- ---- a run by threads
+
+-- where a status is without a fault, so is what it came from
+ok_of : {A : Type 0} (result : Result A Fault) (P : A → Type 0) (one : ExitStatus) → OnErr result (¬ IsFaultless one) → IfOk result P → IsFaultless one → IsOkAnd result P
+ok_of (Ok value) P one bad holds good = holds
+ok_of (Err fault) P one bad holds good = absurd (bad good)
+
+closed_ok : (closed : Result (Unit {0}) Fault) (one : ExitStatus) → OnErr closed (¬ IsFaultless one) → IsFaultless one → closed ≡ Ok tt
+closed_ok (Ok done) one bad good = refl
+closed_ok (Err fault) one bad good = absurd (bad good)
+
+-- The status of the answers at the desk, that of its fault and that of the rest are at most that of the run.
+pub has_ended : {T : Type 0} (run : LineRun T) (answers one other both final : ExitStatus) → answers ≡ exit_status run.answers → OnErr run.closed (¬ IsFaultless one) → OnErr run.ended (¬ IsFaultless other)
+    → IfOk run.ended (λ given. other ≡ exit_status given) → (both ≡ Done → (one ≡ Done) × (other ≡ Done)) → (IsFaultless both → IsFaultless one × IsFaultless other)
+    → (final ≡ Done → (answers ≡ Done) × (both ≡ Done)) → (IsFaultless final → IsFaultless answers × IsFaultless both) → IsFaultless final
+    → HasEnded run (answers_of final)
+has_ended run answers one other both final by_answers no_fault no_other is both_done both_good final_done final_good good =
+    let each = both_good (final_good good).1 in
+    let Ends : Answered → Type 0 = λ given. answers_of final ≡ AllAccepted → (run.answers ≡ AllAccepted) × (given ≡ AllAccepted) in
+    let done_by : (given : Answered) → other ≡ exit_status given → Ends given =
+    λ given same all.
+    let done = final_done (all_of final all) in (
+      all_accepted run.answers (sym by_answers ∙ done.0),
+      all_accepted given (sym same ∙ (both_done done.1).1),
+    ) in
+    record {
+      closed = closed_ok run.closed one no_fault each.0;
+      ended = ok_of run.ended Ends other no_other (IfOk-weaker run.ended (λ given. other ≡ exit_status given) Ends done_by is) each.1;
+    }
+
+-- a failure is told
+pub told : {A : Type 0} (ended : Result A Fault) (answers one other both status final : ExitStatus) → OnErr ended (¬ IsFaultless other)
+    → (IsFaultless both → IsFaultless one × IsFaultless other) → (IsFaultless status → IsFaultless answers × IsFaultless both)
+    → (final ≡ status) ⊎ (¬ IsFaultless final) → IsErr ended → ¬ IsFaultless final
+told (Ok value) answers one other both status final bad both_good good last is = absurd cc
+told (Err fault) answers one other both status final bad both_good good (inl same) is =
+    λ well. bad (both_good (good (subst IsFaultless same well)).1).1
+told (Err fault) answers one other both status final bad both_good good (inr never) is = never
+
+-- a fault that is told after it ends the run as a fault, or the status stays
+pub ends_run : {T : Type 0} (Way : Seen → Type 0) (run : LineRun T) (old new : Known) (line : LineFile) (site : SiteValue) (commands : List Command)
+    (status final : ExitStatus) → ChangesAmong old new (files_of line) → ((answered : Answered) → HasEnded run answered → SavesSite Way new line site commands answered)
+    → (IsFaultless status → HasEnded run (answers_of status)) → (final ≡ status) ⊎ (¬ IsFaultless final) → EndsRun false old new line site commands final
+ends_run Way run old new line site commands status final others saves ended (inl same) =
+    subst (λ (s : ExitStatus). EndsRun false old new line site commands s) (sym same)
+    (record { others = others; saved = λ good. record { answered = answers_of status; is = of_faultless status good; so = (saves (answers_of status) (ended good)).saves } })
+ends_run Way run old new line site commands status final others saves ended (inr bad) = record { others = others; saved = λ good. absurd (bad good) }
 
 -- ---- on files that were opened
 
@@ -74,7 +169,7 @@ pub ends-run-opened : (old mid new : Known) (line : LineFile) (site on_files : S
     → EndsRun false mid new line on_files commands status → EndsRun false old new line site commands status
 ends-run-opened old mid new line site on_files commands status opened same ends = record {
   others = λ other out. ends.others other out ∙ opened other out;
-  saved = λ good. subst (λ (s : SiteValue). SavesRun false new line s commands status) same (ends.saved good);
+  saved = λ good. subst (λ (s : SiteValue). AnswersGive (SavesRun false new line s commands) status) same (ends.saved good);
 }
 
 pub ends-recovery-opened : (old mid new : Known) (line : LineFile) (site on_files : SiteValue) (status : ExitStatus) (asked : Option (List Asked)) → ChangesAmong old mid (files_of line) → on_files ≡ site
@@ -113,41 +208,33 @@ keeps-files before now is_sound (Some calls) files new follows keeps = cut_leave
 keeps-files before now is_sound None files new follows keeps = keeps_unasked before.state
 
 -- the contents in them after a complete recovery
-recovered-contents : (s : Station) (is_sound : Bool) (asked : Option (List Asked)) → IfSome asked (λ calls. FilesOf calls s.seen is_sound) → HasRecovered s → IsTrue is_sound → IsTrue (is_some asked)
+recovered-contents : (s : Station) (asked : Option (List Asked)) → IfSome asked (λ calls. FilesOf calls s.seen true) → HasRecovered s → IsTrue (is_some asked)
     → BecomeOnly (HasContents s.book) (first_of s.seen) (unwrap_or asked [])
-recovered-contents s is_sound (Some calls) files recovered sound some = recovery_leaves_contents s is_sound calls files recovered sound
-recovered-contents s is_sound None files recovered sound some = absurd cc
+recovered-contents s (Some calls) files recovered some = recovery_leaves_contents s true calls files recovered refl
+recovered-contents s None files recovered some = absurd cc
 
-pub ends-recovered : (old new : Known) (line : LineFile) (before : Seen) (s : Station) (left : Seen) (asked : Option (List Asked)) (saved : Result (Unit {0}) Fault) (one other final : ExitStatus) → HasRecovered s → BeginsRecovered before s → left ≡ s.seen
-    → before.past ≡ [] → Follows before s.seen → KeepsThroughout before s.seen → SavedSoundly left saved asked
-    → OnOk saved (HoldsSite new line left.state) → ChangesAmong old new (files_of line) → OnErr saved (¬ IsFaultless one) → (final ≡ Done → (one ≡ Done) × (other ≡ Done)) → EndsRecovery old new line before final asked
-ends-recovered old new line before s left asked saved one other final is_recovered begins is none follows keeps known held others bad done_too =
-    let files : IfSome asked (λ calls. FilesOf calls s.seen known.is_sound) = subst (λ (x : Seen). IfSome asked (λ (calls : List Asked). FilesOf calls x known.is_sound)) is known.leave in
+pub ends-recovered : (old new : Known) (line : LineFile) (before : Seen) (s : Station) (left : Seen) (asked : Option (List Asked)) (saved ended : Result (Unit {0}) Fault) (one other final : ExitStatus) → HasRecovered s → BeginsRecovered before s → left ≡ s.seen
+    → before.past ≡ [] → Follows before s.seen → KeepsThroughout before s.seen → IfSome asked (λ calls. FilesOf calls left false) → OnOk saved (IfSome asked (λ calls. FilesOf calls left true))
+    → OnOk ended ((saved ≡ Ok tt) × IsTrue (is_some asked)) → OnOk saved (HoldsSite new line left.state) → ChangesAmong old new (files_of line)
+    → OnErr ended (¬ IsFaultless one) → (final ≡ Done → (one ≡ Done) × (other ≡ Done)) → EndsRecovery old new line before final asked
+ends-recovered old new line before s left asked saved ended one other final is_recovered begins is none follows keeps files sound told held others bad done_too =
+    let at : (x : Bool) → Seen → Type 0 = λ x seen. IfSome asked (λ (calls : List Asked). FilesOf calls seen x) in
     record {
       others = others;
-      keeps = keeps-files before s.seen known.is_sound asked files none follows keeps;
+      keeps = keeps-files before s.seen false asked (subst (at false) is files) none follows keeps;
       saved = λ done.
-          let good : IsFaultless one = done-faultless one (done_too done).0 in
-          let sound = on-saved (IsTrue known.is_sound × IsTrue (is_some asked)) saved one known.sound bad good in (
-            sound.1,
+          let known = on-saved ((saved ≡ Ok tt) × IsTrue (is_some asked)) ended one told bad (done-faultless one (done_too done).0) in (
+            known.1,
             record {
               s = s;
               recovered = is_recovered;
               begins = begins;
-              held = subst (λ (x : Seen). HoldsSite new line x.state) is (on-saved (HoldsSite new line left.state) saved one held bad good);
+              held = subst (λ (x : Seen). HoldsSite new line x.state) is (subst (λ (r : Result (Unit {0}) Fault). OnOk r (HoldsSite new line left.state)) known.0 held);
               contents = subst (λ (x : State). BecomeOnly (HasContents s.book) x (unwrap_or asked [])) (first_stays before s.seen none follows)
-                  (recovered-contents s known.is_sound asked files is_recovered sound.0 sound.1);
+                  (recovered-contents s asked (subst (at true) is (subst (λ (r : Result (Unit {0}) Fault). OnOk r (at true left)) known.0 sound)) is_recovered known.1);
             },
           );
     }
-
--- ---- a fault that is told after a run
-
--- it ends the run as a fault, or the status stays
-pub reported-too : (is_cut : Bool) (old new : Known) (line : LineFile) (site : SiteValue) (commands : List Command) (status final : ExitStatus) → EndsRun is_cut old new line site commands status → (final ≡ status) ⊎ (¬ IsFaultless final)
-    → EndsRun is_cut old new line site commands final
-reported-too is_cut old new line site commands status final ends (inl same) = subst (λ (s : ExitStatus). EndsRun is_cut old new line site commands s) (sym same) ends
-reported-too is_cut old new line site commands status final ends (inr bad) = record { others = ends.others; saved = λ good. absurd (bad good) }
 
 -- ---- the whole
 

@@ -1,5 +1,5 @@
 pub mod Ending
-pub mod ThreadsEnd
+mod Noting
 mod OnFiles
 pub mod RunFiles
 pub mod Telling

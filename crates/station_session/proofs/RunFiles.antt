@@ -1,17 +1,14 @@
 -- What a power cut leaves in the files of a run.
 use Rattle.std.proofs.Common.{◌≡◌, ◌∙◌, ℕ, ◌+◌, zero, suc, eq-eqb, Bool, true, false, List, [], ◌∷◌, Some, slice_get, IsTrue}
 use Rattle.std.proofs.Common.{Result, Ok, Err, refl}
-use Rattle.std.proofs.Common.{sym, ap, subst, inl, inr, arith}
+use Rattle.std.proofs.Common.{sym, ap, subst, arith}
 use Rattle.std.proofs.lemmas.List.{append_cancel_left}
-use Rattle.std.specs.Prelude.{◌⊎◌, IfSome, IsSomeAnd, None, OnErr, OnOk, Option}
+use Rattle.std.specs.Prelude.{IfSome, IsSomeAnd, None, OnOk, Option}
 use Rattle.std.specs.List.{AllByRecursion}
 use Rattle.sii_edit.specs.declared.command.Command.{Command}
 use Rattle.esc_model.specs.SlaveHalf.{SlaveHalf}
 use Rattle.site_core.specs.Disk.{Disk}
-use Rattle.site_core.specs.Passes.{LeavesOnly}
 use Rattle.site_core.specs.State.{State, Seen, Pair}
-use Rattle.site_core.proofs.Runs.{Passes-stays, Passes-then, Passes-weaker}
-use Rattle.site_core.proofs.Times.{Follows-then}
 use Rattle.site_shadow.specs.Site.{SiteValue}
 use Rattle.site_shadow.specs.Unsynced.{of_bytes}
 use Rattle.site_file.specs.declared.asking.LineFile.{LineFile as FileName}
@@ -25,17 +22,14 @@ use Rattle.site_file.specs.Held.{is_same}
 use Rattle.site_file.specs.Files.{File, image_of}
 use Rattle.site_file.specs.AllFiles.{Holds, HoldsDisk, HoldsWords, Shows}
 use Rattle.book_model.specs.Book.{Book}
-use Rattle.book_model.specs.Machine.{Machine, reopened}
-use Rattle.site_journal.specs.Running.{KeptWith}
+use Rattle.book_model.specs.Machine.{Machine}
 use Rattle.desk_book.specs.declared.call.Call.{Call}
 use Rattle.desk_book.specs.Calls.{AreAnswered, replayed}
 use Rattle.station_alone.specs.Station.{Station}
-use Rattle.station_alone.specs.Keeping.{KeptFor}
-use Rattle.station_alone.specs.Opening.{BeginsSession}
 use Rattle.station_jobs.specs.declared.log.SlaveLog.{SlaveLog}
 use Rattle.station_jobs.specs.Ends.{Stay}
 use Rattle.station_jobs.specs.Flushing.{IsFlushed}
-use Rattle.kept_files.specs.KeptFiles.{KeptAfter, has_file}
+use Rattle.kept_files.specs.KeptFiles.{has_file}
 use Rattle.kept_files.specs.Cuts.{IsKeptPair}
 use Rattle.kept_files.specs.DeskFiles.{DeskOnFiles, PartOnFiles}
 use Rattle.kept_files.proofs.OnFiles.{device_kept, device_served, site_keeps_on, site_keeps_serving}
@@ -43,31 +37,26 @@ use Rattle.kept_files.proofs.Extending.{first_stays}
 use Rattle.kept_files.proofs.AtDeskOnFiles.{part_has_its_file, device_of_part, flushed_follows, worked_follows, cut_leaves_kept_parts}
 use Rattle.station_threads.specs.Parts.{IsEndOfSlave}
 use Rattle.station_text.specs.declared.line_file.LineFile.{LineFile}
-use Rattle.station_files.specs.Faults.{IsFaultless}
 use Rattle.station_files.specs.Files.{Known}
 use Rattle.station_files.specs.ScriptFiles.{SpellsCommands}
 use Rattle.station_files.specs.declared.faults.ExitStatus.{ExitStatus}
 use Rattle.station_files.specs.declared.faults.Fault.{Fault}
 use Rattle.script_session.specs.declared.closing.Ending.{Ending}
-use Rattle.script_session.specs.AtDesk.{DeskServes, EndsFollowed, IsUnservedReported, PartsEnd, ServesParts, seen_of}
-use Rattle.script_session.specs.AtDesk as at_desk
-use Rattle.script_session.specs.declared.logs.UnservedLog.{UnservedLog}
-use Rattle.script_session.specs.declared.logs.UnservedLog.TheVariants as unserved
+use Rattle.script_session.specs.AtDesk.{DeskServes, EndsFollowed, PartsEnd, ServesParts, seen_of}
 use Rattle.script_session.specs.declared.logs.DeskLog.{DeskLog}
 use Rattle.script_session.specs.declared.logs.PartLog.{PartLog}
 use Rattle.script_session.specs.Parts.{AreFollowed, AreSound, AreReportedOf, BeginsWith, EndsWith, IsDeskReported, IsTogether, IsWorkFollowed, Soundly}
 use Rattle.script_session.specs.Parts.{Telling}
 use Rattle.script_session.proofs.LeftLaws.{first, opened-on, placed-back}
 use Rattle.script_session.proofs.SlaveLaws.{placed-at}
-use Rattle.script_session.specs.After.{GoesAfterDesk, GoesFollowed, ServesSome, Tells}
-use Rattle.station_session.specs.RunFiles.{BeginsPart, DeskGoes, GoesAlone, GoesAfter, HoldTogether, IsLeftBy, KeepsAtDesk, KeepsParts}
-use Rattle.station_session.specs.RunFiles.{OfDevices, OfFiles, RunsFollowed, KeepsRunFiles, RunKeepsFiles, Says, ServesFollowedBy, ServesOn}
-use Rattle.station_session.specs.declared.logs.RunLog.{RunLog}
-use Rattle.station_session.specs.RunFiles.{DeskTells, HaveAsked, IsReported, KeepsAsReported, KeepsDeskAsReported, KeepsPartsAsReported, ServesAsReported, TellsOf}
-use Rattle.station_session.specs.RunFiles.{desk_of, line_reported, opening_of}
-use Rattle.station_session.specs.RunFiles.{unbegun, idle, separate, served, unopened, opened, unrecovered, recovered}
-use Rattle.station_line.specs.Opened.{GoesKept, Loads}
-use Rattle.station_line.specs.Rounds.{Goes}
+use Rattle.script_session.specs.After.{GoesFollowed}
+use Rattle.script_session.specs.declared.logs.RunLog.{RunLog}
+use Rattle.script_session.specs.Running.{DeskGoes, DeskTells, GoesAlone, GoesAfter, OfDevices, RunGoes, ServesOn, TellsOf, line_reported}
+use Rattle.script_session.specs.Running.{unbegun, idle, separate, served, unopened, opened, unrecovered, recovered}
+use Rattle.station_session.specs.RunFiles.{BeginsPart, HoldTogether, IsLeftBy, KeepsAtDesk, KeepsParts}
+use Rattle.station_session.specs.RunFiles.{OfFiles, KeepsRunFiles, RunKeepsFiles}
+use Rattle.station_session.specs.RunFiles.{HaveAsked, IsReported, KeepsAsReported, KeepsDeskAsReported, KeepsPartsAsReported, ServesAsReported}
+use Rattle.station_line.specs.Opened.{Loads}
 use Rattle.station_line.specs.Site.{IsFollowed}
 
 -- ---- on files
@@ -345,188 +334,44 @@ module _ (F : Type 0) {D : Type 0} (follows : D → Seen → Type 0) (well : D �
   desk_as_reported (Some reported) station synced commands ending site sound parts tell =
       keeps_as_reported station synced (parts_of station commands ending parts.desk) reported tell.tell.0 site parts.together sound tell.tell.1 tell.followed
 
-  module _ (reported : RunLog FileLog) where
-    alone_on_files : (commands : List Command) (left : Seen) (status : ExitStatus) → left.past ≡ []
-        → GoesAlone (OfDevices follows well tells reported) commands left status → GoesAlone (OfFiles F reported) commands left status
-    alone_on_files commands left status new (unrecovered last stage bad) = unrecovered last
-        (goes_on_files F follows to_file tells tells_file reported.after left last new stage) bad
-    alone_on_files commands left status new (recovered accepted last among serves) = recovered accepted last among
+  -- if one failure is told, the other is
+  module _ (reported : RunLog FileLog) (Failed Told : Type 0) (tells_it : Failed → Told) where
+    alone_on_files : (commands : List Command) (left : Seen) → left.past ≡ []
+        → GoesAlone (OfDevices follows well tells reported) commands left Failed → GoesAlone (OfFiles F reported) commands left Told
+    alone_on_files commands left new (unrecovered last stage failed) = unrecovered last
+        (goes_on_files F follows to_file tells tells_file reported.after left last new stage) (tells_it failed)
+    alone_on_files commands left new (recovered accepted last among serves) = recovered accepted last among
         (serves_on_files F follows to_file tells tells_file reported.after accepted left last new serves)
 
-    after_on_files : (is_driven : Bool) (sound : Result (Unit {0}) Fault) (commands : List Command) (left : Seen) (status : ExitStatus)
-        → left.past ≡ [] → GoesAfter (OfDevices follows well tells reported) is_driven sound commands left status
-        → GoesAfter (OfFiles F reported) is_driven sound commands left status
-    after_on_files true (Ok done) commands left status new goes = (goes.0, goes_on_files F follows to_file tells tells_file reported.after left goes.0 new goes.1)
-    after_on_files false (Ok done) commands left status new goes = alone_on_files commands left status new goes
-    after_on_files true (Err fault) commands left status new goes = goes
-    after_on_files false (Err fault) commands left status new goes = goes
+    after_on_files : (is_driven : Bool) (sound : Result (Unit {0}) Fault) (commands : List Command) (left : Seen)
+        → left.past ≡ [] → GoesAfter (OfDevices follows well tells reported) is_driven sound commands left Failed
+        → GoesAfter (OfFiles F reported) is_driven sound commands left Told
+    after_on_files true (Ok done) commands left new goes = (goes.0, goes_on_files F follows to_file tells tells_file reported.after left goes.0 new goes.1)
+    after_on_files false (Ok done) commands left new goes = alone_on_files commands left new goes
+    after_on_files true (Err fault) commands left new failed = tells_it failed
+    after_on_files false (Err fault) commands left new failed = tells_it failed
 
     desk_on_files : (station : Station) → station.seen.state.disk ≡ of_bytes station.seen.state.disk.bytes
-        → (commands : List Command) (status : ExitStatus) → ServesFollowedBy follows well tells station commands status reported
-        → DeskGoes (OfFiles F reported) station commands status
-    desk_on_files station synced commands status (unbegun bad) = unbegun bad
-    desk_on_files station synced commands status (idle parts none tellings bad) =
-        idle parts none (parts_as_reported reported.desk station synced parts tellings) bad
-    desk_on_files station synced commands status (separate ending desk tellings bad) =
-        separate ending desk (parts_as_reported reported.desk station synced (parts_of station commands ending desk) tellings) bad
-    desk_on_files station synced commands status (served ending site sound parts tell closes) =
+        → (commands : List Command) → DeskGoes (OfDevices follows well tells reported) station commands Failed
+        → DeskGoes (OfFiles F reported) station commands Told
+    desk_on_files station synced commands (unbegun failed) = unbegun (tells_it failed)
+    desk_on_files station synced commands (idle parts none tellings failed) =
+        idle parts none (parts_as_reported reported.desk station synced parts tellings) (tells_it failed)
+    desk_on_files station synced commands (separate ending desk tellings failed) =
+        separate ending desk (parts_as_reported reported.desk station synced (parts_of station commands ending desk) tellings) (tells_it failed)
+    desk_on_files station synced commands (served ending site sound parts tell closes) =
         served ending site sound parts (desk_as_reported reported.desk station synced commands ending site sound parts tell)
-        (λ closed. after_on_files ending.is_driven sound commands site.seen status parts.together.new (closes closed))
+        (λ closed. after_on_files ending.is_driven sound commands site.seen parts.together.new (closes closed))
 
-    pub run_on_files : (before : Seen) (commands : List Command) (status : ExitStatus) → before.past ≡ [] → RunsFollowed follows well tells before commands status reported
-        → RunKeepsFiles F before commands status reported
-    run_on_files before commands status new (unopened last stage bad) =
-        unopened last (goes_on_files F follows to_file tells tells_file (line_reported reported.desk reported.opening) before last new stage) bad
-    run_on_files before commands status new (opened station stage synced goes) =
+    pub run_on_files : (before : Seen) (commands : List Command) → before.past ≡ [] → RunGoes (OfDevices follows well tells reported) before commands Failed
+        → RunGoes (OfFiles F reported) before commands Told
+    run_on_files before commands new (unopened last stage failed) =
+        unopened last (goes_on_files F follows to_file tells tells_file (line_reported reported.desk reported.opening) before last new stage) (tells_it failed)
+    run_on_files before commands new (opened station stage synced goes) =
         opened station (goes_on_files F follows to_file tells tells_file (line_reported reported.desk reported.opening) before station.seen new stage) synced
-        (desk_on_files station synced commands status goes)
+        (desk_on_files station synced commands goes)
 
 -- ---- the run
-
--- the station wasn't opened
-pub reported-opening : {T : Type 0} (tellings : Option (DeskLog T)) (opening : Option T) (reported : T) → tellings ≡ None → opening ≡ Some reported → line_reported tellings opening ≡ Some reported
-reported-opening {T} tellings opening reported none some = ap (λ (d : Option (DeskLog T)). line_reported d opening) none ∙ some
-
--- where a fault is told of one status, so it is of the final one
-alone_reported : (says : Says) (commands : List Command) (left : Seen) (one final : ExitStatus) → (¬ IsFaultless one → ¬ IsFaultless final)
-    → GoesAlone says commands left one → GoesAlone says commands left final
-alone_reported says commands left one final worse (unrecovered last stage bad) = unrecovered last stage (worse bad)
-alone_reported says commands left one final worse (recovered accepted last among serves) = recovered accepted last among serves
-
-pub after_reported : (says : Says) (is_driven : Bool) (sound : Result (Unit {0}) Fault) (commands : List Command) (left : Seen) (one final : ExitStatus)
-    → (¬ IsFaultless one → ¬ IsFaultless final) → GoesAfter says is_driven sound commands left one
-    → GoesAfter says is_driven sound commands left final
-after_reported says true (Ok done) commands left one final worse goes = goes
-after_reported says false (Ok done) commands left one final worse goes = alone_reported says commands left one final worse goes
-after_reported says true (Err fault) commands left one final worse goes = worse goes
-after_reported says false (Err fault) commands left one final worse goes = worse goes
-
--- the parts ended soundly, and this is what went after the desk, where the commands were submitted there and where they weren't
-pub after_driven : (says : Says) (is_driven : Bool) (sound : Result (Unit {0}) Fault) (commands : List Command) (left : Seen) (status : ExitStatus)
-    → sound ≡ Ok tt → is_driven ≡ true → (last : Seen) × says.after left last
-    → GoesAfter says is_driven sound commands left status
-after_driven says is_driven sound commands left status is driven goes =
-    subst (λ (r : Result (Unit {0}) Fault). GoesAfter says is_driven r commands left status) (sym is)
-    (subst (λ (b : Bool). GoesAfter says b (Ok tt) commands left status) (sym driven) goes)
-
-pub after_alone : (says : Says) (is_driven : Bool) (sound : Result (Unit {0}) Fault) (commands : List Command) (left : Seen) (status : ExitStatus)
-    → sound ≡ Ok tt → is_driven ≡ false → GoesAlone says commands left status
-    → GoesAfter says is_driven sound commands left status
-after_alone says is_driven sound commands left status is undriven goes =
-    subst (λ (r : Result (Unit {0}) Fault). GoesAfter says is_driven r commands left status) (sym is)
-    (subst (λ (b : Bool). GoesAfter says b (Ok tt) commands left status) (sym undriven) goes)
-
--- the recovery failed
-pub after_failed : (says : Says) (is_driven : Bool) (sound : Result (Unit {0}) Fault) (commands : List Command) (left : Seen) (status : ExitStatus)
-    → sound ≡ Ok tt → ¬ IsFaultless status → (last : Seen) → says.after left last
-    → GoesAfter says is_driven sound commands left status
-after_failed says true sound commands left status is bad last stage = after_driven says true sound commands left status is refl (last, stage)
-after_failed says false sound commands left status is bad last stage = after_alone says false sound commands left status is refl
-    (unrecovered last stage bad)
-
--- the commands that were left are those of the run
-pub after_unserved : (says : Says) (is_driven : Bool) (sound : Result (Unit {0}) Fault) (unserved commands : List Command) (left : Seen)
-    (status : ExitStatus) → (is_driven ≡ false → unserved ≡ commands) → GoesAfter says is_driven sound unserved left status
-    → GoesAfter says is_driven sound commands left status
-after_unserved says true (Ok done) unserved commands left status same goes = goes
-after_unserved says false (Ok done) unserved commands left status same goes = subst (λ (l : List Command). GoesAlone says l left status) (same refl)
-    goes
-after_unserved says true (Err fault) unserved commands left status same goes = goes
-after_unserved says false (Err fault) unserved commands left status same goes = goes
-
--- ---- on one thread
-
--- a site was recovered, and commands were accepted on it after that
-pub serves_after : {D : Type 0} (follows : D → Seen → Type 0) (before : Seen) (r : Station) (accepted : List Command) (s : Station)
-    → GoesKept before r.seen → BeginsSession before r → Goes accepted r s → IsFollowed follows s.seen
-    → ServesOn follows accepted before s.seen
-serves_after follows before r accepted s goes begins serves followed = record {
-  goes_on = Follows-then before r.seen s.seen goes.goes_on serves.led;
-  keeps = λ machine kept.
-      let first = goes.keeps machine kept in
-      let session = begins machine kept in
-      let after = serves.keeps (reopened machine session.k) session.of session.kept in
-      let next : Pair → Type 0 = KeptAfter machine session.k accepted in
-      record {
-        k = session.k;
-        may_keep = session.may_keep;
-        stays =
-            Passes-stays next before s.seen
-            (Passes-then (LeavesOnly next) before r.seen s.seen
-            (Passes-weaker (LeavesOnly (KeptFor machine)) (LeavesOnly next) before r.seen (λ state only pair leaves. inl (only pair leaves))
-            first.passes)
-            (Passes-weaker (LeavesOnly (KeptWith (reopened machine session.k) accepted)) (LeavesOnly next) r.seen s.seen
-            (λ state only pair leaves. inr (only pair leaves)) after.on_the_way.passes));
-      };
-  followed = followed;
-}
-
-pub goes_alone : {D T : Type 0} (follows : D → Seen → Type 0) (well : D → Type 0) (tells : D → T → Type 0) (reported : RunLog T) (before : Seen) (r : Station)
-    (commands : List Command) (status : ExitStatus) → GoesKept before r.seen → BeginsSession before r → ServesSome (TellsOf follows tells reported.after) commands r
-    → GoesAlone (OfDevices follows well tells reported) commands before status
-goes_alone follows well tells reported before r commands status goes begins some =
-    recovered some.accepted some.last.seen some.among
-    (serves_after (TellsOf follows tells reported.after) before r some.accepted some.last goes begins some.goes some.followed)
-
--- what went after a desk whose parts ended soundly
-pub goes_after_desk : {D T : Type 0} (follows : D → Seen → Type 0) (well : D → Type 0) (tells : D → T → Type 0) (reported : RunLog T) (after : T)
-    (is_driven : Bool) (sound : Result (Unit {0}) Fault) (commands : List Command) (left : Seen) (ended : Result ExitStatus Fault) (status : ExitStatus)
-    → sound ≡ Ok tt → reported.after ≡ Some after → OnErr ended (¬ IsFaultless status)
-    → GoesAfterDesk (Tells follows tells after) is_driven commands left ended
-    → GoesAfter (OfDevices follows well tells reported) is_driven sound commands left status
-goes_after_desk {D} {T} follows well tells reported after true sound commands left ended status is tells_so bad goes =
-    after_driven (OfDevices follows well tells reported) true sound commands left status is refl
-    (goes.0, subst (λ (t : Option T). GoesFollowed (TellsOf follows tells t) left goes.0) (sym tells_so) goes.1)
-goes_after_desk {D} {T} follows well tells reported after false sound commands left ended status is tells_so bad (inl (last, fault, goes, failed)) =
-    after_failed (OfDevices follows well tells reported) false sound commands left status is
-    (subst (λ (r : Result ExitStatus Fault). OnErr r (¬ IsFaultless status)) failed bad) last
-    (subst (λ (t : Option T). GoesFollowed (TellsOf follows tells t) left last) (sym tells_so) goes)
-goes_after_desk {D} {T} follows well tells reported after false sound commands left ended status is tells_so bad (inr serves) =
-    after_alone (OfDevices follows well tells reported) false sound commands left status is refl
-    (goes_alone follows well tells reported left serves.r commands status serves.goes serves.begins
-    (subst (λ (t : Option T). ServesSome (TellsOf follows tells t) commands serves.r) (sym tells_so) serves.serves))
-
--- what a line was not served with, by what `serve_by_threads` tells
-pub not_served : {D T : Type 0} (follows : D → Seen → Type 0) (well : D → Type 0) (tells : D → T → Type 0) (reported : RunLog T) (station : Station)
-    (commands : List Command) (why : UnservedLog T) (status : ExitStatus) → ¬ IsFaultless status → reported.desk ≡ desk_of why
-    → IsUnservedReported follows well tells station commands why → ServesFollowedBy follows well tells station commands status reported
-not_served follows well tells reported station commands (unserved.Line part) status bad is (at_desk.line _ followed) = unbegun bad
-not_served follows well tells reported station commands (unserved.Separate devices) status bad is (at_desk.separate _ parts none tellings) =
-    idle parts none
-    (subst (λ (d : Option (DeskLog _)). IsSomeAnd d (λ one. IsDeskReported follows well tells station.seen one parts.ends)) (sym is) tellings) bad
-not_served follows well tells reported station commands (unserved.Desk devices) status bad is (at_desk.desk _ ending served_by tellings) =
-    separate ending served_by
-    (subst (λ (d : Option (DeskLog _)). IsSomeAnd d (λ one. IsDeskReported follows well tells station.seen one served_by.ends)) (sym is) tellings) bad
-
-pub unserved_line : {D T : Type 0} (follows : D → Seen → Type 0) (well : D → Type 0) (tells : D → T → Type 0) (reported : RunLog T) (station : Station)
-    (commands : List Command) (why : UnservedLog T) → reported.desk ≡ desk_of why → reported.opening ≡ opening_of why
-    → IsUnservedReported follows well tells station commands why → IsFollowed (TellsOf follows tells (line_reported reported.desk reported.opening)) station.seen
-unserved_line follows well tells reported station commands why same_desk same_opening is =
-    subst (λ (d : Option (DeskLog _)). IsFollowed (TellsOf follows tells (line_reported d reported.opening)) station.seen) (sym same_desk)
-    (subst (λ (o : Option _). IsFollowed (TellsOf follows tells (line_reported (desk_of why) o)) station.seen) (sym same_opening) (by why is))
-  where
-    by : (why : UnservedLog _) → IsUnservedReported follows well tells station commands why
-        → IsFollowed (TellsOf follows tells (line_reported (desk_of why) (opening_of why))) station.seen
-    by (unserved.Line part) (at_desk.line _ followed) = (followed.0, (followed.1.0, followed.1.1))
-    by (unserved.Separate devices) (at_desk.separate _ parts none tellings) = (tellings.before.0, (tellings.before.1.0, tellings.before.1.1))
-    by (unserved.Desk devices) (at_desk.desk _ ending served_by tellings) = (tellings.before.0, (tellings.before.1.0, tellings.before.1.1))
-
-desk_reported : (F : Type 0) (reported : RunLog FileLog) (station : Station) (commands : List Command) (one final : ExitStatus) → ¬ IsFaultless final
-    → DeskGoes (OfFiles F reported) station commands one → DeskGoes (OfFiles F reported) station commands final
-desk_reported F reported station commands one final bad (unbegun was) = unbegun bad
-desk_reported F reported station commands one final bad (idle parts none keeps was) = idle parts none keeps bad
-desk_reported F reported station commands one final bad (separate ending desk keeps was) = separate ending desk keeps bad
-desk_reported F reported station commands one final bad (served ending site sound parts desk closes) =
-    served ending site sound parts desk (λ closed. after_reported (OfFiles F reported) ending.is_driven sound commands site.seen one final (λ was. bad)
-    (closes closed))
-
--- a fault that is told after a run ends it as a fault, or the status stays
-pub reported_as : (F : Type 0) (before : Seen) (commands : List Command) (one final : ExitStatus) (reported : RunLog FileLog) → (final ≡ one) ⊎ (¬ IsFaultless final)
-    → RunKeepsFiles F before commands one reported → RunKeepsFiles F before commands final reported
-reported_as F before commands one final reported (inl same) kept = subst (λ (s : ExitStatus). RunKeepsFiles F before commands s reported) (sym same) kept
-reported_as F before commands one final reported (inr bad) (unopened last stage was) = unopened last stage bad
-reported_as F before commands one final reported (inr bad) (opened station stage synced goes) = opened station stage synced
-    (desk_reported F reported station commands one final bad goes)
 
 pub runs_kept : (F : Type 0) (old : Known) (name script : List ℕ) (line : LineFile) (site : SiteValue) (commands : List Command) (status : ExitStatus) (reported : RunLog FileLog) → Loads old name line site
     → SpellsCommands old script commands → RunKeepsFiles F site.seen commands status reported → KeepsRunFiles F old name script status reported

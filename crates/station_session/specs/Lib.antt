@@ -1,2 +1,3 @@
 pub mod Session
+pub mod Noting
 pub mod RunFiles

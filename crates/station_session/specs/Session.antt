@@ -1,10 +1,11 @@
 -- `run` and `recover`: what is read from the files of a line, how the station starts, and what the files hold in the end.
-use Rattle.std.specs.Prelude.{◌≡◌, Bool, List, [], Option, is_some, unwrap_or, ℕ, ⊤, Result, IfSome, OnOk, IsTrue}
+use Rattle.std.specs.Prelude.{◌≡◌, Bool, List, [], Option, Some, None, is_some, unwrap_or, ℕ, ⊤, IsTrue}
 use Rattle.sii_edit.specs.declared.command.Command.{Command}
 use Rattle.site_core.specs.State.{Seen}
 use Rattle.site_shadow.specs.Site.{SiteValue}
 use Rattle.site_file.specs.declared.asking.Asked.{Asked}
-use Rattle.kept_files.specs.KeptFiles.{BecomeOnly, FilesOf, HasContents, KeepsFiles}
+use Rattle.site_file.specs.declared.asking.FileLog.{FileLog}
+use Rattle.kept_files.specs.KeptFiles.{BecomeOnly, HasContents, KeepsFiles}
 use Rattle.site_journal.specs.declared.fault.ReadFault.TheVariants as read
 use Rattle.station_alone.specs.declared.fault.OpenFault.{OpenFault}
 use Rattle.station_alone.specs.declared.fault.OpenFault.TheVariants as why
@@ -12,15 +13,15 @@ use Rattle.station_alone.specs.Station.{Station}
 use Rattle.station_alone.specs.Recovery.{HasRecovered, BeginsRecovered}
 use Rattle.station_text.specs.declared.line_file.LineFile.{LineFile}
 use Rattle.station_files.specs.Faults.{IsFaultless}
-use Rattle.station_files.specs.declared.faults.Fault.{Fault}
 use Rattle.station_files.specs.Files.{Known, ChangesAmong}
 use Rattle.station_files.specs.FileNames.{IsLineSeparate}
 use Rattle.station_files.specs.Locations.{Leads}
 use Rattle.station_files.specs.ScriptFiles.{SpellsCommands}
 use Rattle.station_files.specs.declared.faults.ExitStatus.{ExitStatus}
 use Rattle.station_files.specs.declared.faults.ExitStatus.TheVariants.{Done}
+use Rattle.station_line.specs.Answers.{AnswersGive}
 use Rattle.station_line.specs.Opened.{Loads}
-use Rattle.script_session.specs.Saving.{SavesRun, Serves}
+use Rattle.script_session.specs.Saving.{SavesRun}
 use Rattle.station_line.specs.Validating.{HasJournal, IsRunSeparate}
 use Rattle.station_line.specs.Site.{files_of, HoldsSite}
 
@@ -41,12 +42,10 @@ pub record SavesRecovered (files : Known) (line : LineFile) (before : Seen) (cal
   pub held : HoldsSite files line s.seen.state
   pub contents : BecomeOnly (HasContents s.book) before.state calls
 
--- What was asked of the files of a line since they held the state in which its site began: a power cut at any moment of it has left in them what it
--- may have left of the site. It is known where the line was saved, and then they hold its state.
-pub record SavedSoundly (now : Seen) (saved : Result (Unit {0}) Fault) (asked : Option (List Asked)) : Type 0 where
-  pub is_sound : Bool
-  pub leave : IfSome asked (λ calls. FilesOf calls now is_sound)
-  pub sound : OnOk saved (IsTrue is_sound × IsTrue (is_some asked))
+-- the calls that are told of a device, if any are
+abbrev pub calls_in : Option FileLog → Option (List Asked)
+calls_in (Some reported) = reported.calls
+calls_in None = None
 
 -- No other files than the line's changed. Whatever the status is: by all that was asked of the open files, a power cut at any moment has left in
 -- them, all at once, only what is kept for each machine for which it was kept before. If the status is `Done`, they hold the recovered state.
@@ -64,17 +63,12 @@ pub record RecoversFiles (leads : Leads) (old new : Known) (name : List ℕ) (st
   pub journal : HasJournal site.line.sizes site.seen.state.disk.bytes
   pub ends : EndsRecovery old new line site.seen status asked
 
--- No other files than the line's changed. If no fault ended the work, they hold the state of the served station.
-pub record EndsStation (is_cut : Bool) (old new : Known) (line : LineFile) (opened : Station) (commands : List Command)
-    (status : ExitStatus) : Type 0 where
-  pub others : ChangesAmong old new (files_of line)
-  pub saved : IsFaultless status → Serves is_cut new line opened commands status
-
--- No other files than the line's changed. If no fault ended the run, they hold the state that it reached on this site.
+-- No other files than the line's changed. If no fault ended the run, they hold the state that it reached on this site, and the answers to its commands
+-- give the status.
 pub record EndsRun (is_cut : Bool) (old new : Known) (line : LineFile) (site : SiteValue) (commands : List Command)
     (status : ExitStatus) : Type 0 where
   pub others : ChangesAmong old new (files_of line)
-  pub saved : IsFaultless status → SavesRun is_cut new line site commands status
+  pub saved : IsFaultless status → AnswersGive (SavesRun is_cut new line site commands) status
 
 -- The line and the script were read, their files stand apart, the journal is one, and the commands were run as far as the status says.
 pub record RunsFiles (leads : Leads) (is_cut : Bool) (old new : Known) (name script : List ℕ) (status : ExitStatus) : Type 0 where

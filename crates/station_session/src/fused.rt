@@ -1,20 +1,23 @@
 //! A run with a planned power cut, on a line in memory.
-ghost use Rattle.std.specs.Prelude.{◌≡◌, ◌↔◌, length, true, IfOk, IsTrue, MatchResult};
+ghost use Rattle.std.specs.Prelude.{◌≡◌, ◌↔◌, length, true, IfOk, IsTrue, MatchResult, OnOk};
 ghost use Rattle.esc_rom.specs.Owned.{OwnsAll};
+ghost use Rattle.script_session.specs.Saving.{SavesServed};
+ghost use Rattle.station_files.specs.Failures.{met_by};
 ghost use Rattle.station_files.specs.Faults.{IsFaultless};
 ghost use Rattle.station_files.specs.Files.{ChangesAmong};
+ghost use Rattle.station_line.specs.Answers.{IsOfAnswers};
 ghost use Rattle.station_line.specs.Opened.{is_old, IsFresh, StartsFrom};
 ghost use Rattle.station_line.specs.Site.{files_of};
-ghost use Rattle.station_session.specs.Session.{EndsRun, EndsStation, IsRefusal};
+ghost use Rattle.station_session.specs.Noting.{Notes, NotesWhy};
+ghost use Rattle.station_session.specs.Session.{EndsRun, IsRefusal};
 
-use crate::answers::AnswerStreams;
 use sii_edit::Command;
 use site_journal::ReadFault;
 use site_mem::{FaultPlan, Pattern};
 use site_shadow::{Device, ShadowSite};
 use station_alone::{Alone, OpenFault};
-use station_files::{ExitStatus, Failures, Store, worse};
-use station_line::{LoadedLine, Session, migrated, of_open, save_site, serve_commands};
+use station_files::{ExitStatus, Failures, Fault, Store, worse};
+use station_line::{Answered, LoadedLine, Session, migrated, of_open, save_site, serve_commands};
 use station_text::LineFile;
 use std::alloc::Global;
 use std::io::Write;
@@ -28,17 +31,30 @@ pub struct Fuse {
     pub left: u16,
 }
 
-/// Opens the station on the line in memory, serves the commands up to the power cut, and saves what the line holds.
+/// How the work on a station in memory ended.
+#[derive(Drop)]
+struct StationEnd {
+    /// How the commands were answered.
+    answered: Answered,
+    /// The fault with which they were served, if there is one.
+    served: Result<(), Fault>,
+    /// The fault with which the line was saved, if there is one.
+    saved: Result<(), Fault>,
+}
+
+/// Opens the station on the line in memory, serves the commands up to the power cut, and saves what the line holds. A fault is noted.
 pub(crate) fn run_fused<S: Store, W: Write>(
     alloc: Global,
     given: LoadedLine<S::Lock>,
     fuse: Fuse,
     store: &mut S,
-    answers: AnswerStreams<'_, W>,
+    output: &mut W,
+    failures: &mut Failures,
 ) -> ExitStatus
     requires fresh { IsFresh given.session.line given.session.site }
     requires old { given.session.is_old ≡ is_old given.session.site.seen.state.disk.bytes }
-    ensures { EndsRun true (S.files store.old) (S.files store.new) given.session.line given.session.site given.commands.items result }
+    ensures ends { EndsRun true (S.files store.old) (S.files store.new) given.session.line given.session.site given.commands.items result }
+    ensures noted { NotesWhy (IsOfAnswers result) result failures.old failures.new }
 {
     let LoadedLine { session, commands } = given;
     let Session {
@@ -51,10 +67,18 @@ pub(crate) fn run_fused<S: Store, W: Write>(
     // The sync at the opening of the station counts as a write too.
     let plan = FaultPlan::fused(u64::from(fuse.writes) + 1, Pattern::Fill(fuse.left));
     match open_over(alloc, site, is_old, plan) {
-        Ok(alone) => run_station(alloc, &line, alone, commands, store, answers),
+        Ok(alone) => {
+            let StationEnd {
+                answered,
+                served,
+                saved,
+            } = run_station(alloc, &line, alone, commands, store, output);
+            let ended = worse(failures.note_end(served), failures.note_end(saved));
+            worse(answered.status(), ended)
+        }
         Err((left, fault)) => {
             drop(commands);
-            give_up(alloc, &line, left, fault, store, answers.failures)
+            give_up(alloc, &line, left, fault, store, failures)
         }
     }
 }
@@ -106,6 +130,7 @@ fn give_up<D: Device + Drop, S: Store>(
     ensures status { ¬ IsFaultless result }
     ensures others { ChangesAmong (S.files store.old) (S.files store.new) (files_of line.now) }
     ensures refused { IsRefusal fault → S.files store.new ≡ S.files store.old }
+    ensures noted { Notes (met_by failures.old) (met_by failures.new) }
 {
     let is_refused = is_refused(&fault);
     let status = failures.note(of_open(fault));
@@ -116,6 +141,7 @@ fn give_up<D: Device + Drop, S: Store>(
     let saved = save_site(alloc, line, site, store);
     worse(status, failures.note_end(saved))
 }
+
 /// Serves the commands on a station in memory, and saves what its line holds, also after a fault.
 fn run_station<D: Device + Drop, S: Store, W: Write>(
     alloc: Global,
@@ -123,19 +149,22 @@ fn run_station<D: Device + Drop, S: Store, W: Write>(
     mut alone: Alone<ShadowSite<D>>,
     commands: Vec<Command>,
     store: &mut S,
-    answers: AnswerStreams<'_, W>,
-) -> ExitStatus
+    output: &mut W,
+) -> StationEnd
     requires disk { IsTrue alone.line.has_disk }
     requires slaves { length alone.line.sizes ≡ length line.now.images.items }
-    ensures { EndsStation true (S.files store.old) (S.files store.new) line.now alone commands.items result }
+    ensures others { ChangesAmong (S.files store.old) (S.files store.new) (files_of line.now) }
+    ensures saved { OnOk result.served (OnOk result.saved (SavesServed (S.files store.new) line.now alone commands.items result.answered)) }
 {
-    let AnswerStreams { output, failures } = answers;
-    let mut status = ExitStatus::Done;
+    let mut answered = Answered::AllAccepted;
     let slaves = line.images.len() as u16;
-    let served = serve_commands(&mut alone, slaves, commands, output, &mut status);
+    let served = serve_commands(&mut alone, slaves, commands, output, &mut answered);
     let (core, site) = alone.into_parts();
     drop(core);
     let saved = save_site(alloc, line, site, store);
-    let ended = worse(failures.note_end(served), failures.note_end(saved));
-    worse(status, ended)
+    StationEnd {
+        answered,
+        served,
+        saved,
+    }
 }

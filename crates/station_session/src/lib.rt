@@ -2,18 +2,12 @@
 //! and the line is recovered.
 #![tactic(auto)]
 
-mod answers;
 mod fused;
 mod logs;
-mod on_files;
 mod recovery;
 mod run;
-mod threads;
-mod watch;
 
-pub use answers::AnswerStreams;
 pub use fused::Fuse;
-pub use logs::{FilesLog, RunLog};
+pub use logs::FilesLog;
 pub use recovery::{Recovery, recover_line};
 pub use run::{Ran, RunNames, run_script};
-pub use watch::Watch;

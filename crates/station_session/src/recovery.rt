@@ -1,15 +1,14 @@
 //! The subcommand `recover`.
-ghost use Rattle.std.specs.Prelude.{◌≡◌, IfErr, IfOk, OnErr};
-ghost use Rattle.std.specs.Option.{option_map};
+ghost use Rattle.std.specs.Prelude.{◌≡◌, is_some, IfErr, IfOk, IsTrue, Ok, OnErr, OnOk};
 ghost use Rattle.station_line.specs.Refusals.{RefusesRecovery};
-ghost use Rattle.station_session.specs.Session.{EndsRecovery, RecoversFiles};
+ghost use Rattle.station_session.specs.Noting.{NotesWhy};
+ghost use Rattle.station_session.specs.Session.{EndsRecovery, RecoversFiles, calls_in};
 ghost use Rattle.station_line.specs.Opened.{IsFresh};
 
-use crate::answers::AnswerStreams;
-use crate::on_files::{Saved, Separate, WatchedSite, save_sound, take_apart};
-use crate::watch::Watch;
-use line_watch::{Cleared, Watched};
-use site_file::{FileDevice, Finished};
+use line_watch::{Cleared, Watch, Watched};
+use script_session::{reported_of, save_reported};
+use site_file::{FileDevice, FileLog};
+use site_shadow::ShadowSite;
 use station_alone::{Recovered, recover};
 use station_files::{ExitStatus, Failures, Fault, Store, worse};
 use station_line::{Session, load_session, of_journal, of_open, open_files, write_recovered};
@@ -21,14 +20,17 @@ use std::sync::Wait;
 
 /// How a recovery ended.
 #[derive(Drop)]
-pub struct Recovery<F> {
+pub struct Recovery {
     /// The exit status.
     pub status: ExitStatus,
-    /// The open files of the line, with all that was asked of them. None where one of them couldn't be opened, and so none was asked anything.
-    pub files: Option<Finished<F>>,
+    /// What is reported of the calls on the line's files. None where one of them couldn't be opened, and so none was asked anything.
+    pub reported: Option<FileLog>,
 }
 
-/// Recovers the line whose line file is `name`, on its files, and prints what was recovered. Returns the exit status, and the files that were open.
+/// A line on its open files, whose work counts for a progress.
+type WatchedSite<'p, F, T, R> = ShadowSite<Watched<'p, FileDevice<F>, T, R>>;
+
+/// Recovers the line whose line file is `name`, on its files, and prints what was recovered. Returns the exit status, and what was asked of the files.
 ///
 /// The files are read in this order: line file, images of the slaves, journal. After any later fault, which is noted, the files hold what
 /// was written so far, and another recovery completes it. What a power cut leaves in the open files at any moment, all of them together, is kept
@@ -44,17 +46,20 @@ pub fn recover_line<S: Store, W: Write, T: Write, R: Wait + Clock + AllocGlobal>
     watch: Watch<'_, T, R>,
     name: &str,
     store: &mut S,
-    answers: AnswerStreams<'_, W>,
-) -> Result<Recovery<S::File>, Fault>
+    output: &mut W,
+    failures: &mut Failures,
+) -> Result<Recovery, Fault>
     ensures recovered { IfOk result (λ recovery. RecoversFiles S.leads (S.files store.old) (S.files store.new) name.now recovery.status
-        (option_map (λ files. files.log) recovery.files)) }
+        (calls_in recovery.reported)) }
     ensures refused { IfErr result (RefusesRecovery (S.files store.old) S.leads name.now) }
     ensures same { OnErr result (S.files store.new ≡ S.files store.old) }
+    ensures noted { IfOk result (λ recovery. NotesWhy (recovery.status ≡ ExitStatus.Done) recovery.status failures.old failures.new) }
+    ensures unnoted { OnErr result (failures.new ≡ failures.old) }
 {
     let session = load_session(watch.rt.alloc(), name, store)?;
     let refusal = session.refusal;
     match refusal {
-        None => Ok(recover_session(watch, session, store, answers)),
+        None => Ok(recover_session(watch, session, store, output, failures)),
         Some(fault) => {
             drop(session);
             Err(of_journal(fault))
@@ -67,14 +72,14 @@ fn recover_session<S: Store, W: Write, T: Write, R: Wait + Clock + AllocGlobal>(
     watch: Watch<'_, T, R>,
     session: Session<S::Lock>,
     store: &mut S,
-    answers: AnswerStreams<'_, W>,
-) -> Recovery<S::File>
+    output: &mut W,
+    failures: &mut Failures,
+) -> Recovery
     requires fresh { IsFresh session.line session.site }
-    ensures { EndsRecovery (S.files store.old) (S.files store.new) session.line session.site.seen result.status
-        (option_map (λ files. files.log) result.files) }
+    ensures ends { EndsRecovery (S.files store.old) (S.files store.new) session.line session.site.seen result.status (calls_in result.reported) }
+    ensures noted { NotesWhy (result.status ≡ ExitStatus.Done) result.status failures.old failures.new }
 {
     let Watch { rt, progress } = watch;
-    let AnswerStreams { output, failures } = answers;
     let Session {
         line,
         site,
@@ -101,7 +106,7 @@ fn recover_session<S: Store, W: Write, T: Write, R: Wait + Clock + AllocGlobal>(
             drop(site);
             Recovery {
                 status: failures.note(fault),
-                files: None,
+                reported: None,
             }
         }
     }
@@ -115,30 +120,42 @@ fn recover_site<S: Store, W: Write, T: Write, R: Clock>(
     store: &mut S,
     output: &mut W,
     failures: &mut Failures,
-) -> Recovery<S::File>
+) -> Recovery
     requires { IsFresh line.now site }
-    ensures { EndsRecovery (S.files store.old) (S.files store.new) line.now site.entry.seen result.status
-        (option_map (λ files. files.log) result.files) }
+    ensures ends { EndsRecovery (S.files store.old) (S.files store.new) line.now site.entry.seen result.status (calls_in result.reported) }
+    ensures noted { NotesWhy (result.status ≡ ExitStatus.Done) result.status failures.old failures.new }
 {
     match recover(alloc, site) {
         Ok((alone, recovered)) => {
             let (core, left) = alone.into_parts();
             drop(core);
-            let Saved { saved, files } = save_sound(alloc, line, left, store);
-            let saved = failures.note_end(saved);
+            let (saved, reported) = save_reported(alloc, line, left, store);
+            let ended = failures.note_end(with_calls(saved, &reported));
             Recovery {
-                status: worse(saved, print_recovered(recovered, output, failures)),
-                files,
+                status: worse(ended, print_recovered(recovered, output, failures)),
+                reported: Some(reported),
             }
         }
-        Err((left, fault)) => {
-            let Separate { parts, files, .. } = take_apart(left);
-            drop(parts);
-            Recovery {
-                status: failures.note(of_open(fault)),
-                files,
+        Err((left, fault)) => Recovery {
+            status: failures.note(of_open(fault)),
+            reported: Some(reported_of(left)),
+        },
+    }
+}
+
+/// How a line was saved: with `Unserved` where the calls on its files aren't reported.
+fn with_calls(saved: Result<(), Fault>, reported: &FileLog) -> Result<(), Fault>
+    ensures { OnOk result ((saved ≡ Ok tt) × IsTrue (is_some reported.now.calls)) }
+{
+    match saved {
+        Ok(()) => {
+            if reported.calls.is_some() {
+                Ok(())
+            } else {
+                Err(Fault::Unserved)
             }
         }
+        Err(fault) => Err(fault),
     }
 }
 
@@ -147,7 +164,9 @@ fn print_recovered<W: Write>(
     recovered: Recovered,
     output: &mut W,
     failures: &mut Failures,
-) -> ExitStatus {
+) -> ExitStatus
+    ensures { NotesWhy (result ≡ ExitStatus.Done) result failures.old failures.new }
+{
     match write_recovered(recovered, output) {
         Ok(()) => ExitStatus::Done,
         Err(error) => failures.note(Fault::from(error)),

@@ -1,24 +1,20 @@
 //! The subcommand `run`.
-ghost use Rattle.std.specs.Prelude.{◌≡◌, is_some, false, IfErr, IfOk, IsTrue, None, OnErr};
+ghost use Rattle.std.specs.Prelude.{◌≡◌, is_some, false, IfErr, IfOk, IsTrue, OnErr};
 ghost use Rattle.station_files.specs.Faults.{IsFaultless};
+ghost use Rattle.station_line.specs.Answers.{IsOfAnswers, exit_status};
 ghost use Rattle.station_line.specs.Opened.{is_old, IsFresh};
 ghost use Rattle.station_line.specs.Refusals.{RefusesRun};
-ghost use Rattle.station_session.specs.RunFiles.{IsAllReported, IsNoneReported, KeepsRunFiles, RunKeepsFiles, RunsFollowed};
+ghost use Rattle.station_session.specs.Noting.{NotesWhy};
+ghost use Rattle.station_session.specs.RunFiles.{IsAllReported, IsNoneReported, KeepsRunFiles, RunKeepsFiles};
 ghost use Rattle.station_session.specs.Session.{EndsRun, RunsFiles};
 
-use crate::answers::AnswerStreams;
 use crate::fused::{Fuse, run_fused};
-use crate::logs::{FilesLog, RunLog, Served, with_all_reported};
-use crate::threads::run_threads;
-use crate::watch::Watch;
-use line_watch::{Cleared, Watched};
-use sii_edit::Command;
-use site_file::{FileDevice, FileLog, OpenFiles};
-use site_mem::FaultPlan;
-use site_shadow::{Lends, ShadowSite};
-use station_files::{ExitStatus, Failures, Fault, Store};
-use station_line::{LoadedLine, Session, load, of_open, open_files, open_station};
-use station_text::LineFile;
+use crate::logs::{FilesLog, with_all_reported};
+use line_watch::{Cleared, Watch, Watched};
+use script_session::{LineRun, RunLog, Start, Task, Work, run_line};
+use site_file::{FileDevice, OpenFiles};
+use station_files::{ExitStatus, Failures, Fault, Store, worse};
+use station_line::{Answered, LoadedLine, Session, load, open_files};
 use std::io::Write;
 use std::rt::Clock;
 use std::sync::Wait;
@@ -54,19 +50,13 @@ impl Ran {
         Ran {
             is_begun,
             status,
-            reported: RunLog::nothing(),
+            reported: RunLog {
+                opening: None,
+                desk: None,
+                after: None,
+            },
         }
     }
-}
-
-/// A line to be opened on a device, and the commands for it.
-#[derive(Drop)]
-struct Ready<D> {
-    site: ShadowSite<FaultPlan>,
-    device: D,
-    /// Whether the journal's version byte is other than 2.
-    is_old: bool,
-    commands: Vec<Command>,
 }
 
 /// Runs a script on a line: submits its commands in order, serves them by threads on the line's files, and prints the answer to each command
@@ -93,7 +83,8 @@ pub fn run_script<
     names: RunNames<'_>,
     fuse: Option<Fuse>,
     store: &mut S,
-    answers: AnswerStreams<'_, W>,
+    output: &mut W,
+    failures: &mut Failures,
 ) -> Result<Ran, Fault>
     ensures ran { IfOk result (λ ran. RunsFiles S.leads (is_some fuse) (S.files store.old) (S.files store.new) names.entry.line.now
         names.entry.script.now ran.status) }
@@ -104,10 +95,12 @@ pub fn run_script<
     ensures unbegun { IfOk result (λ ran. ran.is_begun ≡ false → IsNoneReported ran.reported) }
     ensures refused { IfErr result (RefusesRun (S.files store.old) S.leads names.entry.line.now names.entry.script.now) }
     ensures same { OnErr result (S.files store.new ≡ S.files store.old) }
+    ensures noted { IfOk result (λ ran. NotesWhy (IsOfAnswers ran.status) ran.status failures.old failures.new) }
+    ensures unnoted { OnErr result (failures.new ≡ failures.old) }
 {
     let RunNames { line, script } = names;
     match load(watch.rt.alloc(), line, script, store) {
-        Ok(given) => Ok(run_given(watch, given, fuse, store, answers)),
+        Ok(given) => Ok(run_given(watch, given, fuse, store, output, failures)),
         Err(fault) => Err(fault),
     }
 }
@@ -118,7 +111,8 @@ fn run_given<S: Store, W: Write, T: Write + Send, R: Wait + Threads + Clock + Al
     given: LoadedLine<S::Lock>,
     fuse: Option<Fuse>,
     store: &mut S,
-    answers: AnswerStreams<'_, W>,
+    output: &mut W,
+    failures: &mut Failures,
 ) -> Ran
     requires fresh { IsFresh given.session.line given.session.site }
     requires old { given.session.is_old ≡ is_old given.session.site.seen.state.disk.bytes }
@@ -129,10 +123,11 @@ fn run_given<S: Store, W: Write, T: Write + Send, R: Wait + Threads + Clock + Al
         → RunKeepsFiles S.File given.session.site.seen given.commands.items result.status result.reported }
     ensures reported { is_some fuse ≡ false → IsFaultless result.status → IsAllReported result.reported }
     ensures unbegun { result.is_begun ≡ false → IsNoneReported result.reported }
+    ensures noted { NotesWhy (IsOfAnswers result.status) result.status failures.old failures.new }
 {
     match fuse {
         Some(fuse) => {
-            let status = run_fused(watch.rt.alloc(), given, fuse, store, answers);
+            let status = run_fused(watch.rt.alloc(), given, fuse, store, output, failures);
             Ran::without_files(true, status)
         }
         None => match open_files(
@@ -141,17 +136,10 @@ fn run_given<S: Store, W: Write, T: Write + Send, R: Wait + Threads + Clock + Al
             &given.session.site,
             store,
         ) {
-            Ok(files) => {
-                let served = run_opened(watch, given, files, store, answers);
-                Ran {
-                    is_begun: true,
-                    status: served.status,
-                    reported: served.reported,
-                }
-            }
+            Ok(files) => run_opened(watch, given, files, store, output, failures),
             Err(fault) => {
                 drop(given);
-                Ran::without_files(false, answers.failures.note(fault))
+                Ran::without_files(false, failures.note(fault))
             }
         },
     }
@@ -163,16 +151,18 @@ fn run_opened<S: Store, W: Write, T: Write + Send, R: Wait + Threads + Clock + A
     given: LoadedLine<S::Lock>,
     files: OpenFiles<S::File>,
     store: &mut S,
-    answers: AnswerStreams<'_, W>,
-) -> Served<FileLog>
+    output: &mut W,
+    failures: &mut Failures,
+) -> Ran
     requires fresh { IsFresh given.session.line given.session.site }
     requires old { given.session.is_old ≡ is_old given.session.site.seen.state.disk.bytes }
     ensures ends { EndsRun false (S.files store.old) (S.files store.new) given.session.line given.session.site given.commands.items result.status }
+    ensures begun { IsTrue result.is_begun }
     ensures kept { RunKeepsFiles S.File given.session.site.seen given.commands.items result.status result.reported }
     ensures reported { IsFaultless result.status → IsAllReported result.reported }
+    ensures noted { NotesWhy (IsOfAnswers result.status) result.status failures.old failures.new }
 {
     let Watch { rt, progress } = watch;
-    let AnswerStreams { output, failures } = answers;
     let LoadedLine { session, commands } = given;
     let Session {
         line,
@@ -182,58 +172,48 @@ fn run_opened<S: Store, W: Write, T: Write + Send, R: Wait + Threads + Clock + A
         lock: _lock,
     } = session;
     watch.expect(commands.len());
-    let ready = Ready {
-        site,
-        device: Watched::new(FileDevice::new(files), progress, rt),
+    let start = Start {
+        site: site.with_device(Watched::new(FileDevice::new(files), progress, rt)),
         is_old,
-        commands,
     };
-    let served = run_site(
+    let task = Task {
+        work: Work {
+            commands,
+            tells_events: false,
+        },
+        turns: true,
+    };
+    let LineRun {
+        answers,
+        closed,
+        ended,
+        reported,
+    } = run_line(
         rt,
         &line,
-        ready,
+        start,
+        task,
         store,
         &mut Cleared::new(output, progress, rt),
-        failures,
     );
-    let served = with_all_reported(served, failures);
+    let noted = worse(failures.note_end(closed), note_answered(ended, failures));
+    let status = with_all_reported(worse(answers.status(), noted), &reported, failures);
     watch.erase();
-    served
+    Ran {
+        is_begun: true,
+        status,
+        reported,
+    }
 }
 
-/// Opens the station on this line, and serves the commands by threads.
-fn run_site<D: Lends + Send, S: Store, W: Write, R: Wait + Threads + AllocGlobal + Sync>(
-    rt: &R,
-    line: &LineFile,
-    ready: Ready<D>,
-    store: &mut S,
-    output: &mut W,
-    failures: &mut Failures,
-) -> Served<D::Logged>
-    requires fresh { IsFresh line.now ready.site }
-    requires old { ready.is_old ≡ is_old ready.site.seen.state.disk.bytes }
-    ensures ends { EndsRun false (S.files store.old) (S.files store.new) line.now ready.site ready.commands.items result.status }
-    ensures goes { RunsFollowed D.follows D.well D.tells ready.site.seen ready.commands.items result.status result.reported }
+/// The exit status that these answers give, or that of the fault, which is noted.
+fn note_answered(ended: Result<Answered, Fault>, failures: &mut Failures) -> ExitStatus
+    ensures answered { IfOk ended (λ answered. result ≡ exit_status answered) }
+    ensures fault { OnErr ended (¬ IsFaultless result) }
+    ensures noted { NotesWhy (IsOfAnswers result) result failures.old failures.new }
 {
-    let Ready {
-        site,
-        device,
-        is_old,
-        commands,
-    } = ready;
-    match open_station(rt.alloc(), site.with_device(device), is_old) {
-        Ok(alone) => {
-            let answers = AnswerStreams { output, failures };
-            run_threads(rt, line, alone, commands, store, answers)
-        }
-        Err((left, fault)) => {
-            let (parts, mut device) = left.into_parts();
-            drop(parts);
-            drop(commands);
-            Served {
-                status: failures.note(of_open(fault)),
-                reported: RunLog::of_opening(device.tell()),
-            }
-        }
+    match ended {
+        Ok(answered) => answered.status(),
+        Err(fault) => failures.note(fault),
     }
 }

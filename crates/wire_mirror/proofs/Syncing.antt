@@ -6,7 +6,7 @@ use Rattle.esc_model.specs.declared.rest.WordWrite.{WordWrite}
 use Rattle.site_file.specs.Owned.{file_at}
 use Rattle.wire_mirror.specs.declared.images.ImageCall.{ImageCall}
 use Rattle.wire_mirror.specs.declared.images.ImageCall.TheVariants as call
-use Rattle.wire_mirror.specs.Mirroring.{PutsWord, SyncsBelow, SyncsFile, put}
+use Rattle.wire_mirror.specs.Mirroring.{PutsWord, SyncsBelow, SyncsFile, put, synced}
 
 -- the file of one slave more
 pub below_more : {F : Type 0} (slave unsynced : ℕ) (files : List (Option F)) (old mid new : List ImageCall) → SyncsBelow slave unsynced files old mid
@@ -27,11 +27,19 @@ pub marked : (slave : ℕ) (write : WordWrite) (word : ℕ) (bytes : List ℕ) (
     → new ≡ mid ++ call.Marks slave ∷ [] → new ≡ old ++ put slave write true
 marked slave write word bytes succeeded old mid new word_is bytes_are is written marks = rw (marks, written, word_is, bytes_are, is, append_assoc) refl
 
--- or it failed
-pub unmarked : (slave : ℕ) (write : WordWrite) (word : ℕ) (bytes : List ℕ) (succeeded : Bool) (old new : List ImageCall)
-    → word ≡ write.word → bytes ≡ to_le_bytes w16 write.value → succeeded ≡ false → new ≡ old ++ call.Writes slave (word * 2) bytes succeeded ∷ []
-    → new ≡ old ++ put slave write false
-unmarked slave write word bytes succeeded old new word_is bytes_are is written = rw (written, word_is, bytes_are, is) refl
+-- or that failed
+pub unmarked : (slave : ℕ) (write : WordWrite) (word : ℕ) (bytes : List ℕ) (succeeded : Bool) (old mid new : List ImageCall)
+    → word ≡ write.word → bytes ≡ to_le_bytes w16 write.value → succeeded ≡ false → mid ≡ old ++ call.Writes slave (word * 2) bytes succeeded ∷ []
+    → new ≡ mid ++ call.Fails ∷ [] → new ≡ old ++ put slave write false
+unmarked slave write word bytes succeeded old mid new word_is bytes_are is written fails = rw (fails, written, word_is, bytes_are, is, append_assoc) refl
+
+-- a file was synced, or that failed
+pub synced_well : (slave : ℕ) (succeeded : Bool) (old new : List ImageCall) → succeeded ≡ true → new ≡ old ++ call.Syncs slave succeeded ∷ [] → new ≡ old ++ synced slave true
+synced_well slave succeeded old new is syncs = rw (syncs, is) refl
+
+pub synced_badly : (slave : ℕ) (succeeded : Bool) (old mid new : List ImageCall) → succeeded ≡ false → mid ≡ old ++ call.Syncs slave succeeded ∷ []
+    → new ≡ mid ++ call.Fails ∷ [] → new ≡ old ++ synced slave false
+synced_badly slave succeeded old mid new is syncs fails = rw (fails, syncs, is, append_assoc) refl
 
 -- the file was looked up
 pub there : {F : Type 0} (files items : List (Option F)) (slave : ℕ) (place : Option F) (file : F) → items ≡ files → slave < length items

@@ -1,1 +1,2 @@
+pub mod JournalWrites
 pub mod Mirroring

@@ -12,10 +12,15 @@ use Rattle.wire_mirror.specs.declared.images.ImageCall.TheVariants as call
 abbrev pub writes_word : (slave : ℕ) → WordWrite → (succeeded : Bool) → ImageCall
 writes_word slave write succeeded = call.Writes slave (write.word * 2) (to_le_bytes w16 write.value) succeeded
 
--- a word is written to the file of a slave, which is marked as unsynced if that succeeds
+-- a word is written to the file of a slave, which is marked as unsynced if that succeeds; else each later look finds the failure
 abbrev pub put : (slave : ℕ) → WordWrite → (succeeded : Bool) → List ImageCall
 put slave write true = writes_word slave write true ∷ call.Marks slave ∷ []
-put slave write false = writes_word slave write false ∷ []
+put slave write false = writes_word slave write false ∷ call.Fails ∷ []
+
+-- the file of a slave is synced; if that fails, each later look finds the failure
+abbrev pub synced : (slave : ℕ) → (succeeded : Bool) → List ImageCall
+synced slave true = call.Syncs slave true ∷ []
+synced slave false = call.Syncs slave false ∷ call.Fails ∷ []
 
 -- A word is written to the file of its slave, if there is one, and nothing else is done.
 abbrev pub PutsWord : {F : Type 0} → Option F → (slave : ℕ) → WordWrite → (old new : List ImageCall) → Type 0
@@ -34,7 +39,7 @@ Mirrors file slave (Some write) (FailedWith left) old new = new ≡ old
 -- The file of a slave is synced, if there is one and it is marked: bit i of `unsynced` stands for file i. Nothing else is done.
 pub data SyncsFile {F : Type 0} (unsynced slave : ℕ) (file : Option F) (old new : List ImageCall) : Type 0 where
   keeps : (is_some file ≡ false) ⊎ (bit_at unsynced (slave % 64) ≡ 0) → new ≡ old → SyncsFile unsynced slave file old new
-  syncs : (succeeded : Bool) → bit_at unsynced (slave % 64) ≡ 1 → new ≡ old ++ call.Syncs slave succeeded ∷ [] → SyncsFile unsynced slave file old new
+  syncs : (succeeded : Bool) → bit_at unsynced (slave % 64) ≡ 1 → new ≡ old ++ synced slave succeeded → SyncsFile unsynced slave file old new
 
 -- The same of the files of the slaves below this one, in order.
 abbrev pub SyncsBelow : {F : Type 0} → (slave : ℕ) → (unsynced : ℕ) → List (Option F) → (old new : List ImageCall) → Type 0

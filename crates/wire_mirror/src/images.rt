@@ -21,7 +21,7 @@ pub struct Images<F> {
 }
 
 // What is done with image files. Each is noted: contracts say what was done with which file, at which place, and in which order. That what is noted is
-// what is done is read from the four functions that do it: `mark`, `take_marks`, `write_at` and `sync_file`.
+// what is done is read from the five functions that do it: `mark`, `take_marks`, `write_at`, `sync_file` and `fail`.
 
 /// What is done with the image files of a line.
 #[derive(Drop)]
@@ -48,6 +48,8 @@ pub enum ImageCall {
         /// Whether that succeeds.
         succeeded: bool,
     },
+    /// From now on each look finds that a call has failed.
+    Fails,
 }
 
 impl<F> Images<F> {
@@ -81,6 +83,14 @@ impl<F> Images<F> {
         calls.note(&ImageCall::TakesMarks(unsynced));
         unsynced
     }
+
+    /// Lets each look from now on find that a call has failed.
+    fn fail(&self, calls: &mut History<ImageCall>)
+        ensures { calls.new ≡ calls.old ++ call.Fails ∷ [] }
+    {
+        self.has_failed.store(true, SeqCst);
+        calls.note(&ImageCall::Fails);
+    }
 }
 
 impl<F: RandomAccessFile> Images<F> {
@@ -94,6 +104,8 @@ impl<F: RandomAccessFile> Images<F> {
         let place = u64::from(write.word) * 2;
         if self.write_at(file, slave, place, write.value.to_le_bytes(), calls) {
             self.mark(slave, calls);
+        } else {
+            self.fail(calls);
         }
     }
 
@@ -116,9 +128,6 @@ impl<F: RandomAccessFile> Images<F> {
             bytes,
             succeeded,
         });
-        if !succeeded {
-            self.has_failed.store(true, SeqCst);
-        }
         succeeded
     }
 
@@ -140,7 +149,9 @@ impl<F: RandomAccessFile> Images<F> {
             return;
         };
         if (unsynced >> (slave % 64)) % 2 == 1 {
-            self.sync_file(file, slave, calls);
+            if !self.sync_file(file, slave, calls) {
+                self.fail(calls);
+            }
         }
     }
 
@@ -151,9 +162,6 @@ impl<F: RandomAccessFile> Images<F> {
     {
         let succeeded = file.sync_data().is_ok();
         calls.note(&ImageCall::Syncs { slave, succeeded });
-        if !succeeded {
-            self.has_failed.store(true, SeqCst);
-        }
         succeeded
     }
 }

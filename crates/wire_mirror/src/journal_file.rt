@@ -1,6 +1,10 @@
 //! The journal's file beside the image files.
+ghost use Rattle.std.specs.Prelude.{◌≡◌, ◌++◌, ◌∷◌, [], length, is_ok};
+ghost use Rattle.wire_mirror.specs.JournalWrites.{WritesAfterLook};
+ghost use Rattle.wire_mirror.specs.declared.journal_file.JournalCall.TheVariants as call;
 
 use crate::images::Images;
+use sii_words::History;
 use site_file::RandomAccessFile;
 use std::io;
 
@@ -19,6 +23,63 @@ impl<'m, F> JournalFile<'m, F> {
     }
 }
 
+// What is done for a write is noted. That what is noted is what is done is read from `look` and `write_file`.
+
+/// What is done for a write to the journal.
+#[derive(Drop)]
+enum JournalCall {
+    /// It is looked whether a call on an image file has failed. This was found.
+    Looks(bool),
+    /// The journal's file is written.
+    Writes {
+        /// The place, in bytes.
+        at: u64,
+        /// How many bytes.
+        count: usize,
+        /// Whether that succeeds.
+        succeeded: bool,
+    },
+}
+
+impl<'m, F: RandomAccessFile> JournalFile<'m, F> {
+    /// Looks whether a call on an image file has failed.
+    fn look(&self, calls: &mut History<JournalCall>) -> bool
+        ensures { calls.new ≡ calls.old ++ call.Looks result ∷ [] }
+    {
+        let found = self.images.has_failed();
+        calls.note(&JournalCall::Looks(found));
+        found
+    }
+
+    /// Writes to the journal's file.
+    fn write_file(&self, bytes: &[u8], at: u64, calls: &mut History<JournalCall>) -> io::Result<()>
+        ensures { calls.new ≡ calls.old ++ call.Writes at (length bytes.now) (is_ok result) ∷ [] }
+    {
+        let written = self.file.write_all_at(bytes, at);
+        calls.note(&JournalCall::Writes {
+            at,
+            count: bytes.len(),
+            succeeded: written.is_ok(),
+        });
+        written
+    }
+
+    /// Writes to the journal's file, unless a call on an image file has failed.
+    fn write_after_look(
+        &self,
+        bytes: &[u8],
+        at: u64,
+        calls: &mut History<JournalCall>,
+    ) -> io::Result<()>
+        ensures { WritesAfterLook at (length bytes.now) result calls.old calls.new }
+    {
+        if self.look(calls) {
+            return Err(io::Error::other("an image file can't be written or synced"));
+        }
+        self.write_file(bytes, at, calls)
+    }
+}
+
 impl<'m, F: RandomAccessFile> RandomAccessFile for JournalFile<'m, F> {
     fn len(&self) -> io::Result<u64> {
         self.file.len()
@@ -30,10 +91,7 @@ impl<'m, F: RandomAccessFile> RandomAccessFile for JournalFile<'m, F> {
 
     /// Fails too, with nothing written, where an image file couldn't be written or synced.
     fn write_all_at(&self, bytes: &[u8], at: u64) -> io::Result<()> {
-        if self.images.has_failed() {
-            return Err(io::Error::other("an image file can't be written or synced"));
-        }
-        self.file.write_all_at(bytes, at)
+        self.write_after_look(bytes, at, &mut History::new())
     }
 
     fn set_len(&self, length: u64) -> io::Result<()> {

@@ -4,6 +4,7 @@ ghost use Rattle.std.specs.Prelude.{◌<◌};
 use crate::line::PracticeLine;
 use ecat_frame::Frame;
 use esc_model::WordWrite;
+use sii_words::MAX_SLAVES;
 use site_file::RandomAccessFile;
 use site_shadow::Pattern;
 use std::io;
@@ -15,7 +16,7 @@ pub struct PracticeFiles<F> {
     line: PracticeLine,
     images: Vec<F>,
     /// The word that each slave writes.
-    writing: [Option<WordWrite>; 64],
+    writing: [Option<WordWrite>; MAX_SLAVES],
 }
 
 impl<F: RandomAccessFile> PracticeFiles<F> {
@@ -24,7 +25,7 @@ impl<F: RandomAccessFile> PracticeFiles<F> {
         PracticeFiles {
             line,
             images,
-            writing: [None; 64],
+            writing: [None; MAX_SLAVES],
         }
     }
 
@@ -64,7 +65,7 @@ impl<F: RandomAccessFile> PracticeFiles<F> {
     }
 
     fn note_all(&mut self) -> io::Result<()> {
-        for slave in 0..64usize {
+        for slave in 0..MAX_SLAVES {
             self.note(slave)?;
         }
         Ok(())

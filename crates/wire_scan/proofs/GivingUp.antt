@@ -15,7 +15,10 @@ use Rattle.wire_faults.specs.Faults.{IsOfStream}
 use Rattle.line_changes.specs.declared.changes.ChangedWord.{ChangedWord}
 use Rattle.wire_faults.specs.declared.faults.WireFault.{WireFault}
 use Rattle.wire_scan.specs.Opening.{IsFound}
-use Rattle.wire_scan.specs.Pending.{GivesUp, GivesUpFound, GivesUpPending, IsPending, PendsNothing}
+use Rattle.wire_scan.specs.declared.asked.Mend.{Mend}
+use Rattle.wire_scan.specs.Keeping.{AreOfImages}
+use Rattle.wire_scan.specs.Pending.{GivesUp, GivesUpFound, GivesUpPending, IsPending, PendsNothing, WritesImageFirst, WritesInOrder, let_pass}
+use Rattle.wire_scan.specs.Pending.WritesInOrder.{keeps, writes}
 
 -- the name at a place of a list
 pub named_at : (images : List (String Global)) (slave : ℕ) (image : String Global) → slave < length images → image ≡ get_or images slave image
@@ -45,6 +48,24 @@ given_up old mid new line plant bytes slave image journal named has first held l
   kept = λ separate. subst (λ (found : Option (Option (List ℕ))). IfSome found (λ held. IsSomeAnd held (λ there. bytes_of (words_of plant slave) ≡ there))) (sym (last image separate)) has;
 }
 
+-- the image file was written first, and no file was changed before
+pub first_after : (said : Option ℕ) (slave : ℕ) (old mid new : Known) (line : LineFile) (plant : List (List ℕ)) → said ≡ Some slave → mid ≡ old
+    → WritesImageFirst mid new line plant slave → IfSome said (WritesImageFirst old new line plant)
+first_after said slave old mid new line plant is same first =
+    subst (λ (o : Option ℕ). IfSome o (WritesImageFirst old new line plant)) (sym is) (subst (λ (files : Known). WritesImageFirst files new line plant slave) same first)
+
+-- the same of a line that was found
+pub first_found : (said : Option ℕ) (old mid new : Known) (name : List ℕ) (line : LineFile) (plant : List (List ℕ)) (bytes : List ℕ) → mid ≡ old → IsFound old name line plant bytes
+    → IfSome said (WritesImageFirst mid new line plant) → IfSome said (WritesInOrder old new name)
+first_found None old mid new name line plant bytes same found first = tt
+first_found (Some slave) old mid new name line plant bytes same found first =
+    writes line plant bytes found (subst (λ (files : Known). WritesImageFirst files new line plant slave) same first)
+
+-- no file was changed
+pub none_written : (said : Option ℕ) (old new : Known) (name : List ℕ) → new ≡ old → IfSome said (WritesInOrder old new name)
+none_written None old new name same = tt
+none_written (Some slave) old new name same = keeps same
+
 -- a word of the slave was pending
 pub given_pending : (said : Option ℕ) (slave : ℕ) (result : Result (Unit {0}) WireFault) (old mid new : Known) (line : LineFile) (plant : List (List ℕ)) (bytes : List ℕ) (words : List ChangedWord)
     → said ≡ Some slave → mid ≡ old → IsPending plant bytes words → ¬ PendsNothing words slave → OnOk result (GivesUpFound mid new line plant bytes slave)
@@ -54,13 +75,13 @@ given_pending said slave result old mid new line plant bytes words is same pendi
     (on_ok_weaker result (λ gives. record { gives = subst (λ (files : Known). GivesUpFound files new line plant bytes slave) same gives; words = words; pending = pending; some = some }) given)
 
 -- the line was found
-pub given_found : (said : Option ℕ) (result : Result (Unit {0}) WireFault) (old mid new : Known) (name : List ℕ) (line : LineFile) (plant : List (List ℕ)) (bytes : List ℕ)
-    → mid ≡ old → IsFound old name line plant bytes → IfSome said (λ one. OnOk result (GivesUpPending mid new line plant bytes one))
-    → IfSome said (λ one. OnOk result (GivesUp old new name one))
-given_found None result old mid new name line plant bytes same found given = tt
-given_found (Some slave) result old mid new name line plant bytes same found given =
+pub given_found : (said : Option ℕ) (result : Result (Unit {0}) WireFault) (old mid new : Known) (name : List ℕ) (mends passing : List Mend) (line : LineFile) (plant : List (List ℕ)) (bytes : List ℕ)
+    → mid ≡ old → IsFound old name line plant bytes → passing ≡ let_pass said mends → AreOfImages old line passing bytes plant
+    → IfSome said (λ one. OnOk result (GivesUpPending mid new line plant bytes one)) → IfSome said (λ one. OnOk result (GivesUp old new name mends one))
+given_found None result old mid new name mends passing line plant bytes same found pass kept given = tt
+given_found (Some slave) result old mid new name mends passing line plant bytes same found pass kept given =
     on_ok_weaker result
-    (λ gives. record { line = line; plant = plant; bytes = bytes; found = found; gives = subst (λ (files : Known). GivesUpPending files new line plant bytes slave) same gives }) given
+    (λ gives. record { line = line; plant = plant; bytes = bytes; found = found; kept = subst (λ (said : List Mend). AreOfImages old line said bytes plant) pass kept; gives = subst (λ (files : Known). GivesUpPending files new line plant bytes slave) same gives }) given
 
 -- where a fault comes that isn't of a file or memory, nothing is written
 pub refused_after : (result : Result (Unit {0}) WireFault) (old mid new : Known) → mid ≡ old → IfErr result (λ fault. ¬ IsOfStream fault → new ≡ mid) → IfErr result (λ fault. ¬ IsOfStream fault → new ≡ old)

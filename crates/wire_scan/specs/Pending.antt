@@ -1,5 +1,5 @@
 -- What a recovery is still to write, and a slave that is given up.
-use Rattle.std.specs.Prelude.{◌≡◌, ◌≢◌, ℕ, List, [], ◌∷◌, length, map, Option, Some, slice_get, string_bytes, All}
+use Rattle.std.specs.Prelude.{◌≡◌, ◌≢◌, ℕ, List, [], ◌∷◌, length, map, Option, None, Some, replicate, slice_get, slice_set, string_bytes, All}
 use Rattle.sii_words.specs.Plant.{words_of}
 use Rattle.sii_words.specs.Redo.{redone}
 use Rattle.sii_words.specs.Words.{bytes_of}
@@ -12,6 +12,9 @@ use Rattle.station_files.specs.Files.{Known, HasBytes, Holds, ChangesAmong}
 use Rattle.station_files.specs.LineFiles.{names_of}
 use Rattle.line_changes.specs.declared.changes.ChangedWord.{ChangedWord}
 use Rattle.line_changes.specs.Changes.{changes_between}
+use Rattle.wire_scan.specs.declared.asked.Mend.{Mend}
+use Rattle.wire_scan.specs.declared.asked.Mend.TheVariants as mend
+use Rattle.wire_scan.specs.Keeping.{AreOfImages}
 use Rattle.wire_scan.specs.Opening.{IsFound}
 
 -- These are the words in which slaves with these words differ from what a recovery makes of them, with the live batches of a journal with these bytes.
@@ -40,10 +43,27 @@ pub record GivesUpPending (old new : Known) (line : LineFile) (plant : List (Lis
   pub pending : IsPending plant bytes words
   pub some : ¬ PendsNothing words slave
 
--- the same of a line that was found
-pub record GivesUp (old new : Known) (name : List ℕ) (slave : ℕ) : Type 0 where
+-- what counts as right of each slave, where one is given up: that one may have other words than its image file; where none is, each may
+abbrev pub let_pass : Option ℕ → List Mend → List Mend
+let_pass None mends = replicate 64 mend.Slave
+let_pass (Some slave) mends = slice_set mends slave mend.Slave
+
+-- the same of a line that was found, of which no slave but this one has other words than its image file, unless something is said of it
+pub record GivesUp (old new : Known) (name : List ℕ) (mends : List Mend) (slave : ℕ) : Type 0 where
   pub line : LineFile
   pub plant : List (List ℕ)
   pub bytes : List ℕ
   pub found : IsFound old name line plant bytes
+  pub kept : AreOfImages old line (let_pass (Some slave) mends) bytes plant
   pub gives : GivesUpPending old new line plant bytes slave
+
+-- Where the journal's file has changed, the image file of this slave has the words that the slave has, unless the journal has its name.
+abbrev pub WritesImageFirst : (old new : Known) → LineFile → List (List ℕ) → (slave : ℕ) → Type 0
+WritesImageFirst old new line plant slave = (image : List ℕ) → slice_get (names_of line) slave ≡ Some image → image ≢ string_bytes line.journal
+    → new (string_bytes line.journal) ≢ old (string_bytes line.journal) → HasBytes new image (bytes_of (words_of plant slave))
+
+-- The same of a line that was found, or no file has changed.
+pub data WritesInOrder (old new : Known) (name : List ℕ) (slave : ℕ) : Type 0 where
+  keeps : new ≡ old → WritesInOrder old new name slave
+  writes : (line : LineFile) (plant : List (List ℕ)) (bytes : List ℕ) → IsFound old name line plant bytes → WritesImageFirst old new line plant slave
+      → WritesInOrder old new name slave

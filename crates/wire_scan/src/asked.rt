@@ -1,5 +1,6 @@
 //! What a user asks for that isn't done where nothing is said.
 
+use sii_words::MAX_SLAVES;
 use station_rows::Form;
 
 /// What a call on a line is to do that it doesn't do, or refuses, where nothing is said.
@@ -33,7 +34,7 @@ pub enum Mend {
 }
 
 /// What is right for each slave of a line.
-pub type Mends = [Mend; 64];
+pub type Mends = [Mend; MAX_SLAVES];
 
 /// What is reported of the work on a line, beside its answers.
 #[derive(Clone, Copy)]

@@ -13,8 +13,8 @@ use crate::plan::is_there;
 use crate::validating::copies_of;
 use jrn_format::Batch;
 use sii_edit::{Command, Edit, EditList};
-use sii_words::{ImageFile, Plant, Words};
-use slave_match::{Difference, Reason, difference_between, reason_of, redo_batches};
+use sii_words::{ImageFile, MIN_WORDS, Plant, Words};
+use slave_match::{Difference, Reason, difference_between, is_same_type, reason_of, redo_batches};
 use station_files::{Fault, Store, load_slave};
 use std::alloc::{AllocError, Global};
 use wire_faults::WireFault;
@@ -29,10 +29,6 @@ pub(crate) struct Kept {
 }
 
 /// The words of these image files. None where one isn't there.
-///
-/// # Errors
-///
-/// As for `load_slave`.
 pub(crate) fn load_images<S: Store>(
     alloc: Global,
     names: &[String],
@@ -167,10 +163,6 @@ pub(crate) enum Beside {
 }
 
 /// What is seen of each slave beside its image file, where these batches are live in the journal.
-///
-/// # Errors
-///
-/// Memory was refused.
 pub(crate) fn compare_all(
     alloc: Global,
     slaves: &[Words],
@@ -228,15 +220,9 @@ fn refused(line: Side<'_>, image: &Option<Words>, kept: &Words, mend: Mend) -> O
         Mend::Unsaid => false,
         Mend::Slave => true,
         Mend::File => is_as_long,
-        Mend::Exchanged => is_as_long && is_of_type(line.words, image),
+        Mend::Exchanged => is_as_long && is_same_type(line.words.identity(), image.identity()),
     };
     if is_allowed { None } else { Some(found) }
-}
-
-/// Whether a slave has the vendor and the product of this image file.
-fn is_of_type(words: &Words, image: &Words) -> bool {
-    let (has, kept) = (words.identity(), image.identity());
-    has.vendor == kept.vendor && has.product == kept.product
 }
 
 /// The words of each image file, or those of its slave where it isn't there or has another number of them.
@@ -336,7 +322,7 @@ fn own_serial(found: &Words, kept: &Words) -> Result<Words, AllocError>
     ensures { IfOk result (λ image. image ≡ with_serial found.now kept.now) }
 {
     let mut image = kept.try_copy()?;
-    if found.len() >= 64 && image.len() >= 64 {
+    if found.len() >= MIN_WORDS && image.len() >= MIN_WORDS {
         image.set(14, found.get(14));
         image.set(15, found.get(15));
     }

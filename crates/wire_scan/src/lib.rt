@@ -27,5 +27,5 @@ pub use scan::scan_line;
 pub use scan_beside::scan_files;
 pub use sizes::sizes_of_images;
 pub use validating::{
-    validate_commands, validate_image, validate_images, validate_slaves, validate_states,
+    copies_of, validate_commands, validate_image, validate_images, validate_slaves, validate_states,
 };

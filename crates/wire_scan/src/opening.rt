@@ -18,7 +18,7 @@ use crate::keeping::{Kept, load_images, validate_kept};
 use crate::sizes::sizes_of;
 use crate::validating::{validate_slaves, validate_states};
 use sii_edit::Command;
-use sii_words::Words;
+use sii_words::{MAX_SLAVES, Words};
 use site_file::OpenFiles;
 use station_files::{
     Entry, Fault, MOST_OF_JOURNAL, Place, Store, Wrong, keep_line_separate, load_line, read_file,
@@ -43,7 +43,7 @@ pub struct FoundWire<L> {
     /// The commands that write image files to their slaves, as was said.
     pub mends: Vec<Command>,
     /// What the slaves were in as they were found.
-    pub states: [SlaveState; 64],
+    pub states: [SlaveState; MAX_SLAVES],
     /// The bytes of the journal's file.
     pub journal: Vec<u8>,
     /// The lock of the journal, which keeps other stations away.

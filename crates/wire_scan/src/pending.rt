@@ -3,9 +3,9 @@ ghost use Rattle.std.specs.Prelude.{◌≡◌, ◌≤◌, length, None, IfErr, I
 ghost use Rattle.station_files.specs.Faults as station;
 ghost use Rattle.wire_faults.specs.Faults.{IsOfStream};
 ghost use Rattle.wire_faults.specs.declared.faults.WireFault.TheVariants.{NothingPending};
-ghost use Rattle.wire_scan.specs.Pending.{GivesUp, GivesUpFound, GivesUpPending, IsPending, PendsNothing};
+ghost use Rattle.wire_scan.specs.Pending.{GivesUp, GivesUpFound, GivesUpPending, IsPending, PendsNothing, WritesImageFirst, WritesInOrder, let_pass};
 
-use crate::asked::{Mend, ScanOptions};
+use crate::asked::{Mend, Mends, ScanOptions};
 use crate::journals::{sizes_of, validate_journal};
 use crate::keeping::recovered;
 use crate::opening::{FoundWire, find_line};
@@ -55,7 +55,8 @@ pub fn list_pending<R: Clock + AllocGlobal, W: Wire, S: Store, O: Write>(
 ) -> Result<(), WireFault>
     ensures listed { order.entry.gives_up ≡ None → S.files store.new ≡ S.files store.old }
     ensures given { IfSome order.entry.gives_up (λ slave.
-        OnOk result (GivesUp (S.files store.old) (S.files store.new) order.entry.line.now slave)) }
+        OnOk result (GivesUp (S.files store.old) (S.files store.new) order.entry.line.now order.entry.asked.mends slave)) }
+    ensures first { IfSome order.entry.gives_up (WritesInOrder (S.files store.old) (S.files store.new) order.entry.line.now) }
     ensures refused { IfErr result (λ fault. ¬ IsOfStream fault → S.files store.new ≡ S.files store.old) }
 {
     match find_line(rt, wire, order.line, options_of(order), store) {
@@ -68,19 +69,30 @@ pub fn list_pending<R: Clock + AllocGlobal, W: Wire, S: Store, O: Write>(
 }
 
 /// How the line is found: no slave is refused for other words than those of its image file where nothing is given up, and else all but the one that is.
-fn options_of(order: PendingOrder<'_>) -> ScanOptions {
-    let mut mends = order.asked.mends;
-    for (slave, said) in mends.iter_mut().enumerate() {
-        match order.gives_up {
-            Some(given) if usize::from(given) != slave => {}
-            _ => *said = Mend::Slave,
-        }
-    }
+fn options_of(order: PendingOrder<'_>) -> ScanOptions
+    ensures { result.mends ≡ let_pass order.entry.gives_up order.entry.asked.mends }
+{
     ScanOptions {
         is_forced: true,
-        mends,
+        mends: let_pass(order.gives_up, order.asked.mends),
         ..order.asked
     }
+}
+
+/// What counts as right of each slave.
+fn let_pass(gives_up: Option<u16>, mends: Mends) -> Mends
+    ensures { result ≡ let_pass gives_up mends }
+{
+    let Some(slave) = gives_up else {
+        return [Mend::Slave; 64];
+    };
+    let place = usize::from(slave);
+    if place >= mends.len() {
+        return mends;
+    }
+    let mut passing = mends;
+    passing[place] = Mend::Slave;
+    passing
 }
 
 /// Prints what is pending on a line that was found, and gives a slave up if that is said.
@@ -97,6 +109,7 @@ fn list_found<S: Store, O: Write>(
     ensures listed { order.entry.gives_up ≡ None → S.files store.new ≡ S.files store.old }
     ensures given { IfSome order.entry.gives_up (λ slave. OnOk result (GivesUpPending (S.files store.old) (S.files store.new)
         found.now.line found.now.slaves.items found.now.journal.items slave)) }
+    ensures first { IfSome order.entry.gives_up (WritesImageFirst (S.files store.old) (S.files store.new) found.now.line found.now.slaves.items) }
     ensures refused { IfErr result (λ fault. ¬ IsOfStream fault → S.files store.new ≡ S.files store.old) }
 {
     let pending = pending_words(alloc, found, store)?;
@@ -219,6 +232,7 @@ fn give_up<S: Store>(
     requires most { length found.now.slaves.items ≤ 64 }
     ensures given { OnOk result (GivesUpFound (S.files store.old) (S.files store.new)
         found.now.line found.now.slaves.items found.now.journal.items slave) }
+    ensures first { WritesImageFirst (S.files store.old) (S.files store.new) found.now.line found.now.slaves.items slave }
     ensures refused { IfErr result (λ fault. ¬ IsOfStream fault → S.files store.new ≡ S.files store.old) }
 {
     let place = usize::from(slave);

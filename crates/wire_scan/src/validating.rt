@@ -130,7 +130,11 @@ pub fn validate_commands(
 }
 
 /// A copy of the slaves' words.
-pub(crate) fn copies_of(alloc: Global, slaves: &[Words]) -> Result<Vec<Words>, AllocError>
+///
+/// # Errors
+///
+/// Memory was refused.
+pub fn copies_of(alloc: Global, slaves: &[Words]) -> Result<Vec<Words>, AllocError>
     ensures { IfOk result (λ copies. copies.items ≡ slaves.now) }
 {
     let mut copies = Vec::new(alloc);

@@ -1,5 +1,5 @@
 -- A recovery after a desk to which no command was submitted.
-use Rattle.std.proofs.Common.{◌≡◌, ℕ, Result, Ok, Err, sym, subst}
+use Rattle.std.proofs.Common.{◌≡◌, ℕ, false, Result, Ok, Err, sym, subst}
 use Rattle.std.specs.Prelude.{IfOk}
 use Rattle.site_core.specs.Line.{Line}
 use Rattle.site_core.specs.State.{Seen}
@@ -16,7 +16,7 @@ use Rattle.script_session.specs.AtDesk.{IsServedReported}
 use Rattle.script_session.specs.Redoing.{IsRedone, KeepsLine}
 use Rattle.script_session.proofs.RedoLaws.{begins-still}
 use Rattle.wire_session.specs.declared.redoing.ByThreads.{ByThreads}
-use Rattle.wire_session.specs.Slaves.{LedAfterDesk, LedThroughout}
+use Rattle.script_session.specs.Running.{LedAfterDesk, LedThroughout}
 use Rattle.wire_session.specs.Redoing.{BeginsAgain, RecoversAfter, RecoversByThreads, RedoesOpened}
 
 -- the recovery after the desk begins the session of the station again
@@ -55,15 +55,15 @@ module _ {E T : Type 0} where
   counts-opened (Err fault) site opened found opens redoes = tt
 
   pub reported-after : {D : Type 0} (follows : D → Seen → Type 0) (well : D → Type 0) (tells : D → T → Type 0) (result : Result (ByThreads Station T) E) (opened : Station) (reported : DeskLog T) (left : SiteValue)
-      → IsServedReported follows well tells opened reported left → IfOk result (λ r. Follows left.seen r.alone.seen) → IfOk result (λ r. r.reported ≡ reported)
-      → IfOk result (λ r. LedAfterDesk follows well tells r.reported opened r.alone.seen)
+      → IsServedReported follows well tells false opened reported left → IfOk result (λ r. Follows left.seen r.alone.seen) → IfOk result (λ r. r.reported ≡ reported)
+      → IfOk result (λ r. LedAfterDesk follows well tells false r.reported opened r.alone.seen)
   reported-after follows well tells (Ok r) opened reported left redone after same =
-      record { left = left; served = subst (λ (t : DeskLog T). IsServedReported follows well tells opened t left) (sym same) redone; after = after }
+      record { left = left; served = subst (λ (t : DeskLog T). IsServedReported follows well tells false opened t left) (sym same) redone; after = after }
   reported-after follows well tells (Err fault) opened reported left redone after same = tt
 
   pub reported-opened : {D : Type 0} (follows : D → Seen → Type 0) (well : D → Type 0) (tells : D → T → Type 0) (result : Result (ByThreads Station T) E) (site : SiteValue) (opened : Station) (found : Found)
-      → OpensCounted site.line site.seen opened found → IfOk result (λ r. LedAfterDesk follows well tells r.reported opened r.alone.seen)
-      → IfOk result (λ r. LedThroughout follows well tells r.reported site r.alone.seen)
+      → OpensCounted site.line site.seen opened found → IfOk result (λ r. LedAfterDesk follows well tells false r.reported opened r.alone.seen)
+      → IfOk result (λ r. LedThroughout follows well tells false r.reported site r.alone.seen)
   reported-opened follows well tells (Ok r) site opened found opens after =
       record { opened = opened; line = opens.1.line; opens = opens.1.quiet.follows; after = after }
   reported-opened follows well tells (Err fault) site opened found opens after = tt

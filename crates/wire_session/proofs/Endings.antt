@@ -1,6 +1,6 @@
 -- How the work on a line on a wire ends: what was written before it, and what is told after it.
 use Rattle.std.proofs.Common.{◌≡◌, Result, Ok, Err, IsErrAnd, inl, inr, ap, sym, subst, ◌∙◌}
-use Rattle.std.specs.Prelude.{IfErr}
+use Rattle.std.specs.Prelude.{IfOk}
 use Rattle.std.proofs.lemmas.Result.{IfOk-weaker}
 use Rattle.station_text.specs.declared.line_file.LineFile.{LineFile}
 use Rattle.station_files.specs.Files.{Known, ChangesAmong}
@@ -10,21 +10,10 @@ use Rattle.wire_faults.specs.Faults.{IsOfStream}
 use Rattle.station_files.specs.declared.faults.Fault.{Fault}
 use Rattle.wire_faults.specs.declared.faults.WireFault.TheVariants as wire
 use Rattle.script_session.specs.Saving.{MayFail}
-use Rattle.wire_session.specs.Ending.{Ends, EndsOpened, LeavesImages}
+use Rattle.wire_session.specs.Ending.{EndsOpened, LeavesImages}
 use Rattle.wire_session.specs.Reporting.{IsExplained, IsReported}
 
 -- ---- what follows from what
-
--- what the files hold says more
-pub ends_weaker : {T : Type 0} (saves says : T → Type 0) (result : Result T WireFault) (old new : Known) (line : LineFile)
-    → ((value : T) → saves value → says value) → Ends saves result old new line → Ends says result old new line
-ends_weaker saves says result old new line follows ends =
-    record { others = ends.others; unsaved = ends.unsaved; saved = IfOk-weaker result saves says follows ends.saved }
-
--- a fault is that of a file, or want of memory
-pub unsaved_by : {T : Type 0} (result : Result T WireFault) (old new : Known) (line : LineFile) → IfErr result IsOfStream → LeavesImages result old new line
-unsaved_by (Ok value) old new line failed = tt
-unsaved_by (Err fault) old new line failed = λ separate. absurd (separate failed)
 
 -- a fault with which files are saved
 pub may_fail : (T : Type 0) (fault : Fault) (old new : Known) (line : LineFile) → MayFail old new fault
@@ -36,10 +25,10 @@ may_fail T fault old new line (inr failed) = λ separate. absurd (separate faile
 
 -- the work follows
 pub ends_after_open : {T : Type 0} (saves says : T → Type 0) (result : Result T WireFault) (old mid new : Known) (line : LineFile)
-    → ChangesAmong old mid (files_of line) → ((value : T) → saves value → says value) → Ends saves result mid new line
+    → ChangesAmong old mid (files_of line) → ((value : T) → saves value → says value) → ChangesAmong mid new (files_of line) → IfOk result saves
     → EndsOpened says result old new line
-ends_after_open saves says result old mid new line opened follows ends =
-    record { others = λ other absent. ends.others other absent ∙ opened other absent; saved = IfOk-weaker result saves says follows ends.saved }
+ends_after_open saves says result old mid new line opened follows others saved =
+    record { others = λ other absent. others other absent ∙ opened other absent; saved = IfOk-weaker result saves says follows saved }
 
 -- a fault came after it, before the work
 pub opened_refused : {T : Type 0} (saves : T → Type 0) (result : Result T WireFault) (fault : WireFault) (old new : Known) (line : LineFile)

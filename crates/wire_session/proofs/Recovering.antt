@@ -77,7 +77,7 @@ recovers_opened Before After result old mid new line plant bytes site others mad
       begins = saves.begins;
       held = saves.held;
       slaves = says saves.s saves.recovered saves.slaves;
-    })) ends
+    })) ends.others ends.saved
 
 -- ---- the whole
 

@@ -1,11 +1,10 @@
 -- What the files hold after a run on a wire.
-use Rattle.std.proofs.Common.{◌≡◌, ℕ, Bool, false, List, ◌++◌, length, map, None, Option, Some, Result, Ok, Err, inr, sym}
+use Rattle.std.proofs.Common.{◌≡◌, ℕ, List, ◌++◌, length, map, None, Option, Some, Result, Ok, Err, inr, sym}
 use Rattle.std.proofs.Common.{subst}
-use Rattle.std.specs.Prelude.{IfOk, IfSome, IsSomeAnd, IsTrue, OnOk, Vec}
+use Rattle.std.specs.Prelude.{IfOk, IfSome, IsOkAnd, IsSomeAnd, OnOk, Vec}
 use Rattle.std.specs.Global.{Global}
 use Rattle.sii_edit.specs.declared.command.Command.{Command}
 use Rattle.site_core.specs.State.{Seen}
-use Rattle.site_core.specs.Times.{Follows}
 use Rattle.site_shadow.specs.Site.{SiteValue}
 use Rattle.station_alone.specs.Station.{Station}
 use Rattle.station_alone.specs.Recovery.{HasRecovered}
@@ -15,143 +14,61 @@ use Rattle.station_files.specs.Locations.{Leads}
 use Rattle.station_files.specs.FileNames.{IsLineSeparate}
 use Rattle.station_files.specs.ScriptFiles.{SpellsCommands}
 use Rattle.station_files.specs.declared.faults.ExitStatus.{ExitStatus}
-use Rattle.station_files.specs.declared.faults.ExitStatus.TheVariants.{Done}
-use Rattle.script_session.specs.declared.threads.Left.{Left}
-use Rattle.script_session.specs.declared.logs.DeskLog.{DeskLog}
-use Rattle.script_session.specs.AtDesk.{IsServedReported, LeavesSo, ServesFollowed}
-use Rattle.script_session.proofs.DeskLaws.{served-reported}
-use Rattle.script_session.proofs.SoundLaws.{served_soundly}
+use Rattle.station_line.specs.declared.answered.Answered.{Answered}
+use Rattle.station_line.specs.declared.answered.Answered.TheVariants.{AllAccepted}
+use Rattle.station_line.specs.Answers.{AnswersGive}
 use Rattle.station_line.specs.Site.{IsSiteOf, files_of}
 use Rattle.station_line.specs.Validating.{HasJournal, IsRunSeparate}
-use Rattle.station_line.specs.Opened.{is_old, StartsFrom}
-use Rattle.script_session.specs.After.{LedOn, SavesFollowed}
-use Rattle.script_session.specs.Saving.{SavesAfter, SavesLeft, Serves}
-use Rattle.script_session.proofs.SavingLaws.{after-unserved, after-worse}
 use Rattle.wire_faults.specs.declared.faults.WireFault.{WireFault}
-use Rattle.wire_scan.specs.Keeping.{AreMends, AreOfImages}
+use Rattle.wire_scan.specs.Keeping.{AreMends, AreOfImages, MendsFiles}
 use Rattle.wire_scan.specs.Opening.{IsFound}
 use Rattle.wire_scan.specs.declared.asked.Mend.{Mend}
 use Rattle.wire_scan.specs.declared.opening.FoundWire.{FoundWire}
 use Rattle.wire_session.specs.declared.running.RunInputs.{RunInputs}
-use Rattle.wire_session.specs.Ending.{Ends}
-use Rattle.wire_session.specs.Running.{BeginsWithMends, EndsFound, MendsLine, RunsScript, SavesDesk, SavesFound, SavesSite}
+use Rattle.wire_session.specs.Running.{BeginsWithMends, EndsFound, MendsLine, RunsScript, SavesFound}
 use Rattle.site_wire.specs.declared.device.WireLog.{WireLog}
-use Rattle.wire_session.specs.declared.logs.LineLog.{LineLog}
+use Rattle.script_session.specs.declared.logs.LineLog.{LineLog}
+use Rattle.script_session.specs.declared.running.LineRun.{LineRun}
+use Rattle.script_session.specs.Running.{HasEnded, SavesSite, whole_of}
 use Rattle.wire_session.specs.declared.logs.Worked.{Worked}
-use Rattle.wire_session.specs.Slaves.{EndsReported, LedAtDesk, SlavesHold}
-use Rattle.wire_session.proofs.Endings.{ends_after_open, ends_weaker}
+use Rattle.wire_session.specs.Slaves.{SlavesHold}
+use Rattle.wire_session.proofs.Endings.{ends_after_open}
 
--- ---- the line is saved after the desk
+-- ---- the line was run
 
-pub ends_left : {T : Type 0} (old new : Known) (line : LineFile) (left : Left SiteValue T) (given final : ExitStatus) → left.ending.reported ≡ Ok tt
-    → ChangesAmong old new (files_of line) → SavesAfter new line left.site.seen left.ending.is_driven left.unserved.items given
-    → (final ≡ Done → (left.ending.status ≡ Done) × (given ≡ Done)) → Ends (λ status. SavesLeft new line left status) (Ok final) old new line
-ends_left old new line left given final reported others saves both = record {
-  others = others;
-  unsaved = tt;
-  saved = record {
-    worst = λ done. (both done).0;
-    reported = reported;
-    after = after-worse left.ending.is_driven new line left.site.seen left.unserved.items given final (λ done. (both done).1) saves;
-  };
+-- all that is told is told, or a fault is
+pub saves_run : {T : Type 0} (Way : Option (LineLog T) → Seen → Type 0) (run : LineRun T) (whole : Option (LineLog T)) (ended : Result ExitStatus WireFault)
+    (new : Known) (line : LineFile) (site : SiteValue) (commands : List Command) → whole ≡ whole_of run.reported.desk run.reported.after
+    → OnOk ended (run.closed ≡ Ok tt) → IfOk ended (AnswersGive (λ answered. IsOkAnd run.ended (λ given. answered ≡ AllAccepted → (run.answers ≡ AllAccepted) × (given ≡ AllAccepted))))
+    → ((answered : Answered) → HasEnded run answered → SavesSite (Way (whole_of run.reported.desk run.reported.after)) new line site commands answered)
+    → IfOk ended (AnswersGive (SavesSite (Way whole) new line site commands))
+saves_run Way run whole (Ok status) new line site commands is closed has saves = record {
+  answered = has.answered;
+  is = has.is;
+  so = subst (λ told. SavesSite (Way told) new line site commands has.answered) (sym is) (saves has.answered (record { closed = closed; ended = has.so }));
 }
+saves_run Way run whole (Err fault) new line site commands is closed has saves = tt
 
--- ---- the line is served by threads
-
-at_desk : {T : Type 0} (new : Known) (line : LineFile) (opened : Station) (commands : List Command) (left : Left SiteValue T) (status : ExitStatus)
-    → LeavesSo opened commands left.ending left.site → (left.ending.is_driven ≡ false → left.unserved.items ≡ commands)
-    → SavesLeft new line left status → Serves false new line opened commands status
-at_desk new line opened commands left status leaves same saves = record {
-  is_driven = left.ending.is_driven;
-  answers = left.ending.status;
-  worst = saves.worst;
-  site = left.site;
-  served = served-reported opened commands left.ending left.site saves.reported leaves;
-  after = after-unserved left.ending.is_driven new line left.site.seen left.unserved.items commands status same saves.after;
-}
-
-pub ends_at_desk : {D T : Type 0} (follows : D → Seen → Type 0) (well : D → Type 0) (tells : D → T → Type 0) (result : Result ExitStatus WireFault) (old new : Known) (line : LineFile)
-    (slaves : ℕ) (opened : Station) (commands : List Command) (left : Left SiteValue T) (reported : LineLog T) → LeavesSo opened commands left.ending left.site
-    → (left.ending.is_driven ≡ false → left.unserved.items ≡ commands) → ServesFollowed follows well tells false opened commands left
-    → OnOk result (left.sound ≡ Ok tt) → reported.desk ≡ left.reported
-    → OnOk result (IsTrue left.ending.is_driven → SavesFollowed (LedOn follows well tells reported.after slaves left.site.seen) new line)
-    → Ends (λ status. SavesLeft new line left status) result old new line
-    → Ends (SavesDesk (LedAtDesk follows well tells slaves opened reported) new line opened commands) result old new line
-unfolding at_desk
-ends_at_desk {D} {T} follows well tells (Ok status) old new line slaves opened commands left reported leaves same serves sound desk followed ends = record {
-  others = ends.others;
-  unsaved = tt;
-  saved = record {
-    serves = at_desk new line opened commands left status leaves same ends.saved;
-    followed = λ driven.
-        let led = followed driven in
-        record {
-          s = led.s;
-          recovered = led.recovered;
-          held = led.held;
-          way = record {
-            leads = record {
-              left = left.site;
-              served = subst (λ (t : DeskLog T). IsServedReported follows well tells opened t left.site) (sym desk)
-                  (served_soundly follows well tells opened commands left serves sound);
-              after = led.way.leads;
-            };
-            ends = led.way.ends;
-          };
-        };
-  };
-}
-ends_at_desk {D} {T} follows well tells (Err fault) old new line slaves opened commands left reported leaves same serves sound desk followed ends =
-    record { others = ends.others; unsaved = ends.unsaved; saved = tt }
-
--- ---- the station is opened
-
--- what is said of what is told, if anything is
-pub reported_weaker : {A : Type 0} {P Q : A → Type 0} (reported : Option A) → ((a : A) → P a → Q a) → IsSomeAnd reported P → IsSomeAnd reported Q
-reported_weaker (Some a) follows says = follows a says
-reported_weaker None follows says = absurd says
-
--- the same where more is known of it in any case
+-- what is said of what is told, where more is known of it in any case
 pub reported_own : {A : Type 0} {P Q R : A → Type 0} (reported : Option A) → IfSome reported R → ((a : A) → R a → P a → Q a) → IsSomeAnd reported P → IsSomeAnd reported Q
 reported_own (Some a) own follows says = follows a own says
 reported_own None own follows says = absurd says
-
-pub ends_opened : {D T : Type 0} (follows : D → Seen → Type 0) (well : D → Type 0) (tells : D → T → Type 0) (reported : Option (LineLog T)) (result : Result ExitStatus WireFault) (old new : Known) (line : LineFile) (slaves : ℕ)
-    (site : SiteValue) (was_old : Bool) (opened : Station) (commands : List Command) → was_old ≡ is_old site.seen.state.disk.bytes
-    → StartsFrom was_old site opened → opened.line ≡ site.line → Follows site.seen opened.seen
-    → Ends (SavesDesk (λ last. IsSomeAnd reported (λ t. LedAtDesk follows well tells slaves opened t last)) new line opened commands) result old new line
-    → Ends (SavesSite (λ last. IsSomeAnd reported (λ t. EndsReported follows well tells site slaves t last)) new line site commands) result old new line
-ends_opened follows well tells reported result old new line slaves site was_old opened commands by_version starts same opens ends =
-    ends_weaker (SavesDesk (λ last. IsSomeAnd reported (λ t. LedAtDesk follows well tells slaves opened t last)) new line opened commands)
-    (SavesSite (λ last. IsSomeAnd reported (λ t. EndsReported follows well tells site slaves t last)) new line site commands)
-    result old new line
-    (λ status saves. record {
-      saves = record { opened = opened; starts = subst (λ (b : Bool). StartsFrom b site opened) by_version starts; serves = saves.serves };
-      followed = λ driven.
-          let led = saves.followed driven in
-          record {
-            s = led.s;
-            recovered = led.recovered;
-            held = led.held;
-            way = reported_weaker reported (λ t way. record { leads = record { opened = opened; line = same; opens = opens; after = way.leads }; ends = way.ends }) led.way;
-          };
-    }) ends
 
 -- ---- the files of the line are opened
 
 pub ends_found : (Way : Seen → Type 0) (worked : Worked ExitStatus WireLog) (old mid new : Known) (line : LineFile) (plant : List (List ℕ))
     (bytes : List ℕ) (site : SiteValue) (commands : List Command) → ChangesAmong old mid (files_of line) → IsSiteOf plant bytes site
     → ((s : Station) → HasRecovered s → Way s.seen → IsSomeAnd worked.reported (SlavesHold plant s))
-    → Ends (SavesSite Way new line site commands) worked.ended mid new line → EndsFound worked old new line plant bytes commands
-ends_found Way worked old mid new line plant bytes site commands others made hold ends =
-    ends_after_open (SavesSite Way new line site commands) (λ status. SavesFound new line plant bytes commands worked.reported status)
-    worked.ended old mid new line others
+    → ChangesAmong mid new (files_of line) → IfOk worked.ended (AnswersGive (SavesSite Way new line site commands)) → EndsFound worked old new line plant bytes commands
+ends_found Way worked old mid new line plant bytes site commands opened made hold others saved =
+    ends_after_open (AnswersGive (SavesSite Way new line site commands)) (λ status. SavesFound new line plant bytes commands worked.reported status)
+    worked.ended old mid new line opened
     (λ status saves. record {
       site = site;
       made = made;
-      saves = saves.saves;
-      slaves = λ driven. let led = saves.followed driven in (led.s, led.recovered, led.held, hold led.s led.recovered led.way);
-    }) ends
+      saves = record { answered = saves.answered; is = saves.is; so = saves.so.saves };
+      slaves = λ driven. let led = saves.so.followed driven in (led.s, led.recovered, led.held, hold led.s led.recovered led.way);
+    }) others saved
 
 -- ---- the whole
 
@@ -162,7 +79,7 @@ found_after old mid name line plant bytes same found = subst (λ (files : Known)
 
 pub runs : (worked : Worked ExitStatus WireLog) (said : List Mend) (leads : Leads) (old found new : Known) (name script : List ℕ) (line : LineFile)
     (plant : List (List ℕ)) (bytes : List ℕ) (commands : List Command) → IsFound old name line plant bytes
-    → HasJournal (map length plant) bytes → AreOfImages old line said bytes plant → BeginsWithMends old said script commands → IsRunSeparate leads line name script
+    → HasJournal (map length plant) bytes → AreOfImages old line said bytes plant → BeginsWithMends old line said bytes plant script commands → IsRunSeparate leads line name script
     → found ≡ old → EndsFound worked found new line plant bytes commands → RunsScript worked said leads old new name script
 runs worked said leads old found new name script line plant bytes commands given validated kept spelt separate same ends =
     let P : Known → Type 0 = λ files. EndsFound worked files new line plant bytes commands in
@@ -181,10 +98,10 @@ runs worked said leads old found new name script line plant bytes commands given
 
 -- the same where image files were to be written to their slaves
 pub mends : (worked : Worked ExitStatus WireLog) (said : List Mend) (leads : Leads) (old found new : Known) (name : List ℕ) (line : LineFile)
-    (plant : List (List ℕ)) (bytes : List ℕ) (commands : List Command) → IsFound old name line plant bytes
-    → HasJournal (map length plant) bytes → AreOfImages old line said bytes plant → AreMends said commands → IsLineSeparate leads line name
-    → found ≡ old → EndsFound worked found new line plant bytes commands → MendsLine worked said leads old new name
-mends worked said leads old found new name line plant bytes commands given validated kept said_so separate same ends =
+    (plant begun : List (List ℕ)) (bytes : List ℕ) (commands : List Command) → IsFound old name line plant bytes
+    → HasJournal (map length plant) bytes → AreOfImages old line said bytes plant → AreMends said commands
+    → MendsFiles old line said bytes plant begun commands → IsLineSeparate leads line name → found ≡ old → EndsFound worked found new line plant bytes commands → MendsLine worked said leads old new name
+mends worked said leads old found new name line plant begun bytes commands given validated kept said_so mended separate same ends =
     let P : Known → Type 0 = λ files. EndsFound worked files new line plant bytes commands in
     inr (record {
       line = line;
@@ -193,8 +110,10 @@ mends worked said leads old found new name line plant bytes commands given valid
       found = given;
       validated = validated;
       kept = kept;
+      begun = begun;
       mends = commands;
       said_so = said_so;
+      mended = mended;
       separate = separate;
       ends = subst P same ends;
     })
@@ -212,8 +131,20 @@ for_given (Ok given) found P same holds = subst P (sym same) (holds given.found.
 for_given (Err fault) found P same holds = tt
 
 -- the commands that are said, and those of the script after them
-pub with_script : {L E : Type 0} (result : Result (RunInputs L) E) (old : Known) (said : List Mend) (script : List ℕ) (mends after : List Command)
-    → IfOk result (λ given. given.commands.items ≡ mends ++ after) → AreMends said mends → SpellsCommands old script after
-    → IfOk result (λ given. BeginsWithMends old said script given.commands.items)
-with_script (Ok given) old said script mends after all said_so spelt = record { mends = mends; after = after; said_so = said_so; spelt = spelt; all = all }
-with_script (Err fault) old said script mends after all said_so spelt = tt
+pub with_script : {L E : Type 0} (result : Result (RunInputs L) E) (found : FoundWire L) (old mid : Known) (said : List Mend) (script : List ℕ)
+    (after : List Command) → mid ≡ old → IfOk result (λ given. given.found ≡ record found { mends = given.found.mends })
+    → IfOk result (λ given. given.commands.items ≡ found.mends.items ++ after) → AreMends said found.mends.items
+    → MendsFiles mid found.line said found.journal.items found.slaves.items found.images.items found.mends.items → SpellsCommands old script after
+    → IfOk result (λ given. BeginsWithMends old given.found.line said given.found.journal.items given.found.slaves.items script given.commands.items)
+with_script {L} {E} (Ok given) found old mid said script after same is all said_so mended spelt =
+    subst (λ (f : FoundWire L). BeginsWithMends old f.line said f.journal.items f.slaves.items script given.commands.items) (sym is) (record {
+      begun = found.images.items;
+      mends = found.mends.items;
+      after = after;
+      said_so = said_so;
+      mended = subst (λ (files : Known). MendsFiles files found.line said found.journal.items found.slaves.items found.images.items found.mends.items)
+          same mended;
+      spelt = spelt;
+      all = all;
+    })
+with_script (Err fault) found old mid said script after same is all said_so mended spelt = tt

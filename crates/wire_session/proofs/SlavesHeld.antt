@@ -1,18 +1,18 @@
 -- Real slaves hold the contents of a station whose line was recovered on a wire.
-use Rattle.std.proofs.Common.{◌≡◌, ◌≢◌, ℕ, zero, suc, ◌+◌, ◌<◌, false, List, [], ◌∷◌, ◌++◌, length, map, get_or, inl}
+use Rattle.std.proofs.Common.{Bool, ◌≡◌, ◌≢◌, ℕ, zero, suc, ◌+◌, ◌<◌, false, List, [], ◌∷◌, ◌++◌, length, map, get_or}
 use Rattle.std.proofs.Common.{Option, Some, None, IsTrue, slice_get, refl, sym, ap, subst, ◌∙◌, arith}
 use Rattle.std.specs.List.{AllByRecursion}
 use Rattle.std.proofs.lemmas.List.{length-map}
 use Rattle.std.proofs.lemmas.Option.{slice_get_within, slice_get-get_or}
 use Rattle.site_core.specs.Line.{Line}
-use Rattle.esc_model.specs.SlaveHalf.{SlaveHalf, Idle, powered_up, MayLeave}
+use Rattle.esc_model.specs.SlaveHalf.{SlaveHalf, powered_up, MayLeave}
 use Rattle.esc_model.specs.Orders.{station}
 use Rattle.esc_model.proofs.Resting.{MayLeave-same}
 use Rattle.site_core.specs.State.{Seen, Pair, EachMayLeave}
 use Rattle.site_core.specs.Times.{Follows}
 use Rattle.site_core.proofs.StopImages.{StopImage-same}
 use Rattle.site_shadow.specs.Site.{SiteValue}
-use Rattle.site_wire.specs.Likeness.{IsLike}
+use Rattle.site_wire.specs.After.{IsAfter}
 use Rattle.site_wire.specs.Sent.{Exchanged, exchanges}
 use Rattle.site_wire.specs.Logged.{TellsWire}
 use Rattle.site_wire.specs.declared.device.WireLog.{WireLog}
@@ -20,8 +20,9 @@ use Rattle.site_wire.specs.RealSlaves.{Lives}
 use Rattle.site_wire.specs.Parts.{AreFor}
 use Rattle.site_wire.specs.declared.sending.Exchange.{Exchange}
 use Rattle.site_shadow.specs.declared.lending.LinePart.{LinePart}
-use Rattle.site_wire.specs.Following.{IsAfter, WireFollows}
+use Rattle.site_wire.specs.Following.{WireFollows}
 use Rattle.site_wire.specs.declared.device.WireDevice.{WireDevice}
+use Rattle.site_wire.proofs.AmendedLaws.{brought_up_is_after}
 use Rattle.site_wire.proofs.Living.{lives_parts, lives_station}
 use Rattle.kept_files.proofs.Extending.{first_stays}
 use Rattle.kept_files.proofs.AtDeskOnFiles.{worked_follows}
@@ -39,9 +40,10 @@ use Rattle.script_session.specs.AtDesk.{IsServedReported}
 use Rattle.script_session.specs.Saving.{KeepsReported}
 use Rattle.script_session.proofs.SavingLaws.{keeps_reported}
 use Rattle.script_session.proofs.SlaveLaws.{placed-at}
-use Rattle.wire_session.specs.declared.logs.LineLog.{LineLog}
+use Rattle.script_session.specs.declared.logs.LineLog.{LineLog}
+use Rattle.script_session.specs.Running.{EndsReported}
 use Rattle.wire_session.specs.Interleaving.{Interleaves}
-use Rattle.wire_session.specs.Slaves.{AreOfParts, EndsReported, SlavesHold, all_sent, sent_at_desk}
+use Rattle.wire_session.specs.Slaves.{AreOfParts, SlavesHold, all_sent, sent_at_desk}
 use Rattle.wire_session.proofs.Interleaved.{Misses, OthersMiss, lives_joined, own_part}
 
 -- PLACES
@@ -150,19 +152,6 @@ get-mapped f (x ∷ xs) (suc k) y here = get-mapped f xs k y here
 
 -- THREE DEVICES
 
--- what a slave is like from the beginning
-like_after : (first real : SlaveHalf) → first.activity ≡ Idle → IsLike first real → IsAfter first real
-like_after first real idle like = record {
-  amended = record {
-    station = like.station;
-    offered = like.registers.offered;
-    forced = like.registers.forced;
-    words = like.words;
-    activity = inl (like.activity ∙ idle);
-  };
-  idle = λ none. like.activity ∙ idle;
-}
-
 -- a slave goes on behind its half, where this is sent
 abbrev pub GoesOn : (slave : ℕ) → (first half : SlaveHalf) → List Exchanged → Type 0
 GoesOn slave first half log = (real later : SlaveHalf) → first.station ≡ station slave → IsAfter first real → Lives log real later → IsAfter half later
@@ -212,15 +201,15 @@ module _ {L F C D : Type 0} (within : D → WireDevice L F C) where
       subst (λ (p : Option LinePart). AreFor p (exchanges reported.sent)) (sym followed.1.1.journal.part)
       (subst (λ (sent : List Exchange). AreFor device.journal.asking.part (exchanges sent)) (sym followed.1.1.sent) (kept.own followed.1.0.1))
 
-  module _ (site : SiteValue) (slaves : ℕ) (s : Station) (reported : LineLog WireLog) (new : site.seen.past ≡ [])
-      (followed : EndsReported follows well tells site slaves reported s.seen) where
+  module _ (turns : Bool) (site : SiteValue) (slaves : ℕ) (s : Station) (reported : LineLog WireLog) (new : site.seen.past ≡ [])
+      (followed : EndsReported follows well tells turns site slaves reported s.seen) where
     abbrev opened : Station
     opened = followed.leads.opened
 
     abbrev left : SiteValue
     left = followed.leads.after.left
 
-    abbrev served : IsServedReported follows well tells opened reported.desk left
+    abbrev served : IsServedReported follows well tells turns opened reported.desk left
     served = followed.leads.after.served
 
     -- what is told of the device of a slave's part
@@ -317,7 +306,7 @@ module _ {L F C D : Type 0} (within : D → WireDevice L F C) where
         ap (λ (seen : Seen). slice_get seen.state.halves slave) found ∙ powered_at 0x1001 plant slave words here in
         let goes = three_devices slave (powered_up words (station slave)) half at_first at_last inside in
         let part = part_at slave inside in
-        λ desk real later among like lives.
+        λ desk real later among up lives.
         holds_contents s slave half later recovered at_last
-        (goes real later refl (like_after (powered_up words (station slave)) real refl like)
-        (own_lives own slave desk real later among like.station part.0 part.1 lives))
+        (goes real later refl (brought_up_is_after words (station slave) real up)
+        (own_lives own slave desk real later among up.station_is part.0 part.1 lives))

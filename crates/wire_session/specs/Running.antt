@@ -1,60 +1,48 @@
 -- `run` on a wire: how the line that was found is served by threads, and what the files hold in the end.
 use Rattle.std.specs.Prelude.{◌≡◌, ◌⊎◌, ◌++◌, ℕ, false, List, length, map, Option, None, IsErr, IsTrue}
 use Rattle.sii_edit.specs.declared.command.Command.{Command}
-use Rattle.site_core.specs.State.{Seen}
 use Rattle.site_shadow.specs.Site.{SiteValue}
 use Rattle.station_text.specs.declared.line_file.LineFile.{LineFile}
 use Rattle.station_files.specs.Files.{Known}
 use Rattle.station_files.specs.ScriptFiles.{SpellsCommands}
 use Rattle.station_files.specs.declared.faults.ExitStatus.{ExitStatus}
-use Rattle.station_alone.specs.Station.{Station}
 use Rattle.station_files.specs.FileNames.{IsLineSeparate}
 use Rattle.station_files.specs.Locations.{Leads}
 use Rattle.station_line.specs.Validating.{HasJournal, IsRunSeparate}
+use Rattle.station_line.specs.Answers.{AnswersGive}
 use Rattle.station_line.specs.Site.{IsSiteOf}
-use Rattle.script_session.specs.Saving.{SavesRun, Serves}
-use Rattle.wire_scan.specs.Keeping.{AreMends, AreOfImages}
+use Rattle.script_session.specs.Saving.{SavesRun}
+use Rattle.wire_scan.specs.Keeping.{AreMends, AreOfImages, MendsFiles}
 use Rattle.wire_scan.specs.Opening.{IsFound}
 use Rattle.wire_scan.specs.declared.asked.Mend.{Mend}
 use Rattle.site_wire.specs.declared.device.WireLog.{WireLog}
-use Rattle.wire_session.specs.declared.logs.LineLog.{LineLog}
+use Rattle.script_session.specs.declared.logs.LineLog.{LineLog}
 use Rattle.wire_session.specs.declared.logs.Worked.{Worked}
 use Rattle.wire_session.specs.Ending.{EndsOpened}
-use Rattle.script_session.specs.After.{SavesFollowed}
 use Rattle.wire_session.specs.Slaves.{SlavesAreSaved}
 
--- The commands were served by threads, and the files hold the result. Where the commands were submitted at the desk, the line was recovered behind
--- it, with `Way` said of what led there.
-pub record SavesDesk (Way : Seen → Type 0) (files : Known) (line : LineFile) (opened : Station) (commands : List Command)
-    (status : ExitStatus) : Type 0 where
-  pub serves : Serves false files line opened commands status
-  pub followed : IsTrue serves.is_driven → SavesFollowed Way files line
-
--- The same of a station that was opened on this site, after a recovery if the journal wasn't of version 2, as in a run on files.
-pub record SavesSite (Way : Seen → Type 0) (files : Known) (line : LineFile) (site : SiteValue) (commands : List Command)
-    (status : ExitStatus) : Type 0 where
-  pub saves : SavesRun false files line site commands status
-  pub followed : IsTrue saves.serves.is_driven → SavesFollowed Way files line
-
--- The files hold the state of a station that was served on a site of slaves with these words and a journal with these bytes. Where threads could be
--- made, so that the commands were submitted at a desk, so do the slaves, by what is told of the devices.
+-- The files hold the state of a station that was served on a site of slaves with these words and a journal with these bytes, and the answers to the
+-- commands give the status. Where threads could be made, so that the commands were submitted at a desk, so do the slaves, by what is told of the devices.
 pub record SavesFound (files : Known) (line : LineFile) (plant : List (List ℕ)) (bytes : List ℕ) (commands : List Command)
     (reported : Option (LineLog WireLog)) (status : ExitStatus) : Type 0 where
   pub site : SiteValue
   pub made : IsSiteOf plant bytes site
-  pub saves : SavesRun false files line site commands status
-  pub slaves : IsTrue saves.serves.is_driven → SlavesAreSaved plant files line reported
+  pub saves : AnswersGive (SavesRun false files line site commands) status
+  pub slaves : IsTrue saves.so.serves.is_driven → SlavesAreSaved plant files line reported
 
 -- The same of the words that were found on the wire and the bytes of the journal.
 abbrev pub EndsFound : Worked ExitStatus WireLog → Known → Known → LineFile → List (List ℕ) → List ℕ → List Command → Type 0
 EndsFound worked old new line plant bytes commands =
     EndsOpened (λ status. SavesFound new line plant bytes commands worked.reported status) worked.ended old new line
 
--- These are commands that write image files to their slaves, as was said, and then those of the script.
-pub record BeginsWithMends (files : Known) (said : List Mend) (script : List ℕ) (commands : List Command) : Type 0 where
+-- These are commands that write the words of image files to the slaves of which that was said, and to no others, and then those of the script.
+pub record BeginsWithMends (files : Known) (line : LineFile) (said : List Mend) (bytes : List ℕ) (plant : List (List ℕ)) (script : List ℕ)
+    (commands : List Command) : Type 0 where
+  pub begun : List (List ℕ)
   pub mends : List Command
   pub after : List Command
   pub said_so : AreMends said mends
+  pub mended : MendsFiles files line said bytes plant begun mends
   pub spelt : SpellsCommands files script after
   pub all : commands ≡ mends ++ after
 
@@ -68,7 +56,7 @@ pub record RunsFound (worked : Worked ExitStatus WireLog) (said : List Mend) (le
   pub validated : HasJournal (map length plant) bytes
   pub kept : AreOfImages old line said bytes plant
   pub commands : List Command
-  pub spelt : BeginsWithMends old said script commands
+  pub spelt : BeginsWithMends old line said bytes plant script commands
   pub separate : IsRunSeparate leads line name script
   pub ends : EndsFound worked old new line plant bytes commands
 
@@ -85,8 +73,10 @@ pub record MendsFound (worked : Worked ExitStatus WireLog) (said : List Mend) (l
   pub found : IsFound old name line plant bytes
   pub validated : HasJournal (map length plant) bytes
   pub kept : AreOfImages old line said bytes plant
+  pub begun : List (List ℕ)
   pub mends : List Command
   pub said_so : AreMends said mends
+  pub mended : MendsFiles old line said bytes plant begun mends
   pub separate : IsLineSeparate leads line name
   pub ends : EndsFound worked old new line plant bytes mends
 

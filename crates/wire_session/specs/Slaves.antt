@@ -1,13 +1,10 @@
 -- What real slaves hold after a run or a recovery on a wire (ETG.1000.4, slave information interface).
 use Rattle.std.specs.Prelude.{◌≡◌, ℕ, List, ◌∷◌, ◌++◌, map, Option, Some, IsSomeAnd, slice_get}
-use Rattle.esc_model.specs.SlaveHalf.{SlaveHalf, powered_up}
+use Rattle.esc_model.specs.SlaveHalf.{SlaveHalf}
 use Rattle.esc_model.specs.Orders.{station}
-use Rattle.site_core.specs.State.{Seen}
-use Rattle.site_core.specs.Times.{Follows}
-use Rattle.site_shadow.specs.Site.{SiteValue}
 use Rattle.site_shadow.specs.declared.lending.LinePart.{LinePart}
 use Rattle.site_shadow.specs.declared.lending.LinePart.TheVariants as part
-use Rattle.site_wire.specs.Likeness.{IsLike}
+use Rattle.site_wire.specs.After.{IsBroughtUp}
 use Rattle.site_wire.specs.Sent.{Exchanged, exchanges}
 use Rattle.site_wire.specs.RealSlaves.{Lives}
 use Rattle.site_wire.specs.declared.device.WireLog.{WireLog}
@@ -17,11 +14,9 @@ use Rattle.station_alone.specs.Recovery.{HasRecovered}
 use Rattle.station_text.specs.declared.line_file.LineFile.{LineFile}
 use Rattle.station_files.specs.Files.{Known}
 use Rattle.station_line.specs.Site.{HoldsSite}
-use Rattle.script_session.specs.AtDesk.{IsServedReported}
-use Rattle.script_session.specs.Saving.{IsReportedLine}
 use Rattle.script_session.specs.declared.logs.DeskLog.{DeskLog}
 use Rattle.script_session.specs.declared.logs.PartLog.{PartLog}
-use Rattle.wire_session.specs.declared.logs.LineLog.{LineLog}
+use Rattle.script_session.specs.declared.logs.LineLog.{LineLog}
 use Rattle.wire_session.specs.Interleaving.{Interleaves}
 
 -- THE DEVICES
@@ -34,34 +29,6 @@ AreOfSlaves {T} of parts = (slave : ℕ) (reported : PartLog T) → slice_get pa
 pub record AreOfParts {T : Type 0} (of : LinePart → T → Type 0) (reported : DeskLog T) : Type 0 where
   pub disk : of part.Disk reported.disk.reported
   pub slaves : AreOfSlaves of reported.slaves.items
-
--- The line of this station was served at a desk, and calls alone led on behind it; this is told of the devices of the station's site before the desk
--- and of each part there, which ended soundly.
-pub record LedAfterDesk {D T : Type 0} (follows : D → Seen → Type 0) (well : D → Type 0) (tells : D → T → Type 0) (reported : DeskLog T)
-    (opened : Station) (last : Seen) : Type 0 where
-  pub left : SiteValue
-  pub served : IsServedReported follows well tells opened reported left
-  pub after : Follows left.seen last
-
--- A station was opened on this site before that, by calls alone.
-pub record LedThroughout {D T : Type 0} (follows : D → Seen → Type 0) (well : D → Type 0) (tells : D → T → Type 0) (reported : DeskLog T)
-    (site : SiteValue) (last : Seen) : Type 0 where
-  pub opened : Station
-  pub line : opened.line ≡ site.line
-  pub opens : Follows site.seen opened.seen
-  pub after : LedAfterDesk follows well tells reported opened last
-
--- Devices have followed this site, its parts at a desk, and the site after it, and this is told of them.
-pub record EndsReported {D T : Type 0} (follows : D → Seen → Type 0) (well : D → Type 0) (tells : D → T → Type 0) (site : SiteValue)
-    (slaves : ℕ) (reported : LineLog T) (last : Seen) : Type 0 where
-  pub leads : LedThroughout follows well tells reported.desk site last
-  pub ends : IsReportedLine follows well tells reported.after slaves last
-
--- the line of this station was served at a desk on the way
-pub record LedAtDesk {D T : Type 0} (follows : D → Seen → Type 0) (well : D → Type 0) (tells : D → T → Type 0) (slaves : ℕ)
-    (opened : Station) (reported : LineLog T) (last : Seen) : Type 0 where
-  pub leads : LedAfterDesk follows well tells reported.desk opened last
-  pub ends : IsReportedLine follows well tells reported.after slaves last
 
 -- THE SLAVES
 
@@ -77,7 +44,7 @@ all_sent reported desk = exchanges reported.desk.line.reported.sent ++ desk ++ e
 -- whatever order the devices of a desk sent.
 abbrev pub SlaveHolds : (slave : ℕ) → (words : List ℕ) → List (List ℕ) → LineLog WireLog → Type 0
 SlaveHolds slave words contents reported = (desk : List Exchanged) (real later : SlaveHalf) → Interleaves (sent_at_desk reported.desk) desk
-    → IsLike (powered_up words (station slave)) real → Lives (all_sent reported desk) real later → slice_get contents slave ≡ Some later.words
+    → IsBroughtUp words (station slave) real → Lives (all_sent reported desk) real later → slice_get contents slave ≡ Some later.words
 
 -- By what was told of the devices, each slave that was found with these words holds the contents of this station.
 abbrev pub SlavesHold : List (List ℕ) → Station → LineLog WireLog → Type 0

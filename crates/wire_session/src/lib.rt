@@ -2,6 +2,7 @@
 #![tactic(auto)]
 
 mod as_found;
+mod expecting;
 mod followed;
 mod init;
 mod logs;
@@ -11,10 +12,9 @@ mod recovery;
 mod redoing;
 mod reporting;
 mod running;
-mod threads;
 
 pub use init::{begin_journal, init_on_wire};
-pub use logs::{LineLog, Worked};
+pub use logs::Worked;
 pub use mending::mend_line;
 pub use planning::plan_on_wire;
 pub use recovery::recover_line;

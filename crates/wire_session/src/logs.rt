@@ -3,20 +3,11 @@ ghost use Rattle.std.specs.Prelude.{◌≡◌, Err, None, IsTrue};
 ghost use Rattle.wire_faults.specs.declared.faults.WireFault.TheVariants as wire;
 ghost use Rattle.wire_session.specs.Slaves.{AreOfParts, AreOfSlaves};
 
-use script_session::{DeskLog, PartLog};
+use script_session::{DeskLog, LineLog, PartLog};
 use site_shadow::LinePart;
 use site_wire::TellsPart;
 use station_files::Fault;
 use wire_faults::WireFault;
-
-/// What is reported of the devices of a line that was served at a desk. `T` is what one device tells.
-#[derive(Drop)]
-pub struct LineLog<T> {
-    /// Of the line's device as the station was opened, and of its parts' at the desk.
-    pub desk: DeskLog<T>,
-    /// Of the line's device behind the desk.
-    pub after: T,
-}
 
 /// Whether this is reported of the devices of the disk's part and of each slave's, each of its own.
 pub(crate) fn are_of_parts<D: TellsPart>(reported: &DeskLog<D::Logged>) -> bool

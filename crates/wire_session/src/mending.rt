@@ -3,6 +3,7 @@ ghost use Rattle.wire_session.specs.Running.{MendsLine};
 
 use crate::logs::Worked;
 use crate::running::run_found;
+use line_watch::Watch;
 use site_wire::WireLog;
 use station_files::{ExitStatus, Store};
 use std::io::Write;
@@ -24,8 +25,9 @@ pub fn mend_line<
     W: Wire + Send + Drop,
     S: Store,
     O: Write,
+    T: Write,
 >(
-    rt: &R,
+    watch: Watch<'_, T, R>,
     wire: NumberedWire<W>,
     name: &str,
     asked: ScanOptions,
@@ -39,11 +41,11 @@ pub fn mend_line<
         is_forced: true,
         ..asked
     };
-    match find_line(rt, &mut wire, name, forced, store) {
+    match find_line(watch.rt, &mut wire, name, forced, store) {
         Ok(found) => {
             let mut found = found;
-            let commands = mem::replace(&mut found.mends, Vec::new(rt.alloc()));
-            run_found(rt, found, commands, wire, store, output)
+            let commands = mem::replace(&mut found.mends, Vec::new(watch.rt.alloc()));
+            run_found(watch, found, commands, wire, store, output)
         }
         Err(fault) => {
             drop(wire);

@@ -4,12 +4,10 @@ ghost use Rattle.wire_session.specs.Planning.{PlansFound, PlansOnWire};
 
 use crate::running::{RunInputs, RunOrder, find_all};
 use sii_edit::Command;
-use sii_words::Words;
 use site_mem::FaultPlan;
-use station_files::{ExitStatus, Store};
+use station_files::Store;
 use station_line::{is_old, site_of};
-use station_plan::plan_line;
-use station_rows::Form;
+use station_plan::{PlanAnswers, plan_line};
 use std::alloc::Global;
 use std::io::Write;
 use std::rt::Clock;
@@ -20,7 +18,7 @@ use wire_scan::FoundWire;
 
 /// Prints what `run_script` would do with this order on the line on this wire: the line is found as for a run, the commands are served on a
 /// copy of it in memory, and the answers, the words that change and the rest are printed as `station_plan::plan_line` does. No word of a
-/// slave is written, and no file. The EEPROMs are handed back as they were found. Returns the exit status that such a run returns.
+/// slave is written, and no file. The EEPROMs are handed back as they were found. Returns how the commands are answered in such a run.
 ///
 /// # Errors
 ///
@@ -29,18 +27,18 @@ pub fn plan_on_wire<R: Clock + AllocGlobal, W: Wire, S: Store, O: Write>(
     rt: &R,
     wire: &mut NumberedWire<W>,
     order: RunOrder<'_>,
-    form: Form,
     store: &mut S,
     output: &mut O,
-) -> Result<ExitStatus, WireFault>
-    ensures plans { IfOk result (PlansOnWire order.entry.asked.mends S.leads (S.files store.old) order.entry.named.line.now order.entry.named.script.now) }
+) -> Result<PlanAnswers, WireFault>
+    ensures plans { IfOk result (λ answers. PlansOnWire order.entry.asked.mends S.leads (S.files store.old)
+        order.entry.named.line.now order.entry.named.script.now answers.answered) }
     ensures same { S.files store.new ≡ S.files store.old }
 {
     match find_all(rt, wire, order, store) {
         Ok(given) => {
             let RunInputs { found, commands } = given;
             hand_back(wire, &found.states);
-            plan_found(rt.alloc(), found, commands, form, output)
+            plan_found(rt.alloc(), found, commands, output)
         }
         Err(fault) => Err(fault),
     }
@@ -51,12 +49,11 @@ fn plan_found<L: Drop, O: Write>(
     alloc: Global,
     found: FoundWire<L>,
     commands: Vec<Command>,
-    form: Form,
     output: &mut O,
-) -> Result<ExitStatus, WireFault>
+) -> Result<PlanAnswers, WireFault>
     requires some { 1 ≤ length found.slaves.items }
     requires most { length found.slaves.items ≤ 64 }
-    ensures { IfOk result (PlansFound found.slaves.items found.journal.items commands.items) }
+    ensures { IfOk result (λ answers. PlansFound found.slaves.items found.journal.items commands.items answers.answered) }
 {
     let FoundWire {
         line: _,
@@ -66,28 +63,12 @@ fn plan_found<L: Drop, O: Write>(
         states: _,
         journal,
         lock: _lock,
-        tells: _,
+        tells,
     } = found;
-    plan_copy(alloc, &slaves, journal, commands, form, output)
-}
-
-/// Plans a run of the commands on slaves with these words and a journal with these bytes, in memory.
-fn plan_copy<O: Write>(
-    alloc: Global,
-    slaves: &[Words],
-    journal: Vec<u8>,
-    commands: Vec<Command>,
-    form: Form,
-    output: &mut O,
-) -> Result<ExitStatus, WireFault>
-    requires some { 1 ≤ length slaves.now }
-    requires most { length slaves.now ≤ 64 }
-    ensures { IfOk result (PlansFound slaves.now journal.items commands.items) }
-{
     let was_old = is_old(&journal);
-    let site = site_of(alloc, slaves, journal, FaultPlan::none())?;
-    match plan_line(alloc, site, was_old, commands, form, output) {
-        Ok(status) => Ok(status),
+    let site = site_of(alloc, &slaves, journal, FaultPlan::none())?;
+    match plan_line(alloc, site, was_old, commands, tells.form, output) {
+        Ok(answers) => Ok(answers),
         Err(fault) => Err(WireFault::Station(fault)),
     }
 }

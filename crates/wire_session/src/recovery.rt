@@ -1,23 +1,21 @@
 //! The subcommand `recover`.
-ghost use Rattle.std.specs.Prelude.{◌≡◌, ◌≤◌, length, IfSome, IsSomeAnd, IsTrue, OnOk};
+ghost use Rattle.std.specs.Prelude.{◌≡◌, ◌≤◌, false, length, IfSome, IsSomeAnd, IsTrue};
 ghost use Rattle.esc_rom.specs.Owned.{OwnsAll};
-ghost use Rattle.station_files.specs.Files.{ChangesAmong};
-ghost use Rattle.station_line.specs.Site.{files_of, switched_on, HoldsSite};
-ghost use Rattle.wire_session.specs.Ending.{LeavesImages};
+ghost use Rattle.station_line.specs.Site.{switched_on};
 ghost use Rattle.wire_session.specs.Recovery.{EndsOpenedRecovery, EndsRecovery, Recovers};
-ghost use Rattle.script_session.specs.Saving.{IsReportedLine};
-ghost use Rattle.wire_session.specs.Slaves.{AreOfParts, EndsReported, SlavesHold};
+ghost use Rattle.script_session.specs.Running.{EndsReported};
+ghost use Rattle.wire_session.specs.Slaves.{AreOfParts, SlavesHold};
 ghost use Rattle.wire_session.specs.Reporting.{IsPrinted};
 
 use crate::as_found::AsFound;
 use crate::followed::followed;
-use crate::logs::{LineLog, Worked};
+use crate::logs::Worked;
 use crate::redoing::{ByThreads, recover_by_threads};
 use crate::reporting::{report_end, tell_why};
 use line_changes::Before;
-use script_session::save_reported;
+use script_session::{LineLog, save_reported};
 use sii_words::Plant;
-use site_shadow::{Lends, ShadowSite};
+use site_shadow::ShadowSite;
 use site_wire::{LiveLine, LockedLine, TellsPart, WireLog};
 use station_alone::Recovered;
 use station_files::{Fault, Store};
@@ -179,7 +177,7 @@ fn recover_site<R: Wait + Threads + AllocGlobal + Sync, D: TellsPart + Send, S: 
     requires owned { OwnsAll site.line }
     ensures own { IfSome result.reported (λ reported. AreOfParts D.is_of reported.desk) }
     ensures recovers { EndsRecovery
-        (λ s. IsSomeAnd result.reported (λ reported. EndsReported D.follows D.well D.tells site (length line.now.images.items) reported s.seen))
+        (λ s. IsSomeAnd result.reported (λ reported. EndsReported D.follows D.well D.tells false site (length line.now.images.items) reported s.seen))
         result.ended (S.files store.old) (S.files store.new) line.now site.seen }
 {
     match recover_by_threads(rt, site, line.images.len()) {
@@ -191,34 +189,14 @@ fn recover_site<R: Wait + Threads + AllocGlobal + Sync, D: TellsPart + Send, S: 
             } = redone;
             let (core, left) = alone.into_parts();
             drop(core);
-            let (ended, after) = save_recovered(rt.alloc(), line, left, recovered, store, output);
+            let (saved, after) = save_reported(rt.alloc(), line, left, store);
             Worked {
-                ended,
+                ended: print_saved(saved, recovered, output),
                 reported: Some(LineLog { desk, after }),
             }
         }
         Err(fault) => Worked::of_fault(fault),
     }
-}
-
-/// Saves what the slaves hold, prints what was recovered, and gives what is reported of the device.
-fn save_recovered<D: Lends, S: Store, O: Write>(
-    alloc: Global,
-    line: &LineFile,
-    site: ShadowSite<D>,
-    recovered: Recovered,
-    store: &mut S,
-    output: &mut O,
-) -> (Result<(), WireFault>, D::Logged)
-    requires disk { IsTrue site.line.has_disk }
-    requires slaves { length site.line.sizes ≡ length line.now.images.items }
-    ensures saved { OnOk result.0 (HoldsSite (S.files store.new) line.now site.seen.state) }
-    ensures others { ChangesAmong (S.files store.old) (S.files store.new) (files_of line.now) }
-    ensures failed { LeavesImages result.0 (S.files store.old) (S.files store.new) line.now }
-    ensures reported { OnOk result.0 (IsReportedLine D.follows D.well D.tells result.1 (length line.now.images.items) site.seen) }
-{
-    let (saved, reported) = save_reported(alloc, line, site, store);
-    (print_saved(saved, recovered, output), reported)
 }
 
 /// Prints what was recovered, if that was saved.

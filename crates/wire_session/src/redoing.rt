@@ -1,11 +1,12 @@
 //! Recovers a line by threads: each slave has one that redoes what is live, and what is left after them is recovered on this one.
-ghost use Rattle.std.specs.Prelude.{◌≡◌, ◌+◌, IfOk, IsTrue};
+ghost use Rattle.std.specs.Prelude.{◌≡◌, ◌+◌, false, IfOk, IsTrue};
 ghost use Rattle.esc_rom.specs.Owned.{OwnsAll};
 ghost use Rattle.station_alone.specs.Recovery.{BeginsRecovered, HasRecovered};
 ghost use Rattle.script_session.specs.Parts.{IsLineOf};
 ghost use Rattle.script_session.specs.Redoing.{IsOpenedHere};
 ghost use Rattle.site_core.specs.Times.{Follows};
-ghost use Rattle.wire_session.specs.Slaves.{AreOfParts, LedAfterDesk, LedThroughout};
+ghost use Rattle.wire_session.specs.Slaves.{AreOfParts};
+ghost use Rattle.script_session.specs.Running.{LedAfterDesk, LedThroughout};
 ghost use Rattle.wire_session.specs.Redoing.{BeginsAgain, CountsAll, RecoversAfter, RecoversByThreads, RedoesOpened};
 
 use crate::logs::are_of_parts;
@@ -48,7 +49,7 @@ pub(crate) fn recover_by_threads<R: Wait + Threads + AllocGlobal + Sync, D: Tell
     ensures recovered { IfOk result (λ r. HasRecovered r.alone) }
     ensures begins { IfOk result (λ r. BeginsRecovered site.seen r.alone) }
     ensures counts { IfOk result (λ r. RecoversByThreads site r.recovered r.alone) }
-    ensures reported { IfOk result (λ r. LedThroughout D.follows D.well D.tells r.reported site r.alone.seen) }
+    ensures reported { IfOk result (λ r. LedThroughout D.follows D.well D.tells false r.reported site r.alone.seen) }
     ensures own { IfOk result (λ r. AreOfParts D.is_of r.reported) }
 {
     match Alone::open_counted(rt.alloc(), site) {
@@ -72,7 +73,7 @@ fn redo_opened<R: Wait + Threads + AllocGlobal + Sync, D: TellsPart + Send>(
     ensures recovered { IfOk result (λ r. HasRecovered r.alone) }
     ensures begins { IfOk result (λ r. BeginsAgain alone r.alone) }
     ensures counts { IfOk result (λ r. RedoesOpened alone found r.recovered r.alone) }
-    ensures reported { IfOk result (λ r. LedAfterDesk D.follows D.well D.tells r.reported alone r.alone.seen) }
+    ensures reported { IfOk result (λ r. LedAfterDesk D.follows D.well D.tells false r.reported alone r.alone.seen) }
     ensures own { IfOk result (λ r. AreOfParts D.is_of r.reported) }
 {
     let redone = redo_by_threads(rt, rt.alloc(), alone, slaves)?;

@@ -4,6 +4,7 @@ ghost use Rattle.station_files.specs.Faults.{IsOfStream};
 ghost use Rattle.wire_session.specs.Reporting.{IsExplained, IsReported};
 
 use line_changes::{Before, print_image, print_report};
+use sii_words::MAX_SLAVES;
 use site_wire::LockedLine;
 use station_files::{Fault, Store};
 use std::alloc::Global;
@@ -60,7 +61,7 @@ pub(crate) fn report_end<T: Copy, S: Store, O: Write>(
 /// The fault that ended the work. Else `File` or `Memory`, as the output answers.
 pub(crate) fn tell_handed<T: Copy, O: Write>(
     tells: Tells,
-    handed: [Handed; 64],
+    handed: [Handed; MAX_SLAVES],
     ended: Result<T, WireFault>,
     output: &mut O,
 ) -> Result<T, WireFault>
@@ -80,7 +81,7 @@ pub(crate) fn tell_handed<T: Copy, O: Write>(
 }
 
 /// Prints a line for each slave whose EEPROM couldn't be handed back.
-fn print_handed<O: Write>(handed: &[Handed; 64], output: &mut O) -> Result<(), Fault>
+fn print_handed<O: Write>(handed: &[Handed; MAX_SLAVES], output: &mut O) -> Result<(), Fault>
     ensures failed { IfErr result IsOfStream }
 {
     for (slave, one) in handed.iter().enumerate() {

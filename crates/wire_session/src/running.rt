@@ -1,29 +1,33 @@
 //! The subcommand `run`.
-ghost use Rattle.std.specs.Prelude.{◌≡◌, ◌≤◌, ◌∷◌, ◌++◌, [], length, map, None, IfOk, IfSome, IsSomeAnd, IsTrue, OnOk};
+ghost use Rattle.std.specs.Prelude.{◌≡◌, ◌≤◌, ◌∷◌, ◌++◌, [], false, length, map, None, Ok, IfOk, IfSome, IsOkAnd, IsSomeAnd, IsTrue, OnOk};
 ghost use Rattle.esc_rom.specs.Owned.{OwnsAll};
+ghost use Rattle.station_files.specs.Files.{ChangesAmong};
 ghost use Rattle.station_files.specs.FileNames.{files_with, written_of};
 ghost use Rattle.station_files.specs.Locations.{AreSeparate};
+ghost use Rattle.station_line.specs.Answers.{AnswersGive};
 ghost use Rattle.station_line.specs.Validating.{HasJournal, IsRunSeparate};
 ghost use Rattle.station_line.specs.Opened.{is_old};
+ghost use Rattle.station_line.specs.Site.{files_of};
+ghost use Rattle.script_session.specs.Running.{EndsReported, SavesSite};
 ghost use Rattle.wire_scan.specs.Opening.{IsFound};
-ghost use Rattle.wire_session.specs.Ending.{Ends};
 ghost use Rattle.wire_scan.specs.Keeping.{AreOfImages};
-ghost use Rattle.wire_session.specs.Running.{BeginsWithMends, EndsFound, RunsScript, SavesSite};
-ghost use Rattle.wire_session.specs.Slaves.{AreOfParts, EndsReported};
+ghost use Rattle.wire_session.specs.Running.{BeginsWithMends, EndsFound, RunsScript};
+ghost use Rattle.wire_session.specs.Slaves.{AreOfParts};
 
 use crate::as_found::AsFound;
+use crate::expecting::expect_words;
 use crate::followed::followed;
-use crate::logs::Worked;
+use crate::logs::{Worked, are_of_parts};
 use crate::reporting::{report_end, tell_handed, tell_why};
-use crate::threads::run_threads;
 use line_changes::Before;
-use script_session::Work;
+use line_watch::Watch;
+use script_session::{LineRun, Start, Task, Work, run_line};
 use sii_edit::Command;
 use sii_words::Plant;
 use site_shadow::ShadowSite;
 use site_wire::{LiveLine, LockedLine, TellsPart, WireLog};
-use station_files::{ExitStatus, Fault, Script, Store, load_script};
-use station_line::{is_old, of_open, open_station, site_of};
+use station_files::{ExitStatus, Fault, Script, Store, load_script, worse};
+use station_line::{Answered, is_old, site_of};
 use station_text::LineFile;
 use std::alloc::{AllocError, Global};
 use std::io::Write;
@@ -56,20 +60,12 @@ pub(crate) struct RunInputs<L> {
     pub(crate) commands: Vec<Command>,
 }
 
-/// A site on which a run begins.
-#[derive(Drop)]
-struct Start<S> {
-    site: S,
-    /// Whether its journal isn't of version 2.
-    was_old: bool,
-}
-
 /// Runs the script file that the order names on the line on this wire: submits its commands in order, after those that write image files to their
 /// slaves, as was said, serves them by threads, one for each slave, which share the wire, and prints the answer to each, what is reported of them as
 /// it happens, and the totals. Each image file is replaced first by a new file with the words that its slave was found with, or is to get, and
 /// gets each word that the slave has shown, before the batch that names it is retired. A journal that isn't of version 2 is recovered and migrated
-/// first. Where no thread can be made, one serves all. The EEPROMs are handed back as they were found. Returns the exit status: `Done`, or that of
-/// the worst refusal.
+/// first. Where no thread can be made, one serves all. The EEPROMs are handed back as they were found. The progress of `watch` is told how much is to
+/// be written, if there is one. Returns the exit status: `Done`, or that of the worst refusal.
 ///
 /// # Errors
 ///
@@ -82,8 +78,9 @@ pub fn run_script<
     W: Wire + Send + Drop,
     S: Store,
     O: Write,
+    T: Write,
 >(
-    rt: &R,
+    watch: Watch<'_, T, R>,
     wire: NumberedWire<W>,
     order: RunOrder<'_>,
     store: &mut S,
@@ -92,10 +89,10 @@ pub fn run_script<
     ensures { RunsScript result order.entry.asked.mends S.leads (S.files store.old) (S.files store.new) order.entry.named.line.now order.entry.named.script.now }
 {
     let mut wire = wire;
-    match find_all(rt, &mut wire, order, store) {
+    match find_all(watch.rt, &mut wire, order, store) {
         Ok(given) => {
             let RunInputs { found, commands } = given;
-            run_found(rt, found, commands, wire, store, output)
+            run_found(watch, found, commands, wire, store, output)
         }
         Err(fault) => {
             drop(wire);
@@ -116,7 +113,8 @@ pub(crate) fn find_all<R: Clock + AllocGlobal, W: Wire, S: Store>(
     ensures validated { IfOk result (λ given. HasJournal (map length given.found.slaves.items) given.found.journal.items) }
     ensures some { IfOk result (λ given. 1 ≤ length given.found.slaves.items) }
     ensures most { IfOk result (λ given. length given.found.slaves.items ≤ 64) }
-    ensures spelt { IfOk result (λ given. BeginsWithMends (S.files store.old) order.entry.asked.mends order.entry.named.script.now given.commands.items) }
+    ensures spelt { IfOk result (λ given. BeginsWithMends (S.files store.old) given.found.line order.entry.asked.mends given.found.journal.items
+        given.found.slaves.items order.entry.named.script.now given.commands.items) }
     ensures kept { IfOk result (λ given. AreOfImages (S.files store.old) given.found.line order.entry.asked.mends given.found.journal.items given.found.slaves.items) }
     ensures images { IfOk result (λ given. length given.found.images.items ≡ length given.found.slaves.items) }
     ensures separate { IfOk result (λ given.
@@ -202,8 +200,9 @@ pub(crate) fn run_found<
     W: Wire + Send + Drop,
     S: Store,
     O: Write,
+    T: Write,
 >(
-    rt: &R,
+    watch: Watch<'_, T, R>,
     found: FoundWire<S::Lock>,
     commands: Vec<Command>,
     wire: NumberedWire<W>,
@@ -226,9 +225,14 @@ pub(crate) fn run_found<
         lock: _lock,
         tells,
     } = found;
-    let work = Work {
-        commands,
-        tells_events: tells.events,
+    expect_words(watch, &journal, &slaves, &commands);
+    // No process data go over a wire: no slave is in a state in which it takes them (ETG.1000.6).
+    let task = Task {
+        work: Work {
+            commands,
+            tells_events: tells.events,
+        },
+        turns: false,
     };
     let locked = LockedLine::new(LiveLine::new(wire));
     let as_found = AsFound {
@@ -240,8 +244,8 @@ pub(crate) fn run_found<
     let Worked {
         ended,
         reported: of_devices,
-    } = run_opened(rt, as_found, &locked, work, store, output);
-    let explained = tell_why(rt, &locked, ended);
+    } = run_opened(watch.rt, as_found, &locked, task, store, output);
+    let explained = tell_why(watch.rt, &locked, ended);
     let mut wire = locked.into_line().into_wire();
     hand_back(&mut wire, &states);
     let reported = tell_handed(tells, wire.handed(), explained, output);
@@ -249,7 +253,7 @@ pub(crate) fn run_found<
     let words = Plant::of(slaves);
     let before = Before { line, words };
     Worked {
-        ended: report_end(rt.alloc(), tells, &before, reported, store, output),
+        ended: report_end(watch.rt.alloc(), tells, &before, reported, store, output),
         reported: of_devices,
     }
 }
@@ -264,7 +268,7 @@ fn run_opened<
     rt: &R,
     found: AsFound<'_>,
     locked: &LockedLine<W>,
-    work: Work,
+    task: Task,
     store: &mut S,
     output: &mut O,
 ) -> Worked<ExitStatus, WireLog>
@@ -272,8 +276,9 @@ fn run_opened<
     requires most { length found.slaves.now ≤ 64 }
     requires count { length found.slaves.now ≡ length found.line.now.images.items }
     requires images { length found.images.now ≡ length found.line.now.images.items }
+    requires still { task.turns ≡ false }
     ensures { EndsFound result (S.files store.old) (S.files store.new)
-        found.entry.line.now found.entry.slaves.now found.entry.journal.items work.commands.items }
+        found.entry.line.now found.entry.slaves.now found.entry.journal.items task.work.commands.items }
 {
     let AsFound {
         line,
@@ -285,46 +290,80 @@ fn run_opened<
         Ok(files) => files,
         Err(fault) => {
             drop(journal);
-            drop(work);
+            drop(task);
             return Worked::of_fault(fault);
         }
     };
-    let was_old = is_old(&journal);
+    let is_old = is_old(&journal);
     let images = Images::new(files.images);
     let device = followed(rt, locked, files.journal, &images);
     match site_of(rt.alloc(), slaves, journal, device) {
-        Ok(site) => run_site(rt, line, Start { site, was_old }, work, store, output),
+        Ok(site) => run_site(rt, line, Start { site, is_old }, task, store, output),
         Err(AllocError) => {
-            drop(work);
+            drop(task);
             Worked::of_fault(Fault::Memory)
         }
     }
 }
 
-/// Opens the station on this line, and serves the commands by threads.
+/// Runs the commands on this line. `Unserved` where a part's device isn't reported as its own.
 fn run_site<R: Wait + Threads + AllocGlobal + Sync, D: TellsPart + Send, S: Store, O: Write>(
     rt: &R,
     line: &LineFile,
     start: Start<ShadowSite<D>>,
-    work: Work,
+    task: Task,
     store: &mut S,
     output: &mut O,
 ) -> Worked<ExitStatus, D::Logged>
     requires disk { IsTrue start.site.line.has_disk }
     requires owned { OwnsAll start.site.line }
-    requires old { start.was_old ≡ is_old start.site.seen.state.disk.bytes }
+    requires old { start.is_old ≡ is_old start.site.seen.state.disk.bytes }
     ensures own { IfSome result.reported (λ reported. AreOfParts D.is_of reported.desk) }
-    ensures ends { Ends (SavesSite (λ last. IsSomeAnd result.reported (λ reported.
-        EndsReported D.follows D.well D.tells start.site (length line.now.images.items) reported last)) (S.files store.new) line.now
-        start.site work.commands.items) result.ended (S.files store.old) (S.files store.new) line.now }
+    ensures others { ChangesAmong (S.files store.old) (S.files store.new) (files_of line.now) }
+    ensures saved { IfOk result.ended (AnswersGive (SavesSite (λ last. IsSomeAnd result.reported (λ reported.
+        EndsReported D.follows D.well D.tells task.turns start.site (length line.now.images.items) reported last)) (S.files store.new) line.now
+        start.site task.work.commands.items)) }
 {
-    let Start { site, was_old } = start;
-    match open_station(rt.alloc(), site, was_old) {
-        Ok(alone) => run_threads(rt, line, alone, work, store, output),
-        Err((left, fault)) => {
-            drop(left);
-            drop(work);
-            Worked::of_fault(of_open(fault))
+    let LineRun {
+        answers,
+        closed,
+        ended,
+        reported,
+    } = run_line(rt, line, start, task, store, output);
+    let ended = end_of(answers, closed, ended);
+    match reported.whole() {
+        Some(whole) => {
+            if !are_of_parts::<D>(&whole.desk) {
+                drop(whole);
+                return Worked::of_fault(Fault::Unserved);
+            }
+            Worked {
+                ended,
+                reported: Some(whole),
+            }
         }
+        None => Worked {
+            ended,
+            reported: None,
+        },
+    }
+}
+
+/// How a run ended: with the exit status that its answers give, or a fault, that of its desk first.
+fn end_of(
+    answers: Answered,
+    closed: Result<(), Fault>,
+    ended: Result<Answered, Fault>,
+) -> Result<ExitStatus, WireFault>
+    ensures closed { OnOk result (closed ≡ Ok tt) }
+    ensures ended { IfOk result (AnswersGive (λ answered. IsOkAnd ended (λ given.
+        answered ≡ Answered.AllAccepted → (answers ≡ Answered.AllAccepted) × (given ≡ Answered.AllAccepted)))) }
+{
+    match closed {
+        Ok(()) => match ended {
+            Ok(given) => Ok(worse(answers.status(), given.status())),
+            Err(fault) => Err(WireFault::Station(fault)),
+        },
+        Err(fault) => Err(WireFault::Station(fault)),
     }
 }

@@ -9,6 +9,7 @@ use crate::wire::rows::{rows, wire_program};
 use crate::wire::sizes::sizes_of;
 use crate::wire::which::which_in;
 use command_line::{ParsedArguments, Unread, read_typed, read_words, refuse, small_in};
+use sii_words::MAX_SLAVES;
 use station_listing::Code;
 use station_rows::Form;
 use station_session::RunNames;
@@ -173,7 +174,7 @@ fn room_of(text: &str) -> Option<Room> {
         None => (text, FRAME_BYTES),
     };
     let datagrams = count.parse::<u16>().ok()?;
-    if (1..=64).contains(&datagrams) && (28..=FRAME_BYTES).contains(&bytes) {
+    if (1..=MAX_SLAVES).contains(&usize::from(datagrams)) && (28..=FRAME_BYTES).contains(&bytes) {
         Some(Room { datagrams, bytes })
     } else {
         None

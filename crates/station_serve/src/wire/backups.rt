@@ -2,8 +2,7 @@
 
 use crate::wire::serving::all_done;
 use command_line::Escaped;
-use jiff::Timestamp;
-use jiff::tz::Offset;
+use jiff_core::civil::DateTime;
 use station_files::{ExitStatus, Fault, Store};
 use std::io::Write;
 use std::rt::Clock;
@@ -27,7 +26,7 @@ pub fn back_up_to<H: Clock + AllocGlobal, W: Wire, S: Store, O: Write>(
     store: &mut S,
     output: &mut O,
 ) -> Result<ExitStatus, WireFault> {
-    let stem = dated_name(rt, folder, "%Y%m%d-%H%M%S")?;
+    let stem = dated_name(rt, folder, false)?;
     let line = format!(in rt.alloc(); "{stem}.toml")?;
     let ended = back_up(rt, &line, sizes, wire, store, output)?;
     let name = Escaped {
@@ -55,7 +54,8 @@ pub(crate) fn back_up<H: Clock + AllocGlobal, W: Wire, S: Store, O: Write>(
     all_done(begin_journal(rt.alloc(), line, store, output))
 }
 
-/// A name in this folder that says the date and the time now, in UTC, in this form, as `FOLDER/20261126-211500`.
+/// A name in this folder that says the date and the time now, in UTC, as `FOLDER/20261126-211500`; where it is exact, with microseconds, as
+/// `FOLDER/20261126-211500.123456`.
 ///
 /// # Errors
 ///
@@ -63,14 +63,25 @@ pub(crate) fn back_up<H: Clock + AllocGlobal, W: Wire, S: Store, O: Write>(
 pub(crate) fn dated_name<R: Clock + AllocGlobal>(
     rt: &R,
     folder: &str,
-    form: &str,
+    is_exact: bool,
 ) -> Result<String, Fault> {
-    let Ok(now) = Timestamp::now(rt) else {
+    let Some(now) = now_in_utc(rt) else {
         return Err(Fault::File);
     };
-    let there = Offset::UTC.to_datetime(now);
-    match there.strftime(rt.alloc(), form) {
-        Ok(stamp) => Ok(format!(in rt.alloc(); "{folder}/{stamp}")?),
-        Err(_) => Err(Fault::Memory),
+    let (year, month, day) = (now.date.year, now.date.month, now.date.day);
+    let (hour, minute, second) = (now.time.hour, now.time.minute, now.time.second);
+    let stem = format!(in rt.alloc();
+        "{folder}/{year:04}{month:02}{day:02}-{hour:02}{minute:02}{second:02}"
+    )?;
+    if !is_exact {
+        return Ok(stem);
     }
+    let microsecond = now.time.subsec_nanosecond / 1000;
+    Ok(format!(in rt.alloc(); "{stem}.{microsecond:06}")?)
+}
+
+/// The date and the time now, in UTC.
+fn now_in_utc<R: Clock>(rt: &R) -> Option<DateTime> {
+    let since_1970 = rt.since_1970().ok()?;
+    DateTime::from_nanosecond(i128::try_from(since_1970.as_nanos()).ok()?).ok()
 }

@@ -9,6 +9,7 @@ use crate::wire::one_slave::find_slaves;
 use crate::wire::serving::all_done;
 use crate::wire::which::Which;
 use line_changes::{Before, changes_since, put_changes};
+use line_watch::Watch;
 use sii_words::{ImageFile, Plant};
 use station_files::{Entry, ExitStatus, Fault, Place, Store, load_line, read_image};
 use station_listing::Code;
@@ -79,32 +80,16 @@ pub(crate) fn last_line(alloc: Global, folder: &str) -> Result<String, AllocErro
 /// # Errors
 ///
 /// As for `make_ready`, with no word of a slave written; then as for `run_script`; then `File` or `Memory`, as files or the output answer.
-pub(crate) fn change_slave<H: Host, W: Wire + Send + Drop, S: Store, O: Write>(
-    rt: &H,
+pub(crate) fn change_slave<H: Host, W: Wire + Send + Drop, S: Store, O: Write, T: Write>(
+    watch: Watch<'_, T, H>,
     wire: NumberedWire<W>,
     change: Change<'_>,
     store: &mut S,
     output: &mut O,
 ) -> Result<ExitStatus, WireFault> {
     let mut wire = wire;
-    match make_ready(rt, &mut wire, change, store, output) {
-        Ok(ready) => run_ready(rt, wire, change.asked, ready, store, output),
-        Err(fault) => {
-            drop(wire);
-            Err(fault)
-        }
-    }
-}
-
-/// Runs the script that was made ready, and prints what has changed, if it ends well.
-fn run_ready<H: Host, W: Wire + Send + Drop, S: Store, O: Write>(
-    rt: &H,
-    wire: NumberedWire<W>,
-    asked: ScanOptions,
-    ready: Ready,
-    store: &mut S,
-    output: &mut O,
-) -> Result<ExitStatus, WireFault> {
+    let ready = make_ready(watch.rt, &mut wire, change, store, output)?;
+    let asked = change.asked;
     let order = RunOrder {
         named: Named {
             line: ready.line.as_str(),
@@ -112,8 +97,10 @@ fn run_ready<H: Host, W: Wire + Send + Drop, S: Store, O: Write>(
         },
         asked,
     };
-    match run_script(rt, wire, order, store, output).into_ended() {
-        Ok(ExitStatus::Done) => tell_changed(rt.alloc(), asked.tells.form, ready, store, output),
+    match run_script(watch, wire, order, store, output).into_ended() {
+        Ok(ExitStatus::Done) => {
+            tell_changed(watch.rt.alloc(), asked.tells.form, ready, store, output)
+        }
         ended => ended,
     }
 }
@@ -136,10 +123,8 @@ fn make_ready<H: Clock + AllocGlobal, W: Wire, S: Store, O: Write>(
 ) -> Result<Ready, WireFault> {
     require_ended(rt.alloc(), change.folder, store)?;
     let image = image_in(rt.alloc(), change.new, store)?;
-    match find_meant(rt, wire, change, image) {
-        Ok(meant) => write_ready(rt, change, meant, store, output),
-        Err(fault) => Err(fault),
-    }
+    let meant = find_meant(rt, wire, change, image)?;
+    write_ready(rt, change, meant, store, output)
 }
 
 /// The slaves of a line, and which of them is meant.
@@ -160,7 +145,12 @@ fn find_meant<H: Clock + AllocGlobal, W: Wire>(
 ) -> Result<Meant, WireFault>
     ensures { IfOk result (λ meant. meant.place < length meant.words) }
 {
-    let meant = find_one(rt, wire, change)?;
+    if !change.asked.is_forced && !wire.is_lent() {
+        let seen = look_along(wire)?;
+        validate_states(&seen.states, usize::from(seen.slaves))?;
+    }
+    let found = find_slaves(rt, wire, &change.sizes)?;
+    let meant = meant_in(rt.alloc(), found, change)?;
     match &image {
         Some(image) if !change.asked.any_device => {
             validate_image(meant.place, meant.words.slave(meant.place), image)?;
@@ -170,24 +160,6 @@ fn find_meant<H: Clock + AllocGlobal, W: Wire>(
     Ok(meant)
 }
 
-/// Finds the line on this wire, and the slave that is meant.
-fn find_one<H: Clock + AllocGlobal, W: Wire>(
-    rt: &H,
-    wire: &mut NumberedWire<W>,
-    change: Change<'_>,
-) -> Result<Meant, WireFault>
-    ensures { IfOk result (λ meant. meant.place < length meant.words) }
-{
-    if !change.asked.is_forced && !wire.is_lent() {
-        let seen = look_along(wire)?;
-        validate_states(&seen.states, usize::from(seen.slaves))?;
-    }
-    match find_slaves(rt, wire, &change.sizes) {
-        Ok(found) => meant_in(rt.alloc(), found, change),
-        Err(fault) => Err(WireFault::Line(fault)),
-    }
-}
-
 /// The slave that is meant on a line that was found.
 fn meant_in(alloc: Global, found: FoundLine, change: Change<'_>) -> Result<Meant, WireFault>
     requires { length found.slaves.items ≤ 64 }
@@ -195,13 +167,8 @@ fn meant_in(alloc: Global, found: FoundLine, change: Change<'_>) -> Result<Meant
 {
     let place = change.which.place_in(&found)?;
     validate_measures(&found, &change.sizes)?;
-    match found.into_words(alloc) {
-        Ok(words) => Ok(Meant {
-            words: Plant::of(words),
-            place,
-        }),
-        Err(fault) => Err(WireFault::Line(fault)),
-    }
+    let words = Plant::of(found.into_words(alloc)?);
+    Ok(Meant { words, place })
 }
 
 /// Writes into the folder what a run needs that changes this slave.
@@ -214,23 +181,16 @@ fn write_ready<H: Clock + AllocGlobal, S: Store, O: Write>(
 ) -> Result<Ready, WireFault>
     requires { meant.place < length meant.words }
 {
-    let stem = dated_name(rt, change.folder, "%Y%m%d-%H%M%S%.6f")?;
-    keep_image(rt.alloc(), stem.as_str(), &meant, store, output)?;
-    let script = write_script(rt.alloc(), stem.as_str(), meant.place, change.new, store)?;
-    match begin_line(
-        rt.alloc(),
-        change.folder,
-        stem.as_str(),
-        &meant.words,
-        store,
-    ) {
-        Ok(line) => Ok(Ready {
-            line,
-            script,
-            words: meant.words,
-        }),
-        Err(fault) => Err(fault),
-    }
+    let alloc = rt.alloc();
+    let stem = dated_name(rt, change.folder, true)?;
+    keep_image(alloc, stem.as_str(), &meant, store, output)?;
+    let script = write_script(alloc, stem.as_str(), meant.place, change.new, store)?;
+    let line = begin_line(alloc, change.folder, stem.as_str(), &meant.words, store)?;
+    Ok(Ready {
+        line,
+        script,
+        words: meant.words,
+    })
 }
 
 /// Writes the image of the slave that is meant to a file, and prints its name.
@@ -385,21 +345,10 @@ fn tell_changed<S: Store, O: Write>(
 ) -> Result<ExitStatus, WireFault> {
     let Ready { line, words, .. } = ready;
     let line = load_line(alloc, line.as_str(), store)?;
-    all_done(tell_done(alloc, form, &Before { line, words }, store, output))
-}
-
-/// Prints the words that have changed since, and that all is done.
-fn tell_done<S: Store, O: Write>(
-    alloc: Global,
-    form: Form,
-    before: &Before,
-    store: &mut S,
-    output: &mut O,
-) -> Result<(), Fault> {
-    let report = changes_since(alloc, before, store)?;
+    let report = changes_since(alloc, &Before { line, words }, store)?;
     let mut rows = Rows::new(alloc, form);
     put_changes(&mut rows, &report.changes)?;
     let row = [said("", "done"), named("words", report.changes.len())];
     rows.put("done", &row)?;
-    rows.write(output)
+    all_done(rows.write(output))
 }

@@ -1,5 +1,6 @@
 //! What is right for each slave of a line, as text.
 
+use sii_words::MAX_SLAVES;
 use wire_scan::{Mend, Mends};
 
 /// What the options say of each slave: those of `found` are right themselves, of those of `file` the image files are, and those of `exchanged` were
@@ -9,7 +10,7 @@ pub(crate) fn mends_of(
     file: Option<&str>,
     exchanged: Option<&str>,
 ) -> Option<Mends> {
-    let mut mends = [Mend::Unsaid; 64];
+    let mut mends = [Mend::Unsaid; MAX_SLAVES];
     for (said, text) in [
         (Mend::Slave, found),
         (Mend::File, file),

@@ -9,7 +9,7 @@ use crate::wire::shared_arguments::{
 use crate::wire::slave_rows::{alias_row, diff_row, read_row, show_row, verify_row, write_row};
 use command_line::{
     Argument, INTERFACE, Kind, Program, STATE, Subcommand, TEXT, TIMEOUT,
-    TYPED_COMMANDS as COMMANDS, WIRE,
+    TYPED_COMMANDS as COMMANDS, WIRE, argument, subcommand,
 };
 
 /// The line file of `scan`.
@@ -19,12 +19,10 @@ const COMPARED: Argument = Argument {
     ..LINE
 };
 
-const SCAN: Subcommand = Subcommand {
-    name: "scan",
-    about: "Prints what the slaves of the line are",
-    long_about: "Brings up the line and reads the EEPROM of each slave. No word and no file is written, but for that of --capture.",
-    after_help: "Examples:\n  sii_wire -i eth0 scan\n  sii_wire -i eth0 scan line.toml",
-    after_long_help: "Answers, a line for each slave:
+const SCAN: Subcommand = subcommand!("scan": "Prints what the slaves of the line are",
+    long: "Brings up the line and reads the EEPROM of each slave. No word and no file is written, but for that of --capture.",
+    after: "Examples:\n  sii_wire -i eth0 scan\n  sii_wire -i eth0 scan line.toml",
+    answers: "Answers, a line for each slave:
   slave P words N alias A check C vendor V product Q revision R serial S
                    P is its position, from 0, and N the size of its EEPROM;
                    C is ok, or bad with the check byte found and the one expected
@@ -46,8 +44,7 @@ and with LINE:
                    N words differ, the first of them W: the slave has X, and the file
                    Y; R is what it usually is: elsewhere (place P: it is that slave of
                    the line), same type, other type, torn, or changed",
-    arguments: &[COMPARED, WORDS, JSON, BESIDE, CARRY, TAKE, CAPTURE, QUIET],
-};
+    [COMPARED, WORDS, JSON, BESIDE, CARRY, TAKE, CAPTURE, QUIET]);
 
 fn scan_row() -> Subcommand {
     SCAN
@@ -59,23 +56,18 @@ const BACKED: Argument = Argument {
     ..LINE
 };
 
-const FOLDER: Argument = Argument {
-    id: "to",
-    kind: Kind::TextWithout("FOLDER", "LINE"),
-    help: "Writes a backup of its own into this folder, under the date and the time",
-    long_help: "Writes the line file, the image files and the journal into FOLDER, which has to be
+const FOLDER: Argument =
+    argument!("to": TextWithout("FOLDER", "LINE") => "Writes a backup of its own into this folder, under the date and the time",
+    "Writes the line file, the image files and the journal into FOLDER, which has to be
 there, under names that begin with the date and the time in UTC, as
 FOLDER/20261126-211500.toml and FOLDER/20261126-211500-s0.bin, and prints the name of
-the line file. Nothing that is there is written over.",
-};
+the line file. Nothing that is there is written over.");
 
-const BACKUP: Subcommand = Subcommand {
-    name: "backup",
-    about: "Writes the words of each slave to its image file",
-    long_about: "Brings up the line, reads the EEPROM of each slave, writes its words to its image file, and makes an empty journal if there is \
+const BACKUP: Subcommand = subcommand!("backup": "Writes the words of each slave to its image file",
+    long: "Brings up the line, reads the EEPROM of each slave, writes its words to its image file, and makes an empty journal if there is \
         none. No word of a slave is written.",
-    after_help: "Examples:\n  sii_wire -i eth0 backup line.toml\n  sii_wire -i eth0 backup --to backups",
-    after_long_help: "A line file that is there says where the images go. Where LINE isn't there it is
+    after: "Examples:\n  sii_wire -i eth0 backup line.toml\n  sii_wire -i eth0 backup --to backups",
+    answers: "A line file that is there says where the images go. Where LINE isn't there it is
 written too: of a name like line.toml it names line-s0.bin, line-s1.bin and so on,
 and line-journal.bin. No file that is there already is written over. An image file
 with its slave's words counts as written, and an empty journal of the line as made;
@@ -90,41 +82,33 @@ and then, where the journal was made:
   formatted AREA   it is empty; its area has AREA bytes
 and with --to, behind all:
   line NAME        the name of the line file",
-    arguments: &[
-        BACKED, FOLDER, WORDS, JSON, BESIDE, CARRY, TAKE, CAPTURE, QUIET,
-    ],
-};
+    [BACKED, FOLDER, WORDS, JSON, BESIDE, CARRY, TAKE, CAPTURE, QUIET]);
 
 fn backup_row() -> Subcommand {
     BACKUP
 }
 
-const INIT: Subcommand = Subcommand {
-    name: "init",
-    about: "Makes an empty journal for the line",
-    long_about: "Brings up the line, and makes an empty journal for as many slaves. No word of a slave is written.",
-    after_help: "Example:\n  sii_wire -i eth0 init line.toml",
-    after_long_help: "Answers:
+const INIT: Subcommand = subcommand!("init": "Makes an empty journal for the line",
+    long: "Brings up the line, and makes an empty journal for as many slaves. No word of a slave is written.",
+    after: "Example:\n  sii_wire -i eth0 init line.toml",
+    answers: "Answers:
   formatted AREA   the journal is there, and empty; its area has AREA bytes
 The line file has to name an image file for each slave, and these have to be there,
 as backup leaves them. A journal that is there already is never written over:
 fault 94 Exists.",
-    arguments: &[LINE, JSON, BESIDE, CARRY, TAKE, TRUST, CAPTURE, QUIET],
-};
+    [LINE, JSON, BESIDE, CARRY, TAKE, TRUST, CAPTURE, QUIET]);
 
 fn init_row() -> Subcommand {
     INIT
 }
 
-const RUN: Subcommand = Subcommand {
-    name: "run",
-    about: "Runs the commands of a script on the line",
-    long_about: "Brings up the line, submits the commands of the script in order, carries them out,
+const RUN: Subcommand = subcommand!("run": "Runs the commands of a script on the line",
+    long: "Brings up the line, submits the commands of the script in order, carries them out,
 all slaves at the same time, and writes the words of each slave to its image file.",
-    after_help: "Examples:
+    after: "Examples:
   sii_wire -i eth0 run line.toml script.toml
   sii_wire -i eth0 run line.toml -e 'alias = { slave = 2, value = 7 }'",
-    after_long_help: "Answers:
+    answers: "Answers:
   command I accepted N           command I of the script has number N, from 0
   command I refused CODE NAME    it isn't done, and changes nothing
   ... at P                       of a group, edit P is the reason
@@ -143,25 +127,20 @@ a command that makes word 0x3e tell another size than the EEPROM has (112), an i
 another vendor or product, or with fewer words than the EEPROM (114), unless the script
 says replace = true with it, and a slave that has other words than its image file
 (115), unless --found, --file or --exchanged names it. Commands of --file and --exchanged come first.",
-    arguments: &[
-        LINE, SCRIPT, COMMANDS, BESIDE, CARRY, FORCE, TRUST, RESIZE, ANY_DEVICE, FOUND, FILE,
-        EXCHANGED, REPORT, EVENTS, JSON, CAPTURE, QUIET,
-    ],
-};
+    [LINE, SCRIPT, COMMANDS, BESIDE, CARRY, FORCE, TRUST, RESIZE, ANY_DEVICE, FOUND, FILE, EXCHANGED, REPORT, EVENTS, JSON, CAPTURE, QUIET]);
 
 fn run_row() -> Subcommand {
     RUN
 }
 
-const PLAN: Subcommand = Subcommand {
-    name: "plan",
-    about: "Says what a script would do to the line, and does nothing",
-    long_about: "Brings up the line, and prints how run would answer each command of the script, which words of which slaves would change, and \
+const PLAN: Subcommand =
+    subcommand!("plan": "Says what a script would do to the line, and does nothing",
+    long: "Brings up the line, and prints how run would answer each command of the script, which words of which slaves would change, and \
         how much would be written.",
-    after_help: "Examples:
+    after: "Examples:
   sii_wire -i eth0 plan line.toml script.toml
   sii_wire -i eth0 plan line.toml -e 'alias = { slave = 2, value = 7 }'",
-    after_long_help: "Answers, which sii_station plan --help lists in full:
+    answers: "Answers, which sii_station plan --help lists in full:
   command I accepted N           as run would answer, see run --help
   command I refused CODE NAME
   accepted A durable D settled S
@@ -175,11 +154,7 @@ and the process image before and after, if it changes.
 The line is found as for run: with the same flags, and refused for the same reasons
 before anything is printed. No word of a slave and no file is written, but for that
 of --capture.",
-    arguments: &[
-        LINE, SCRIPT, COMMANDS, JSON, BESIDE, CARRY, FORCE, TRUST, RESIZE, ANY_DEVICE, FOUND, FILE,
-        EXCHANGED, CAPTURE, QUIET,
-    ],
-};
+    [LINE, SCRIPT, COMMANDS, JSON, BESIDE, CARRY, FORCE, TRUST, RESIZE, ANY_DEVICE, FOUND, FILE, EXCHANGED, CAPTURE, QUIET]);
 
 fn plan_row() -> Subcommand {
     PLAN
@@ -192,12 +167,10 @@ const RECOVERED: Argument = Argument {
     ..LINE
 };
 
-const RECOVER: Subcommand = Subcommand {
-    name: "recover",
-    about: "Recovers the line after a power cut",
-    long_about: "Brings up the line, does what is live in its journal, and writes the words of each slave to its image file.",
-    after_help: "Examples:\n  sii_wire -i eth0 recover line.toml\n  sii_wire -i eth0 recover",
-    after_long_help: "Answers:
+const RECOVER: Subcommand = subcommand!("recover": "Recovers the line after a power cut",
+    long: "Brings up the line, does what is live in its journal, and writes the words of each slave to its image file.",
+    after: "Examples:\n  sii_wire -i eth0 recover line.toml\n  sii_wire -i eth0 recover",
+    answers: "Answers:
   recovered batches B commands C words W
                    the journal held B batches that weren't done, with C commands,
                    and W words of them were written to the slaves
@@ -213,21 +186,17 @@ writes, is refused (fault 115) before a word is written, unless --found, --file 
 Without LINE it recovers the line on which alias or write was cut, and prints
   line NAME        the name of its line file
 first.",
-    arguments: &[
-        RECOVERED, BESIDE, CARRY, TAKE, TRUST, FOUND, FILE, EXCHANGED, REPORT, JSON, CAPTURE, QUIET,
-    ],
-};
+    [RECOVERED, BESIDE, CARRY, TAKE, TRUST, FOUND, FILE, EXCHANGED, REPORT, JSON, CAPTURE, QUIET]);
 
 fn recover_row() -> Subcommand {
     RECOVER
 }
 
-const PENDING: Subcommand = Subcommand {
-    name: "pending",
-    about: "Says what a recovery is still to write, and gives up a slave that can't be written",
-    long_about: "Brings up the line, and prints which words of each slave recover would write. Gives a slave up where that is said.",
-    after_help: "Examples:\n  sii_wire -i eth0 pending line.toml\n  sii_wire -i eth0 pending line.toml --give-up 2",
-    after_long_help: "Answers:
+const PENDING: Subcommand =
+    subcommand!("pending": "Says what a recovery is still to write, and gives up a slave that can't be written",
+    long: "Brings up the line, and prints which words of each slave recover would write. Gives a slave up where that is said.",
+    after: "Examples:\n  sii_wire -i eth0 pending line.toml\n  sii_wire -i eth0 pending line.toml --give-up 2",
+    answers: "Answers:
   slave P pending N
                    recover is still to write N words of slave P; then a line for each:
   slave P word 0xW has 0xH pending 0xV
@@ -241,10 +210,7 @@ A slave that has other words than its image file (fault 115) matters only where 
 one is given up.
 
 Without LINE it is the line on which alias or write was cut.",
-    arguments: &[
-        RECOVERED, GIVE_UP, JSON, BESIDE, CARRY, TAKE, TRUST, CAPTURE, QUIET,
-    ],
-};
+    [RECOVERED, GIVE_UP, JSON, BESIDE, CARRY, TAKE, TRUST, CAPTURE, QUIET]);
 
 fn pending_row() -> Subcommand {
     PENDING

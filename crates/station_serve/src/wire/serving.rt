@@ -1,20 +1,18 @@
 //! The program as a function of its arguments and streams.
 
 use crate::pages::{explanation, print_page};
-use crate::refusals::tell_refused;
-use crate::serving::Host;
+use crate::refusals::{status_of_plan, tell_refused};
+use crate::serving::{Host, watch_of};
 use crate::wire::arguments::{Arguments, Reading, Task, Tenure};
 use crate::wire::backups::{back_up, back_up_to};
 use crate::wire::capture::{begin_capture, end_capture};
 use crate::wire::changing::{change_slave, last_line, require_ended};
-use crate::wire::expecting::words_expected;
 use crate::wire::one_slave::look_at_slave;
 use command_line::{InputScript, Script};
-use line_watch::{Capture, Cleared, ObservedWire, Progress};
+use line_watch::{Capture, Cleared, ObservedWire, Progress, Watch};
 use site_file::RandomAccessFile;
 use station_files::{ExitStatus, Failure, Failures, Fault, Store, report_fault};
-use station_rows::LineRows;
-use station_session::RunNames;
+use station_rows::{LineRows, RefusedCommand};
 use station_troubles::{CAPTURE_OR_OUTPUT, Noting, OUTPUT, tell_more};
 use std::alloc::Global;
 use std::io;
@@ -26,7 +24,7 @@ use wire_scan::{
     CaptureNames, Mend, Mends, PendingOrder, ScanOptions, keep_capture_separate, list_pending,
     scan_files, scan_line,
 };
-use wire_session::{RunOrder, init_on_wire, mend_line, plan_on_wire, recover_line, run_script};
+use wire_session::{init_on_wire, mend_line, plan_on_wire, recover_line, run_script};
 
 /// A connection to a line.
 #[derive(Drop)]
@@ -96,7 +94,8 @@ fn serve_noting<
 ) -> ExitStatus {
     let alloc = rt.alloc();
     let mut noting = Noting::new(alloc, store, screen.is_reported);
-    let mut lines = LineRows::new(alloc, arguments.form, screen.is_reported, output);
+    let remembers = screen.is_reported && !matches!(arguments.task, Task::Reads(_));
+    let mut lines = LineRows::new(alloc, arguments.form, remembers, output);
     serve_job(rt, arguments, screen, connection, &mut noting, &mut lines)
 }
 
@@ -126,40 +125,23 @@ fn serve_job<
     match begin_separate(alloc, arguments.capture, arguments.separate, store) {
         Ok(begun) => {
             let files = arguments.task.run_files();
-            let mut progress = Progress::begin(
-                rt,
-                if arguments.is_quiet { None } else { terminal },
+            let progress = Progress::begin(rt, if arguments.is_quiet { None } else { terminal });
+            let watch = watch_of(rt, progress.as_ref());
+            let capture = begun.as_ref();
+            let (ended, planned) = do_observed(
+                watch, &arguments, capture, connection, store, lines,
             );
-            expect_words(alloc, files, &mut progress, store);
-            let watch = (begun.as_ref(), progress.as_ref());
-            let ended = do_observed(rt, &arguments, watch, connection, store, lines);
-            let status = status_of(ended, is_reported, store, lines, faults);
-            tell_refused(alloc, "sii_wire", files, lines.refused(), store, faults);
+            let status = status_of(ended, is_reported, OUTPUT, store, lines, faults);
+            if is_reported {
+                tell_refused(alloc, "sii_wire", files, lines.refused(), store, faults);
+                tell_refused(alloc, "sii_wire", files, &planned, store, faults);
+            }
             end_observed(begun, status, lines, faults)
         }
         Err(fault) => {
             drop(connection);
-            put_fault(WireFault::Station(fault), lines);
-            let status = report_fault(fault, faults);
-            if is_reported {
-                let reported = store.reported(fault.code(), CAPTURE_OR_OUTPUT);
-                tell_more("sii_wire", fault.code(), reported, faults);
-            }
-            status
-        }
-    }
-}
-
-/// Counts the words that a run will write for the progress, if that can be told.
-fn expect_words<S: Store, T: Write>(
-    alloc: Global,
-    files: RunNames<'_>,
-    progress: &mut Option<Progress<T>>,
-    store: &mut S,
-) {
-    if let Some(progress) = progress {
-        if let Some(words) = words_expected(alloc, files, store) {
-            progress.expect_words(words);
+            let ended = Err(WireFault::Station(fault));
+            status_of(ended, is_reported, CAPTURE_OR_OUTPUT, store, lines, faults)
         }
     }
 }
@@ -189,7 +171,7 @@ fn put_fault<O: Write>(fault: WireFault, lines: &mut LineRows<'_, O>) {
 }
 
 /// Carries out a task on this wire, whose frames are written to the capture, if there is one, and count for the progress. The line of the progress
-/// gives way to the text.
+/// gives way to the text. Gives the commands that a plan refuses, too.
 fn do_observed<
     H: Host,
     R: Read + Send + Drop,
@@ -198,24 +180,33 @@ fn do_observed<
     O: Write,
     T: Write + Send + Drop,
 >(
-    rt: &H,
+    watch: Watch<'_, T, H>,
     arguments: &Arguments<'_>,
-    watch: (Option<&Capture<S::File>>, Option<&Progress<T>>),
+    capture: Option<&Capture<S::File>>,
     connection: Connection<R, W>,
     store: &mut S,
     output: &mut O,
-) -> Result<ExitStatus, WireFault> {
+) -> (Result<ExitStatus, WireFault>, Vec<RefusedCommand>) {
     let Connection { wire, number } = connection;
-    let (capture, progress) = watch;
+    let Watch { rt, progress } = watch;
     let timed = TimedWire::new(wire, rt, arguments.time_out);
     let observed = ObservedWire::new(timed, capture, progress, rt);
-    let numbered = numbered_wire(observed, number, arguments.tenure);
+    let numbered = match arguments.tenure {
+        Tenure::Own => NumberedWire::new(observed, number),
+        Tenure::Lent { is_forced, room } => NumberedWire::lent(observed, number, is_forced, room),
+    };
     let mut cleared = Cleared::new(output, progress, rt);
-    let ended = do_task(rt, arguments.task, numbered, store, &mut cleared);
-    if let Some(progress) = progress {
-        progress.erase(rt);
-    }
-    ended
+    let mut refused = Vec::new(rt.alloc());
+    let ended = do_task(
+        watch,
+        arguments.task,
+        numbered,
+        store,
+        &mut cleared,
+        &mut refused,
+    );
+    watch.erase();
+    (ended, refused)
 }
 
 /// Begins the capture, if one is named and it is none of the files that the call works on.
@@ -235,34 +226,32 @@ fn begin_separate<S: Store>(
     begin_capture(capture, store)
 }
 
-/// The wire, as it is to be used.
-fn numbered_wire<W: Wire>(wire: W, number: u32, tenure: Tenure) -> NumberedWire<W> {
-    match tenure {
-        Tenure::Own => NumberedWire::new(wire, number),
-        Tenure::Lent { is_forced, room } => NumberedWire::lent(wire, number, is_forced, room),
-    }
-}
-
-/// Carries out a task on this wire.
-fn do_task<H: Host, W: Wire + Send + Drop, S: Store, O: Write>(
-    rt: &H,
+/// Carries out a task on this wire. The commands that a plan refuses are put to `refused`.
+fn do_task<H: Host, W: Wire + Send + Drop, S: Store, O: Write, T: Write>(
+    watch: Watch<'_, T, H>,
     task: Task<'_>,
     wire: NumberedWire<W>,
     store: &mut S,
     output: &mut O,
+    refused: &mut Vec<RefusedCommand>,
 ) -> Result<ExitStatus, WireFault> {
     match task {
         Task::Reads(task) => {
             let mut wire = wire;
-            let ended = read(rt, task, &mut wire, store, output);
+            let ended = read(watch.rt, task, &mut wire, store, output, refused);
             drop(wire);
             ended
         }
-        Task::Run(order, folder) => run(rt, wire, order, folder, store, output),
-        Task::Recover(line, asked) => recover(rt, wire, line, asked, store, output),
-        Task::RecoverLast(folder, asked) => recover_last(rt, wire, folder, asked, store, output),
-        Task::Pending(order, folder) => pending(rt, wire, order, folder, store, output),
-        Task::Change(change) => change_slave(rt, wire, change, store, output),
+        Task::Run(order, folder) => {
+            if let Some(folder) = folder {
+                require_ended(watch.rt.alloc(), folder, store)?;
+            }
+            run_script(watch, wire, order, store, output).into_ended()
+        }
+        Task::Recover(line, asked) => recover(watch, wire, line, asked, store, output),
+        Task::RecoverLast(folder, asked) => recover_last(watch, wire, folder, asked, store, output),
+        Task::Pending(order, folder) => pending(watch, wire, order, folder, store, output),
+        Task::Change(change) => change_slave(watch, wire, change, store, output),
     }
 }
 
@@ -273,6 +262,7 @@ fn read<H: Clock + AllocGlobal, W: Wire, S: Store, O: Write>(
     wire: &mut NumberedWire<W>,
     store: &mut S,
     output: &mut O,
+    refused: &mut Vec<RefusedCommand>,
 ) -> Result<ExitStatus, WireFault> {
     match task {
         Reading::Scan(Some(line), _, form) => {
@@ -283,45 +273,30 @@ fn read<H: Clock + AllocGlobal, W: Wire, S: Store, O: Write>(
         Reading::BackupTo(folder, sizes) => back_up_to(rt, folder, &sizes, wire, store, output),
         Reading::Init(line, asked) => all_done(init_on_wire(rt, wire, line, asked, store, output)),
         Reading::Plan(order) => {
-            plan_on_wire(rt, wire, order, order.asked.tells.form, store, output)
+            status_of_plan(plan_on_wire(rt, wire, order, store, output), refused)
         }
         Reading::Look(look) => look_at_slave(rt, wire, look, store, output),
         Reading::Explain(code) => all_done(print_page(explanation(rt.alloc(), code), output)),
     }
 }
 
-/// Runs a script on a line, unless a call on one slave was cut that has its files in this folder.
-fn run<H: Host, W: Wire + Send + Drop, S: Store, O: Write>(
-    rt: &H,
-    wire: NumberedWire<W>,
-    order: RunOrder<'_>,
-    folder: Option<&str>,
-    store: &mut S,
-    output: &mut O,
-) -> Result<ExitStatus, WireFault> {
-    if let Some(folder) = folder {
-        require_ended(rt.alloc(), folder, store)?;
-    }
-    run_script(rt, wire, order, store, output).into_ended()
-}
-
 /// Recovers the line on which the last call that changed one slave was cut.
-fn recover_last<H: Host, W: Wire + Send + Drop, S: Store, O: Write>(
-    rt: &H,
+fn recover_last<H: Host, W: Wire + Send + Drop, S: Store, O: Write, T: Write>(
+    watch: Watch<'_, T, H>,
     wire: NumberedWire<W>,
     folder: &str,
     asked: ScanOptions,
     store: &mut S,
     output: &mut O,
 ) -> Result<ExitStatus, WireFault> {
-    let line = last_line(rt.alloc(), folder)?;
+    let line = last_line(watch.rt.alloc(), folder)?;
     writeln!(output, "line {line}")?;
-    recover(rt, wire, line.as_str(), asked, store, output)
+    recover(watch, wire, line.as_str(), asked, store, output)
 }
 
 /// Recovers a line, and writes the image files to their slaves of which that is said.
-fn recover<H: Host, W: Wire + Send + Drop, S: Store, O: Write>(
-    rt: &H,
+fn recover<H: Host, W: Wire + Send + Drop, S: Store, O: Write, T: Write>(
+    watch: Watch<'_, T, H>,
     wire: NumberedWire<W>,
     line: &str,
     asked: ScanOptions,
@@ -329,43 +304,36 @@ fn recover<H: Host, W: Wire + Send + Drop, S: Store, O: Write>(
     output: &mut O,
 ) -> Result<ExitStatus, WireFault> {
     if writes_images(&asked.mends) {
-        return mend_line(rt, wire, line, asked, store, output).into_ended();
+        return mend_line(watch, wire, line, asked, store, output).into_ended();
     }
-    all_done(recover_line(rt, wire, line, asked, store, output).into_ended())
+    all_done(recover_line(watch.rt, wire, line, asked, store, output).into_ended())
 }
 
 /// Prints what a recovery is still to write to a line, that of the last call that changed one slave where none is named, and gives up a slave and
 /// recovers the others, if that is said.
-fn pending<H: Host, W: Wire + Send + Drop, S: Store, O: Write>(
-    rt: &H,
+fn pending<H: Host, W: Wire + Send + Drop, S: Store, O: Write, T: Write>(
+    watch: Watch<'_, T, H>,
     wire: NumberedWire<W>,
     order: PendingOrder<'_>,
     folder: Option<&str>,
     store: &mut S,
     output: &mut O,
 ) -> Result<ExitStatus, WireFault> {
-    let Some(folder) = folder else {
-        return list_or_give_up(rt, wire, order, store, output);
+    let last = match folder {
+        Some(folder) => Some(last_line(watch.rt.alloc(), folder)?),
+        None => None,
     };
-    let line = last_line(rt.alloc(), folder)?;
-    let line = line.as_str();
-    list_or_give_up(rt, wire, PendingOrder { line, ..order }, store, output)
-}
-
-/// Prints what a recovery is still to write to a line, and gives up a slave and recovers the others, if that is said.
-fn list_or_give_up<H: Host, W: Wire + Send + Drop, S: Store, O: Write>(
-    rt: &H,
-    wire: NumberedWire<W>,
-    order: PendingOrder<'_>,
-    store: &mut S,
-    output: &mut O,
-) -> Result<ExitStatus, WireFault> {
+    let line = match &last {
+        Some(last) => last.as_str(),
+        None => order.line,
+    };
+    let order = PendingOrder { line, ..order };
     let mut wire = wire;
     match (
-        list_pending(rt, &mut wire, order, store, output),
+        list_pending(watch.rt, &mut wire, order, store, output),
         order.gives_up,
     ) {
-        (Ok(()), Some(_)) => recover(rt, wire, order.line, order.asked, store, output),
+        (Ok(()), Some(_)) => recover(watch, wire, order.line, order.asked, store, output),
         (ended, _) => {
             drop(wire);
             all_done(ended)
@@ -381,18 +349,17 @@ fn writes_images(mends: &Mends) -> bool {
 }
 
 /// `Done` where no fault came.
-pub(crate) fn all_done<F>(ended: Result<(), F>) -> Result<ExitStatus, WireFault>
-where
-    WireFault: From<F>,
-{
+pub(crate) fn all_done<F, E: From<F>>(ended: Result<(), F>) -> Result<ExitStatus, E> {
     ended?;
     Ok(ExitStatus::Done)
 }
 
-/// The exit status for a result: that of what was done, or that of the fault, which is printed, with what there is to tell of it if `is_reported`.
+/// The exit status for a result: that of what was done, or that of the fault, which is printed, with what there is to tell of it if `is_reported`:
+/// where none of the files gave it, that it came of these streams.
 fn status_of<S: Store, O: Write, E: Write>(
     ended: Result<ExitStatus, WireFault>,
     is_reported: bool,
+    streams: &'static str,
     store: &Noting<'_, S>,
     lines: &mut LineRows<'_, O>,
     faults: &mut E,
@@ -405,7 +372,7 @@ fn status_of<S: Store, O: Write, E: Write>(
             match fault {
                 _ if !is_reported => {}
                 WireFault::Station(station) if !matches!(station, Fault::SlaveDead { .. }) => {
-                    let reported = store.reported(station.code(), OUTPUT);
+                    let reported = store.reported(station.code(), streams);
                     tell_more("sii_wire", station.code(), reported, faults);
                 }
                 _ => {

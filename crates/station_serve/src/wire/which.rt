@@ -2,7 +2,7 @@
 ghost use Rattle.std.specs.Prelude.{◌<◌, length, IfOk};
 
 use command_line::{ParsedArguments, number_in, small_in};
-use sii_words::Words;
+use sii_words::{MAX_SLAVES, Words};
 use wire_bringup::FoundLine;
 use wire_faults::WireFault;
 
@@ -61,10 +61,6 @@ impl Which {
 }
 
 /// The slave that the arguments mean, and the word `name` after it, if it is there. Where an option says the slave, the first word is that one.
-///
-/// # Errors
-///
-/// Why the words are refused.
 pub(crate) fn which_in<'a>(
     given: &ParsedArguments<'a>,
     name: &str,
@@ -72,8 +68,8 @@ pub(crate) fn which_in<'a>(
     match (named(given)?, given.text("P"), given.text(name)) {
         (Some(which), word, None) => Ok((which, word)),
         (Some(_), _, Some(_)) => Err("P isn't taken with --alias or --device"),
-        (None, Some(place), word) => match number_in(place) {
-            Some(place) if place < 64 => Ok((Which::Place(place as u16), word)),
+        (None, Some(place), word) => match small_in(place) {
+            Some(place) if usize::from(place) < MAX_SLAVES => Ok((Which::Place(place), word)),
             _ => Err("P is the slave's place on the line, 0 to 63"),
         },
         (None, None, _) => {

@@ -52,7 +52,7 @@ returns-in-Ok-sound-clause-reported g c =
         of_sites = c.in_ok-ends.ensures.of_sites;
         together = together.0;
       };
-      still = c.in-Ok.ensures.turning;
+      turning = c.in-Ok.ensures.turning;
       followed = subst (λ (r : Result (Unit {0}) Fault). EndsFollowed follows well c.args.alone r ends) c.in-Ok-sound.is
           (followed_ends follows well g.D.Lends.tells c.args.alone parts.result.1.seen sites ends put.result.1 sound.result parts.ensures.seen
           c.in-Ok.ensures.sites.separate c.in_ok-ends.ensures.of_sites (put.ensures.reported parts.result.1.seen c.in-Ok.ensures.reported)

@@ -1,4 +1,4 @@
-use Rattle.std.proofs.Common.{◌≡◌, ◌-◌, ◌≤◌, max, length}
+use Rattle.std.proofs.Common.{◌≡◌, ◌-◌, ◌≤◌}
 use Rattle.std.specs.Prelude.{IfSome}
 use Rattle.slave_match.specs.Difference.{difference_from}
 use Rattle.slave_match.proofs.comparing.difference_between.Given as goal

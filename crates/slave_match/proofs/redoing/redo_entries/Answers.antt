@@ -1,4 +1,4 @@
-use Rattle.std.proofs.Common.{◌≡◌, ◌∙◌, List, take, sym, ap, subst, ℕ}
+use Rattle.std.proofs.Common.{◌∙◌, List, take, sym, ap, subst, ℕ}
 use Rattle.std.specs.List.{All}
 use Rattle.sii_words.specs.Redo.{redone, LiesInside}
 use Rattle.sii_words.proofs.RedoLaws.{redone-nil}

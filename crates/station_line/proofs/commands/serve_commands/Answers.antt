@@ -9,12 +9,12 @@ use Rattle.station_line.proofs.commands.serve_commands.Goals as goal
 pub returns-in-Ok : goal.returns-in-Ok
 returns-in-Ok g c =
     let served = c.serve_in_rounds-served in
-    serves-on c.args.commands.items c.end_session-ended.result c.args.status.now served.new.status c.args.alone.now served.new.alone
-    (subst (λ (r : Result (Unit {0}) Fault). ServesOrCloses {E = Fault} c.args.commands.items r c.args.status.now served.new.status c.args.alone.now served.new.alone) c.in-Ok.is served.ensures)
+    serves-on c.args.commands.items c.end_session-ended.result c.args.answered.now served.new.answered c.args.alone.now served.new.alone
+    (subst (λ (r : Result (Unit {0}) Fault). ServesOrCloses {E = Fault} c.args.commands.items r c.args.answered.now served.new.answered c.args.alone.now served.new.alone) c.in-Ok.is served.ensures)
     (on_ok_weaker c.end_session-ended.result (λ none. ap (λ (b : Book). b.fault) (sym c.core.ensures.book) ∙ none) c.end_session-ended.ensures)
 
 pub returns-in-Err : goal.returns-in-Err
 returns-in-Err g c =
     let served = c.serve_in_rounds-served in
-    serves-unserved c.args.commands.items c.in-Err.fault c.args.status.now served.new.status c.args.alone.now served.new.alone
-    (subst (λ (r : Result (Unit {0}) Fault). ServesOrCloses {E = Fault} c.args.commands.items r c.args.status.now served.new.status c.args.alone.now served.new.alone) c.in-Err.is served.ensures)
+    serves-unserved c.args.commands.items c.in-Err.fault c.args.answered.now served.new.answered c.args.alone.now served.new.alone
+    (subst (λ (r : Result (Unit {0}) Fault). ServesOrCloses {E = Fault} c.args.commands.items r c.args.answered.now served.new.answered c.args.alone.now served.new.alone) c.in-Err.is served.ensures)

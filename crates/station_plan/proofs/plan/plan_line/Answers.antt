@@ -1,5 +1,5 @@
 use Rattle.station_plan.proofs.Plans.{plans}
 use Rattle.station_plan.proofs.plan.plan_line.Goals as goal
 
-pub returns-in-Ok : goal.returns-in-Ok
-returns-in-Ok g c = plans c.args.site c.args.commands.items c.in-Ok.planned c.plan_site.new.status c.in-Ok.ensures
+pub returns-in_ok-write-in-Ok : goal.returns-in_ok-write-in-Ok
+returns-in_ok-write-in-Ok g c = plans c.args.site c.args.commands.items c.in-Ok.planned c.plan_site.new.answered c.in-Ok.ensures

@@ -5,8 +5,9 @@ use Rattle.station_plan.proofs.plan.plan_script.Goals as goal
 pub returns-in-Ok-clause-plans : goal.returns-in-Ok-clause-plans
 returns-in-Ok-clause-plans g c =
     let given = c.in-Ok.given in
-    IfOk-weaker c.plan_line.result (λ status. PlansSite given.session.site given.commands.items status) (λ status. PlansFiles (g.S.Store.files c.args.store.now) c.args.name.now c.args.script.now status)
-    (λ status plans. record {
+    IfOk-weaker c.plan_line.result (λ answers. PlansSite given.session.site given.commands.items answers.answered)
+    (λ answers. PlansFiles (g.S.Store.files c.args.store.now) c.args.name.now c.args.script.now answers.answered)
+    (λ answers plans. record {
       line = given.session.line;
       site = given.session.site;
       loaded = c.in-Ok.ensures.loaded;

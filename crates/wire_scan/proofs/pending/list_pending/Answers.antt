@@ -1,10 +1,20 @@
-use Rattle.wire_scan.proofs.GivingUp.{given_found, refused_after}
+use Rattle.wire_scan.proofs.GivingUp.{first_found, given_found, none_written, refused_after}
 use Rattle.wire_scan.proofs.pending.list_pending.Goals as goal
 
 pub returns-in-Ok-clause-given : goal.returns-in-Ok-clause-given
 returns-in-Ok-clause-given g c =
     given_found c.args.order.gives_up c.list_found.result (g.S.Store.files c.args.store.now) (g.S.Store.files c.find_line.new.store) (g.S.Store.files c.list_found.new.store) c.args.order.line.now
-    c.in-Ok.found.line c.in-Ok.found.slaves.items c.in-Ok.found.journal.items c.find_line.ensures.same c.in-Ok.ensures.found c.list_found.ensures.given
+    c.args.order.asked.mends c.options_of.result.mends c.in-Ok.found.line c.in-Ok.found.slaves.items c.in-Ok.found.journal.items c.find_line.ensures.same c.in-Ok.ensures.found
+    c.options_of.ensures c.in-Ok.ensures.kept c.list_found.ensures.given
+
+pub returns-in-Ok-clause-first : goal.returns-in-Ok-clause-first
+returns-in-Ok-clause-first g c =
+    first_found c.args.order.gives_up (g.S.Store.files c.args.store.now) (g.S.Store.files c.find_line.new.store) (g.S.Store.files c.list_found.new.store) c.args.order.line.now
+    c.in-Ok.found.line c.in-Ok.found.slaves.items c.in-Ok.found.journal.items c.find_line.ensures.same c.in-Ok.ensures.found c.list_found.ensures.first
+
+pub returns-in-Err-clause-first : goal.returns-in-Err-clause-first
+returns-in-Err-clause-first g c =
+    none_written c.args.order.gives_up (g.S.Store.files c.args.store.now) (g.S.Store.files c.find_line.new.store) c.args.order.line.now c.find_line.ensures.same
 
 pub returns-in-Ok-clause-refused : goal.returns-in-Ok-clause-refused
 returns-in-Ok-clause-refused g c =

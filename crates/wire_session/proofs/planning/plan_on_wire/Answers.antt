@@ -5,9 +5,9 @@ use Rattle.wire_session.proofs.planning.plan_on_wire.Goals as goal
 pub returns-in-Ok-clause-plans : goal.returns-in-Ok-clause-plans
 returns-in-Ok-clause-plans g c =
     let given = c.in-Ok.given in
-    IfOk-weaker c.plan_found.result (PlansFound given.found.slaves.items given.found.journal.items given.commands.items)
-    (PlansOnWire c.args.order.asked.mends g.S.Store.leads (g.S.Store.files c.args.store.now) c.args.order.named.line.now c.args.order.named.script.now)
-    (λ status plans. record {
+    IfOk-weaker c.plan_found.result (λ answers. PlansFound given.found.slaves.items given.found.journal.items given.commands.items answers.answered)
+    (λ answers. PlansOnWire c.args.order.asked.mends g.S.Store.leads (g.S.Store.files c.args.store.now) c.args.order.named.line.now c.args.order.named.script.now answers.answered)
+    (λ answers plans. record {
       line = given.found.line;
       plant = given.found.slaves.items;
       bytes = given.found.journal.items;

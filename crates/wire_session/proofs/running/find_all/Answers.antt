@@ -41,5 +41,6 @@ returns-in-Ok-validate_script-clause-kept g c =
 
 pub returns-in-Ok-validate_script-clause-spelt : goal.returns-in-Ok-validate_script-clause-spelt
 returns-in-Ok-validate_script-clause-spelt g c =
-    with_script c.with_mends.result (g.S.Store.files c.args.store.now) c.args.order.asked.mends c.args.order.named.script.now c.in-Ok.found.mends.items c.in_ok-script.script.commands.items
-    c.with_mends.ensures.commands c.in-Ok.ensures.mends c.in_ok-script.ensures.commands
+    with_script c.with_mends.result c.in-Ok.found (g.S.Store.files c.args.store.now) (g.S.Store.files c.load_script.new.store) c.args.order.asked.mends
+    c.args.order.named.script.now c.in_ok-script.script.commands.items c.load_script.ensures.same c.with_mends.ensures.found c.with_mends.ensures.commands
+    c.in-Ok.ensures.mends c.in-Ok.ensures.mended c.in_ok-script.ensures.commands

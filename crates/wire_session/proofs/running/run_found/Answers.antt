@@ -13,4 +13,4 @@ returns g c =
     (g.S.Store.files c.run_opened-ended.new.store) (g.S.Store.files c.report_end.new.store) found.line
     c.report_end.ensures.same c.tell_why-explained.ensures
     (reported_twice c.tell_why-explained.result c.tell_handed-reported.result c.report_end.result c.tell_handed-reported.ensures.reported c.report_end.ensures.reported)
-    (rw c.deref.ensures.value at c.run_opened-ended.ensures)
+    (rw c.deref-4.ensures.value at c.run_opened-ended.ensures)

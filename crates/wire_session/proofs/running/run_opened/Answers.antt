@@ -7,7 +7,8 @@ use Rattle.wire_mirror.proofs.Sent.{journal-file-send, mirrored-send}
 use Rattle.station_files.specs.declared.faults.ExitStatus.{ExitStatus}
 use Rattle.station_line.proofs.Opened.{old-by}
 use Rattle.wire_session.specs.Running.{SavesFound}
-use Rattle.wire_session.specs.Slaves.{EndsReported, SlavesHold}
+use Rattle.script_session.specs.Running.{EndsReported}
+use Rattle.wire_session.specs.Slaves.{SlavesHold}
 use Rattle.wire_session.proofs.Mirrored.{device_in, follows_in, tells_in, well_in}
 use Rattle.wire_session.proofs.SlavesHeld.{slaves_hold}
 use Rattle.station_files.specs.declared.faults.Fault.TheVariants.{Memory}
@@ -21,25 +22,25 @@ run_site-requires-send-D g c κs lives = search (mirrored-send, wire-device-send
 
 pub run_site-requires-clause-old : goal.run_site-requires-clause-old
 run_site-requires-clause-old g c κs lives =
-    old-by c.args.found.slaves.now c.args.found.journal.items c.in-Ok-site_of.site c.is_old-was_old.result
-    c.in-Ok-site_of.ensures (rw c.deref-2.ensures.value at c.is_old-was_old.ensures)
+    old-by c.args.found.slaves.now c.args.found.journal.items c.in-Ok-site_of.site c.is_old-is_old.result
+    c.in-Ok-site_of.ensures (rw c.deref-2.ensures.value at c.is_old-is_old.ensures)
 
 pub returns-in-Ok-site_of : goal.returns-in-Ok-site_of
 returns-in-Ok-site_of g c =
     let count = length c.args.found.line.now.images.items in
-    ends_found (λ last. IsSomeAnd c.run_site.result.reported (λ reported. EndsReported follows_in well_in tells_in c.in-Ok-site_of.site count reported last))
+    ends_found (λ last. IsSomeAnd c.run_site.result.reported (λ reported. EndsReported follows_in well_in tells_in c.args.task.turns c.in-Ok-site_of.site count reported last))
     c.run_site.result (g.S.Store.files c.args.store.now) (g.S.Store.files c.open_line.new.store) (g.S.Store.files c.run_site.new.store)
-    c.args.found.line.now c.args.found.slaves.now c.args.found.journal.items c.in-Ok-site_of.site c.args.work.commands.items c.open_line.ensures.others
+    c.args.found.line.now c.args.found.slaves.now c.args.found.journal.items c.in-Ok-site_of.site c.args.task.work.commands.items c.open_line.ensures.others
     c.in-Ok-site_of.ensures
     (λ s recovered way. reported_own {Q = SlavesHold c.args.found.slaves.now s} c.run_site.result.reported c.run_site.ensures.own
-    (λ reported own ends. slaves_hold device_in c.in-Ok-site_of.site count s reported (ap (λ (seen : Seen). seen.past) c.in-Ok-site_of.ensures.seen) ends own c.args.found.slaves.now c.args.found.journal.items
+    (λ reported own ends. slaves_hold device_in c.args.task.turns c.in-Ok-site_of.site count s reported (ap (λ (seen : Seen). seen.past) c.in-Ok-site_of.ensures.seen) ends own c.args.found.slaves.now c.args.found.journal.items
     c.in-Ok-site_of.ensures.seen c.in-Ok-site_of.ensures.sizes (sym c.requires.count) recovered) way)
-    c.run_site.ensures.ends
+    c.run_site.ensures.others c.run_site.ensures.saved
 
 pub returns : goal.returns
 returns g c =
     let found = c.args.found in
     opened_refused
-    (λ (status : ExitStatus). SavesFound (g.S.Store.files c.open_line.new.store) found.line.now found.slaves.now found.journal.items c.args.work.commands.items c.of_fault-in-Err-site_of.result.reported status)
+    (λ (status : ExitStatus). SavesFound (g.S.Store.files c.open_line.new.store) found.line.now found.slaves.now found.journal.items c.args.task.work.commands.items c.of_fault-in-Err-site_of.result.reported status)
     c.of_fault-in-Err-site_of.result.ended (wire.Station Memory) (g.S.Store.files c.args.store.now) (g.S.Store.files c.open_line.new.store) found.line.now
     c.open_line.ensures.others c.of_fault-in-Err-site_of.ensures.ended

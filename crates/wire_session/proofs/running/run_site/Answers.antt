@@ -1,13 +1,21 @@
-use Rattle.std.proofs.Common.{length}
-use Rattle.station_line.proofs.Opened.{starts-none}
-use Rattle.wire_session.proofs.RunEnds.{ends_opened}
+use Rattle.std.proofs.Common.{◌∙◌, None, Some, length, sym}
+use Rattle.std.specs.Prelude.{IsSomeAnd}
+use Rattle.script_session.specs.Running.{EndsReported}
+use Rattle.wire_session.proofs.RunEnds.{saves_run}
 use Rattle.wire_session.proofs.running.run_site.Goals as goal
 
-pub run_threads-requires-clause-none : goal.run_threads-requires-clause-none
-run_threads-requires-clause-none g c κs lives = starts-none c.args.start.was_old c.args.start.site c.in-Ok.alone c.in-Ok.ensures.starts
+pub returns-else-not-are_of_parts-clause-saved : goal.returns-else-not-are_of_parts-clause-saved
+returns-else-not-are_of_parts-clause-saved g c =
+    let ran = c.run_line-answers in
+    saves_run (λ told last. IsSomeAnd told (λ reported.
+    EndsReported g.D.Device.follows g.D.Device.well g.D.Lends.tells c.args.task.turns c.args.start.site (length c.args.line.now.images.items) reported last))
+    ran.result (Some c.in-Some.whole) c.end_of-ended.result (g.S.Store.files ran.new.store) c.args.line.now c.args.start.site c.args.task.work.commands.items
+    (sym c.in-Some.is ∙ c.whole.ensures) c.end_of-ended.ensures.closed c.end_of-ended.ensures.ended ran.ensures.saved
 
-pub returns-in-Ok-clause-ends : goal.returns-in-Ok-clause-ends
-returns-in-Ok-clause-ends g c =
-    ends_opened g.D.Device.follows g.D.Device.well g.D.Lends.tells c.run_threads.result.reported c.run_threads.result.ended (g.S.Store.files c.args.store.now) (g.S.Store.files c.run_threads.new.store)
-    c.args.line.now (length c.args.line.now.images.items) c.args.start.site c.args.start.was_old c.in-Ok.alone c.args.work.commands.items c.requires.old
-    c.in-Ok.ensures.starts c.in-Ok.ensures.line c.in-Ok.ensures.goes.goes_on c.run_threads.ensures.ends
+pub returns-in-None-clause-saved : goal.returns-in-None-clause-saved
+returns-in-None-clause-saved g c =
+    let ran = c.run_line-answers in
+    saves_run (λ told last. IsSomeAnd told (λ reported.
+    EndsReported g.D.Device.follows g.D.Device.well g.D.Lends.tells c.args.task.turns c.args.start.site (length c.args.line.now.images.items) reported last))
+    ran.result None c.end_of-ended.result (g.S.Store.files ran.new.store) c.args.line.now c.args.start.site c.args.task.work.commands.items
+    (sym c.in-None.is ∙ c.whole.ensures) c.end_of-ended.ensures.closed c.end_of-ended.ensures.ended ran.ensures.saved

@@ -9,7 +9,7 @@ use Rattle.site_wire.specs.declared.answers.Answer.{Answer}
 use Rattle.site_wire.specs.Orders.{datagram_of}
 use Rattle.site_wire.specs.Due.{IsFit, WritesControl}
 use Rattle.site_wire.proofs.Sends.{sends_as}
-use Rattle.site_wire.proofs.FollowingUp.{for_once, for_word, is_busy_of}
+use Rattle.site_wire.proofs.FollowingUp.{for_once, for_word, none_came, is_busy_of}
 use Rattle.site_wire.proofs.device.WireDevice.send.Goals as goal
 
 pub pass-requires : goal.pass-requires
@@ -28,6 +28,17 @@ returns-in_default-clause-sends g c =
     (sends_as c.prepare.new.self.sender.log.all c.pass.new.self.sender.log.all (datagram_of c.of.result) (pdu c.args.sent)
     (option_map found_of c.pass.new.self.returned) c.of.ensures c.pass.ensures.sends))
     c.pass.ensures.over c.requires.quiet c.requires.news (λ going. sym c.in_flight.ensures.write ∙ c.in_default.is)
+
+pub returns-in_default-returned-clause-sends : goal.returns-in_default-returned-clause-sends
+returns-in_default-returned-clause-sends g c =
+    for_once c.args.slave c.args.half.now (pdu c.args.sent) c.args.self.now.sender.log.all c.pass.new.self.sender.log.all c.pass.new.self.returned
+    c.pass.new.self.is_over c.pass.new.self.resting
+    (c.pass.ensures.rests ∙ c.prepare.ensures.rests ∙ c.requires.stays) c.requires.to
+    (subst (λ (s : List Exchange). Sends s c.pass.new.self.sender.log.all (exchanged (pdu c.args.sent) (option_map found_of c.pass.new.self.returned) ∷ []))
+    c.prepare.ensures.sent
+    (sends_as c.prepare.new.self.sender.log.all c.pass.new.self.sender.log.all (datagram_of c.of.result) (pdu c.args.sent)
+    (option_map found_of c.pass.new.self.returned) c.of.ensures c.pass.ensures.sends))
+    c.pass.ensures.over c.requires.quiet c.requires.news (λ going. absurd (none_came c.pass.new.self.returned c.in_default-returned.is (c.pass.ensures.over going)))
 
 pub returns-clause-sends : goal.returns-clause-sends
 returns-clause-sends g c =

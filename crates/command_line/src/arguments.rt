@@ -1,0 +1,150 @@
+//! The arguments of a subcommand, as rows of a table.
+
+use clap::builder::ValueParser;
+use clap::{Arg, ArgAction, value_parser};
+use std::alloc::{AllocError, Global};
+
+/// An argument of a subcommand.
+#[derive(Clone, Copy)]
+pub struct Argument {
+    /// The name by which its value is found. An option is spelt `--id`.
+    pub id: &'static str,
+    /// What is given.
+    pub kind: Kind,
+    /// What `-h` says of it.
+    pub help: &'static str,
+    /// What `--help` says of it; empty where that is the same.
+    pub long_help: &'static str,
+}
+
+/// An argument as a row of a table: its name, what is given, and what `-h` says of it; then what `--help` says, where that is more.
+#[macro_export]
+macro_rules! argument {
+    ($id:literal: $kind:ident $(($($of:expr),+))? => $help:expr) => {
+        $crate::argument!($id: $kind $(($($of),+))? => $help, "")
+    };
+    ($id:literal: $kind:ident $(($($of:expr),+))? => $help:expr, $long_help:expr) => {
+        $crate::Argument {
+            id: $id,
+            kind: $crate::Kind::$kind $(($($of),+))?,
+            help: $help,
+            long_help: $long_help,
+        }
+    };
+}
+
+/// What is given as an argument. An option with a value has the name of the value in the help.
+#[derive(Clone, Copy)]
+pub enum Kind {
+    /// A word, which has to be there.
+    Word,
+    /// A word, which may be left out.
+    OptionalWord,
+    /// A word, which has to be there unless this other argument is.
+    WordUnless(&'static str),
+    /// One of these words, which has to be there.
+    WordOf(&'static [&'static str]),
+    /// An option without a value.
+    Flag,
+    /// An option without a value, which is spelt by this letter too.
+    ShortFlag(char),
+    /// An option without a value, which all subcommands have.
+    GlobalFlag,
+    /// An option without a value, which is taken with this other option alone.
+    FlagWith(&'static str),
+    /// An option with a text.
+    Text(&'static str),
+    /// An option with a text, which is spelt by this letter too.
+    ShortText(&'static str, char),
+    /// An option that the help doesn't list, without a value.
+    HiddenFlag,
+    /// An option that the help doesn't list, with a text.
+    HiddenText(&'static str),
+    /// An option with a text, which isn't taken with the second argument.
+    TextWithout(&'static str, &'static str),
+    /// An option with a number of 0 to 65535.
+    Small(&'static str),
+    /// An option with a number of 0 to 4294967295.
+    Large(&'static str),
+    /// An option with a text, which may be given again, is spelt by this letter too, and isn't taken with the second argument.
+    Texts(&'static str, char, &'static str),
+}
+
+impl Kind {
+    /// Whether the argument has a text.
+    pub(crate) fn has_value(self) -> bool {
+        !matches!(
+            self,
+            Kind::Flag
+                | Kind::ShortFlag(_)
+                | Kind::GlobalFlag
+                | Kind::FlagWith(_)
+                | Kind::HiddenFlag
+        )
+    }
+
+    /// Whether the argument is a word, which has to be there.
+    fn is_required(self) -> bool {
+        matches!(self, Kind::Word | Kind::WordOf(_))
+    }
+
+    /// Whether the argument is no option.
+    fn is_word(self) -> bool {
+        self.is_required() || matches!(self, Kind::OptionalWord | Kind::WordUnless(_))
+    }
+}
+
+impl Argument {
+    /// The argument as `clap` takes it.
+    pub(crate) fn described<'a>(self, alloc: Global) -> Result<Arg<'a>, AllocError> {
+        let arg = Arg::new(alloc, self.id)
+            .help(self.help)
+            .long_help(text_or(self.long_help, self.help))
+            .required(self.kind.is_required())
+            .hide(matches!(self.kind, Kind::HiddenFlag | Kind::HiddenText(_)))
+            .global(matches!(self.kind, Kind::GlobalFlag));
+        let spelt = if self.kind.is_word() {
+            arg
+        } else {
+            arg.long(self.id)
+        };
+        if self.kind.has_value() {
+            with_value(spelt, self.kind)
+        } else {
+            flag(spelt.action(ArgAction::SetTrue), self.kind)
+        }
+    }
+}
+
+/// The first text, or the other one where that is empty.
+pub(crate) fn text_or(text: &'static str, other: &'static str) -> &'static str {
+    if text.is_empty() { other } else { text }
+}
+
+/// The argument as a word or an option with a text of this kind.
+fn with_value<'a>(arg: Arg<'a>, kind: Kind) -> Result<Arg<'a>, AllocError> {
+    match kind {
+        Kind::WordUnless(other) => arg.required_unless_present(other),
+        Kind::WordOf(words) => Ok(arg.value_parser(ValueParser::Names(words))),
+        Kind::Text(name) | Kind::HiddenText(name) => Ok(arg.value_name(name)),
+        Kind::ShortText(name, letter) => Ok(arg.value_name(name).short(letter)),
+        Kind::TextWithout(name, other) => arg.value_name(name).conflicts_with(other),
+        Kind::Small(name) => Ok(arg.value_name(name).value_parser(value_parser!(u16))),
+        Kind::Large(name) => Ok(arg.value_name(name).value_parser(value_parser!(u32))),
+        Kind::Texts(name, letter, other) => arg
+            .value_name(name)
+            .short(letter)
+            .action(ArgAction::Append)
+            .conflicts_with(other),
+        _ => Ok(arg),
+    }
+}
+
+/// The argument as a flag of this kind.
+fn flag<'a>(arg: Arg<'a>, kind: Kind) -> Result<Arg<'a>, AllocError> {
+    match kind {
+        Kind::ShortFlag(letter) => Ok(arg.short(letter)),
+        Kind::FlagWith(other) => arg.requires_arg(other),
+        _ => Ok(arg),
+    }
+}
