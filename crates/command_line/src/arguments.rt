@@ -108,11 +108,12 @@ impl Argument {
         } else {
             arg.long(self.id)
         };
-        if self.kind.has_value() {
-            with_value(spelt, self.kind)
+        let spelt = if self.kind.has_value() {
+            spelt
         } else {
-            flag(spelt.action(ArgAction::SetTrue), self.kind)
-        }
+            spelt.action(ArgAction::SetTrue)
+        };
+        of_kind(spelt, self.kind)
     }
 }
 
@@ -121,9 +122,11 @@ pub(crate) fn text_or(text: &'static str, other: &'static str) -> &'static str {
     if text.is_empty() { other } else { text }
 }
 
-/// The argument as a word or an option with a text of this kind.
-fn with_value<'a>(arg: Arg<'a>, kind: Kind) -> Result<Arg<'a>, AllocError> {
+/// The argument as one of this kind, with its letter, the name of its value, and what it may be and is given with.
+fn of_kind<'a>(arg: Arg<'a>, kind: Kind) -> Result<Arg<'a>, AllocError> {
     match kind {
+        Kind::ShortFlag(letter) => Ok(arg.short(letter)),
+        Kind::FlagWith(other) => arg.requires_arg(other),
         Kind::WordUnless(other) => arg.required_unless_present(other),
         Kind::WordOf(words) => Ok(arg.value_parser(ValueParser::Names(words))),
         Kind::Text(name) | Kind::HiddenText(name) => Ok(arg.value_name(name)),
@@ -136,15 +139,6 @@ fn with_value<'a>(arg: Arg<'a>, kind: Kind) -> Result<Arg<'a>, AllocError> {
             .short(letter)
             .action(ArgAction::Append)
             .conflicts_with(other),
-        _ => Ok(arg),
-    }
-}
-
-/// The argument as a flag of this kind.
-fn flag<'a>(arg: Arg<'a>, kind: Kind) -> Result<Arg<'a>, AllocError> {
-    match kind {
-        Kind::ShortFlag(letter) => Ok(arg.short(letter)),
-        Kind::FlagWith(other) => arg.requires_arg(other),
         _ => Ok(arg),
     }
 }

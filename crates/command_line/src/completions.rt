@@ -86,33 +86,20 @@ struct Subject<'c, 'a> {
 }
 
 /// A script that makes a shell complete the program's subcommands, options and file names.
-///
-/// # Errors
-///
-/// Memory was refused.
 pub fn completion_script(
     alloc: Global,
     program: Program<'_>,
     shell: Shell,
 ) -> Result<String, AllocError> {
     let mut text = String::new(alloc);
-    push_described(alloc, program, shell, &mut text)?;
-    Ok(text)
-}
-
-fn push_described(
-    alloc: Global,
-    program: Program<'_>,
-    shell: Shell,
-    text: &mut String,
-) -> Result<(), AllocError> {
     let mut command = described(alloc, program)?;
     let ended = match command.build() {
-        Ok(()) => push_script(&command, shell, text),
+        Ok(()) => push_script(&command, shell, &mut text),
         Err(error) => Err(error),
     };
     drop(command);
-    ended
+    ended?;
+    Ok(text)
 }
 
 fn push_script(program: &Command<'_>, shell: Shell, text: &mut String) -> Result<(), AllocError> {
@@ -140,32 +127,23 @@ fn push_block<'c, 'a>(
     command: &'c Command<'a>,
     text: &mut String,
 ) -> Result<(), AllocError> {
+    let option = None;
     let subject = Subject {
         program,
         command,
-        option: None,
+        option,
     };
-    for (place, words) in block.split('~').enumerate() {
-        if place % 2 == 0 {
-            push_lettered(words, subject, text)?;
-        } else {
-            push_options(words, subject, false, text)?;
+    for (place, part) in block.split('~').enumerate() {
+        if place % 2 == 1 {
+            push_options(part, subject, false, text)?;
+            continue;
         }
-    }
-    Ok(())
-}
-
-/// A text of a script, in which parts are about the options that have a letter.
-fn push_lettered(
-    block: &str,
-    subject: Subject<'_, '_>,
-    text: &mut String,
-) -> Result<(), AllocError> {
-    for (place, words) in block.split('`').enumerate() {
-        if place % 2 == 0 {
-            push_words(words, subject, text)?;
-        } else {
-            push_options(words, subject, true, text)?;
+        for (place, words) in part.split('`').enumerate() {
+            if place % 2 == 0 {
+                push_words(words, subject, text)?;
+            } else {
+                push_options(words, subject, true, text)?;
+            }
         }
     }
     Ok(())
@@ -209,7 +187,12 @@ fn push_marked(
     text: &mut String,
 ) -> Result<(), AllocError> {
     let words = match (letter, subject.option) {
-        ('s', _) => return push_names(subject.program, text),
+        ('s', _) => {
+            for subcommand in subject.program.get_subcommands() {
+                push_all(text, &[" ", subcommand.get_name()])?;
+            }
+            return Ok(());
+        }
         ('c', Some(option)) => return text.push(option.get_short().unwrap_or('-')),
         ('p', _) => subject.program.get_name(),
         ('n', _) => subject.command.get_name(),
@@ -219,14 +202,6 @@ fn push_marked(
         _ => "",
     };
     push_quoted(words, text)
-}
-
-/// The names of a program's subcommands, each after a blank.
-fn push_names(program: &Command<'_>, text: &mut String) -> Result<(), AllocError> {
-    for subcommand in program.get_subcommands() {
-        push_all(text, &[" ", subcommand.get_name()])?;
-    }
-    Ok(())
 }
 
 /// A text as it stands between single quotes of a shell, with signs in place of brackets and colons, which mean something to zsh.

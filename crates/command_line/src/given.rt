@@ -103,10 +103,8 @@ impl<'a> ParsedArguments<'a> {
             return Err("K is a number in digits, 0 to 4294967295, and W one of 0 to 65535");
         }
         let left = left.unwrap_or("0").parse::<u16>().unwrap_or(0);
-        match count.unwrap_or("").parse::<u32>() {
-            Ok(count) => Ok(Some((count, left))),
-            Err(_) => Ok(None),
-        }
+        let count = count.unwrap_or("").parse::<u32>().ok();
+        Ok(count.map(|count| (count, left)))
     }
 }
 
@@ -115,11 +113,7 @@ fn text_in<'a>(argument: Argument, found: &ArgMatches<'a>) -> Option<&'a str> {
     if argument.kind.has_value() {
         return found.get_str(argument.id);
     }
-    if found.get_flag(argument.id) {
-        Some("")
-    } else {
-        None
-    }
+    found.get_flag(argument.id).then_some("")
 }
 
 /// Whether a text has digits only: a sign is not taken.

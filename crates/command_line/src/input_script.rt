@@ -3,8 +3,7 @@ ghost use Rattle.command_line.specs.InputScript.{but_scripts, with_script};
 
 use station_files::{Entry, Location, LockFault, Store, read_to_end};
 use std::alloc::Global;
-use std::io;
-use std::io::Read;
+use std::io::{self, Read};
 
 /// The name under which the script on standard input stands among the files. No file of a system has it.
 pub const INPUT: &str = "\0";
@@ -31,18 +30,14 @@ pub struct Script {
 impl Script {
     /// Reads standard input to its end, as the script `INPUT`. An error of it comes where the script is read.
     pub fn read<R: Read>(alloc: Global, input: &mut R) -> Script {
-        Script {
-            name: INPUT,
-            text: read_to_end(alloc, input),
-        }
+        let (name, text) = (INPUT, read_to_end(alloc, input));
+        Script { name, text }
     }
 
     /// This text, as the script `TYPED`.
     pub fn typed(text: Vec<u8>) -> Script {
-        Script {
-            name: TYPED,
-            text: Ok(text),
-        }
+        let (name, text) = (TYPED, Ok(text));
+        Script { name, text }
     }
 }
 

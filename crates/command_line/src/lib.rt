@@ -12,7 +12,6 @@ mod launched;
 mod manual;
 mod program;
 mod reading;
-mod subcommands;
 mod typed_commands;
 mod unread;
 
@@ -23,8 +22,7 @@ pub use given::{ParsedArguments, number_in, small_in};
 pub use input_script::{INPUT, InputScript, Script, TYPED};
 pub use launched::{INTERFACE, STATE, TEXT, TIMEOUT, WIRE};
 pub use manual::manual_page;
-pub use program::Program;
+pub use program::{Program, Subcommand};
 pub use reading::{read_typed, read_words, refuse};
-pub use subcommands::Subcommand;
 pub use typed_commands::TYPED_COMMANDS;
 pub use unread::{Unread, refuse_words};

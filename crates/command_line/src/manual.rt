@@ -7,10 +7,6 @@ use crate::unread::Unread;
 use std::alloc::{AllocError, Global};
 
 /// The manual page in roff: this head, then the program's help, and that of each subcommand, as `--help` prints them.
-///
-/// # Errors
-///
-/// Memory was refused.
 pub fn manual_page(alloc: Global, program: Program<'_>, head: &str) -> Result<String, AllocError> {
     let mut text = String::from_str(alloc, head)?;
     push_section(alloc, program, "", &mut text)?;

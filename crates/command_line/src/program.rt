@@ -1,8 +1,7 @@
-//! A program as its command line is described: its texts, its options and its subcommands.
+//! A program as its command line is described: its texts, its options and its subcommands, as rows of a table.
 
-use crate::arguments::Argument;
-use crate::subcommands::{Subcommand, described_arguments, with_subcommands};
-use clap::Command;
+use crate::arguments::{Argument, text_or};
+use clap::{Arg, Command};
 use std::alloc::{AllocError, Global};
 
 /// A program, mostly with subcommands.
@@ -28,15 +27,87 @@ pub(crate) fn described<'a>(
     program: Program<'_>,
 ) -> Result<Command<'a>, AllocError> {
     let options = described_arguments(alloc, program.options)?;
-    let command = named(alloc, program).args(options)?;
-    with_subcommands(alloc, command, program.subcommands)
-}
-
-/// The program with its texts, without its options and subcommands.
-fn named<'a>(alloc: Global, program: Program<'_>) -> Command<'a> {
+    let subcommands = described_subcommands(alloc, program.subcommands)?;
     Command::new(alloc, program.name)
         .about(program.about)
         .version(program.version)
         .after_help(program.after_help)
         .subcommand_required(!program.subcommands.is_empty())
+        .args(options)?
+        .subcommands(subcommands)
+}
+
+/// A subcommand, with its help texts and its arguments.
+#[derive(Clone, Copy)]
+pub struct Subcommand {
+    /// Its name.
+    pub name: &'static str,
+    /// What it does, in one line.
+    pub about: &'static str,
+    /// What `--help` says of it at its head; empty where that is the same, and nothing but its arguments follows.
+    pub long_about: &'static str,
+    /// What stands at the end of the help.
+    pub after_help: &'static str,
+    /// What stands at the end of `--help`; empty where that is the same.
+    pub after_long_help: &'static str,
+    /// Its arguments, in the order of the help.
+    pub arguments: &'static [Argument],
+}
+
+/// A subcommand as a row of a table: its name, what it does, the texts of its help, and its arguments.
+#[macro_export]
+macro_rules! subcommand {
+    ($name:literal: $about:expr, long: $long:expr, after: $after:expr, [$($argument:expr),*]) => {
+        $crate::subcommand!($name: $about, long: $long, after: $after, answers: "", [$($argument),*])
+    };
+    ($name:literal: $about:expr, long: $long:expr, after: $after:expr, answers: $answers:expr, [$($argument:expr),*]) => {
+        $crate::Subcommand {
+            name: $name,
+            about: $about,
+            long_about: $long,
+            after_help: $after,
+            after_long_help: $answers,
+            arguments: &[$($argument),*],
+        }
+    };
+}
+
+impl Subcommand {
+    /// The subcommand as `clap` takes it.
+    fn described<'a>(self, alloc: Global) -> Result<Command<'a>, AllocError> {
+        let arguments = described_arguments(alloc, self.arguments)?;
+        let command = Command::new(alloc, self.name).about(self.about);
+        if self.long_about.is_empty() {
+            return command.args(arguments);
+        }
+        command
+            .long_about(self.long_about)
+            .after_help(self.after_help)
+            .after_long_help(text_or(self.after_long_help, self.after_help))
+            .args(arguments)
+    }
+}
+
+/// These arguments as `clap` takes them.
+pub(crate) fn described_arguments<'a>(
+    alloc: Global,
+    arguments: &[Argument],
+) -> Result<Vec<Arg<'a>>, AllocError> {
+    let mut described = Vec::new(alloc);
+    for argument in arguments {
+        described.push(argument.described(alloc)?)?;
+    }
+    Ok(described)
+}
+
+/// These subcommands as `clap` takes them.
+fn described_subcommands<'a>(
+    alloc: Global,
+    subcommands: &[Subcommand],
+) -> Result<Vec<Command<'a>>, AllocError> {
+    let mut described = Vec::new(alloc);
+    for subcommand in subcommands {
+        described.push(subcommand.described(alloc)?)?;
+    }
+    Ok(described)
 }

@@ -1,8 +1,7 @@
 //! Reads the words of a command line.
 
 use crate::given::ParsedArguments;
-use crate::program::{Program, described};
-use crate::subcommands::described_arguments;
+use crate::program::{Program, described, described_arguments};
 use crate::unread::{Unread, why_unread};
 use clap::error::ErrorKind;
 use clap::{ArgMatches, Command, Error};
@@ -18,10 +17,7 @@ pub fn read_words<'a>(
     program: Program<'_>,
     words: &'a [String],
 ) -> Result<ParsedArguments<'a>, Unread> {
-    match given_in(alloc, program, words) {
-        Ok(given) => Ok(given),
-        Err(error) => Err(why_unread(alloc, &error)),
-    }
+    given_in(alloc, program, words).map_err(|error| why_unread(alloc, &error))
 }
 
 fn given_in<'a>(
@@ -30,18 +26,9 @@ fn given_in<'a>(
     words: &'a [String],
 ) -> Result<ParsedArguments<'a>, Error> {
     let mut command = described(alloc, program)?;
-    let read = read_with(alloc, program, &mut command, words);
+    let read = command.try_get_matches_from_mut(words);
     drop(command);
-    read
-}
-
-fn read_with<'a>(
-    alloc: Global,
-    program: Program<'_>,
-    command: &mut Command<'a>,
-    words: &'a [String],
-) -> Result<ParsedArguments<'a>, Error> {
-    let matches = command.try_get_matches_from_mut(words)?;
+    let matches = read?;
     let given = given_by(alloc, program, &matches);
     drop(matches);
     Ok(given?)
@@ -83,11 +70,8 @@ fn refusal(
 ) -> Result<Error, AllocError> {
     let called = program.name;
     let name = format!(in alloc; "{called} {subcommand}")?;
-    let found = program
-        .subcommands
-        .iter()
-        .find(|row| row.name == subcommand);
-    let mut command = match found {
+    let mut rows = program.subcommands.iter();
+    let mut command = match rows.find(|row| row.name == subcommand) {
         Some(row) => {
             let arguments = described_arguments(alloc, row.arguments)?;
             Command::new(alloc, name.as_str()).args(arguments)?

@@ -6,7 +6,6 @@ use crate::argument;
 use crate::arguments::Argument;
 use crate::unread::Unread;
 use std::alloc::{AllocError, Global};
-use toml::de::Error;
 
 /// The help text on typed commands.
 const COMMANDS: &str =
@@ -18,11 +17,7 @@ they are submitted in order.";
 pub const TYPED_COMMANDS: Argument =
     argument!("command": Texts("COMMAND", 'e', "SCRIPT") => "A command in place of the script file, as 'alias = { slave = 2, value = 7 }'", COMMANDS);
 
-/// The text of the script with these commands.
-///
-/// # Errors
-///
-/// What is wrong with a command that isn't one line of TOML on its own; or memory was refused.
+/// The text of the script with these commands; or what is wrong with one.
 pub(crate) fn typed_text(alloc: Global, commands: &[&str]) -> Result<Vec<u8>, Unread> {
     for command in commands {
         validate(alloc, command)?;
@@ -41,17 +36,12 @@ fn validate(alloc: Global, line: &str) -> Result<(), Unread> {
             drop(table);
             Ok(())
         }
-        Err(error) => Err(no_toml(alloc, line, &error)),
+        Err(error) if error.is_memory() => Err(Unread::Memory),
+        Err(error) => {
+            let why = error.message();
+            Err(Unread::of_text(format!(in alloc; "-e '{line}' is no TOML: {why}")))
+        }
     }
-}
-
-/// The flaw of a line that is no TOML.
-fn no_toml(alloc: Global, line: &str, error: &Error) -> Unread {
-    if error.is_memory() {
-        return Unread::Memory;
-    }
-    let why = error.message();
-    Unread::of_text(format!(in alloc; "-e '{line}' is no TOML: {why}"))
 }
 
 /// The line that begins a command of a script file.

@@ -5,8 +5,7 @@ use clap::Error;
 use clap::error::ErrorKind;
 use station_files::{ExitStatus, Fault, report_fault};
 use std::alloc::{AllocError, Global};
-use std::io;
-use std::io::Write;
+use std::io::{self, Write};
 
 /// Why a command line wasn't read.
 #[derive(Drop)]
@@ -40,10 +39,7 @@ pub(crate) fn why_unread(alloc: Global, error: &Error) -> Unread {
 impl Unread {
     /// What this text says is wrong, if there was memory for it.
     pub(crate) fn of_text(text: Result<String, AllocError>) -> Unread {
-        match text {
-            Ok(text) => Unread::Wrong(text),
-            Err(_) => Unread::Memory,
-        }
+        text.map_or(Unread::Memory, Unread::Wrong)
     }
 
     /// Prints the text to the stream for faults, or the fault, and returns the exit status.
@@ -55,10 +51,8 @@ impl Unread {
                 ExitStatus::Done
             }
             Unread::Wrong(text) => {
-                let text = Escaped {
-                    text: text.as_str(),
-                    has_lines: true,
-                };
+                let (text, has_lines) = (text.as_str(), true);
+                let text = Escaped { text, has_lines };
                 let _ = write!(faults, "{text}");
                 ExitStatus::Usage
             }

@@ -147,10 +147,9 @@ fn put_items(rows: &mut Rows, old: &[Line<'_>], new: &[Line<'_>]) -> Result<(), 
 /// The item that is called so: the one at this place, if it is, or else the first.
 fn find_item<'l, 'a>(items: &'l [Line<'a>], place: usize, name: &str) -> Option<&'l Line<'a>> {
     match items.get(place) {
-        Some(item) if item.item.as_str() == name => return Some(item),
-        _ => {}
+        Some(item) if item.item.as_str() == name => Some(item),
+        _ => items.iter().find(|item| item.item.as_str() == name),
     }
-    items.iter().find(|item| item.item.as_str() == name)
 }
 
 /// Puts an item that only this image has: in text on a line, in JSON a row for each field.

@@ -1,6 +1,5 @@
 //! The words in which two contents of a line differ.
 ghost use Rattle.std.specs.Prelude.{◌≡◌, ◌<◌, ◌≤◌, ◌++◌, length, IfOk, OnOk};
-ghost use Rattle.sii_words.specs.Plant.{words_of};
 ghost use Rattle.line_changes.specs.Changes.{change_at, changes_between, changes_of};
 
 use sii_words::Plant;
@@ -24,10 +23,6 @@ pub struct ChangedWord {
 }
 
 /// The words in which two contents of a line differ: slave by slave, by rising address.
-///
-/// # Errors
-///
-/// Memory was refused.
 pub fn changed_words(
     alloc: Global,
     old: &Plant,
@@ -84,10 +79,6 @@ fn note_word(
 
 /// Puts a row for each changed word. Text has a line for each run of them with consecutive addresses, and of a long run only its number of
 /// words.
-///
-/// # Errors
-///
-/// Memory was refused.
 pub fn put_changes(rows: &mut Rows, changes: &[ChangedWord]) -> Result<(), AllocError> {
     let mut put = 0;
     for at in 0..changes.len() {

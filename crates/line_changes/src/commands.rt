@@ -1,11 +1,10 @@
 //! The commands that make word 0x3E say another size.
 ghost use Rattle.std.specs.Prelude.{◌≡◌, ◌++◌, IfOk, OnOk};
 ghost use Rattle.sii_edit.specs.Fold.{after};
-ghost use Rattle.line_changes.specs.Size.{resize_of, resizes_between, resizes_of};
+ghost use Rattle.line_changes.specs.Size.{is_resized, resize_of, resizes_between, resizes_of, says_other, size_said};
 
-use crate::said::{is_resized, size_said};
 use sii_edit::{Cause, Command, apply};
-use sii_words::{Plant, Words};
+use sii_words::{MAX_WORDS, Plant, Words};
 use std::alloc::{AllocError, Global};
 
 /// A command makes word 0x3E of a slave say another size than the slave's EEPROM has.
@@ -24,10 +23,6 @@ pub struct Resize {
 /// Where these commands, carried out in order on these contents, give word 0x3E of a slave another value, so that it says another size
 /// than the slave has: by rising place of the command, then by slave. A command that is refused changes nothing. Word 0x3E of an EEPROM
 /// with 4,096 words may say any size from there on, since the words may be the first ones of a larger EEPROM.
-///
-/// # Errors
-///
-/// Memory was refused.
 pub fn resizes(alloc: Global, base: &Plant, commands: &[Command]) -> Result<Vec<Resize>, AllocError>
     ensures { IfOk result (λ found. found.items ≡ resizes_of base.now commands.now) }
 {
@@ -87,4 +82,30 @@ fn note_slave(
         has: new.len(),
     })?;
     Ok(())
+}
+
+/// The word that states the size of an EEPROM in KiBit, less one (ETG.1000.6, slave information interface).
+const SIZE_WORD: usize = 0x3e;
+
+/// So many words are there by word 0x3E: 64 to 4,194,304.
+fn size_said(words: &Words) -> u32
+    ensures { result ≡ size_said words.now }
+{
+    let _size = words.len();
+    64 * (u32::from(words.get(SIZE_WORD)) + 1)
+}
+
+/// Whether word 0x3E says another size than these words have. An EEPROM with more words than are worked on may say any size from there on.
+fn says_other(words: &Words) -> bool
+    ensures { result ≡ says_other words.now }
+{
+    (size_said(words) as usize).min(MAX_WORDS) != words.len()
+}
+
+/// Whether word 0x3E gets another value, and then says another size than these words have.
+fn is_resized(old: &Words, new: &Words) -> bool
+    ensures { result ≡ is_resized old.now new.now }
+{
+    let _size = (old.len(), new.len());
+    old.get(SIZE_WORD) != new.get(SIZE_WORD) && says_other(new)
 }

@@ -8,27 +8,18 @@ use sii_words::ImageFile;
 use station_listing::{ListedChain, list_chain};
 use std::alloc::{AllocError, Global};
 
-/// What two images differ in.
+/// What two images differ in: the head and the categories of the first and of the second one, and the words that differ.
 #[derive(Drop)]
 pub struct Difference {
-    /// The head of the first image.
     pub old: Head,
-    /// The head of the second image.
     pub new: Head,
-    /// The categories of the first image.
     pub old_chain: ListedChain,
-    /// The categories of the second image.
     pub new_chain: ListedChain,
-    /// The words that differ.
     pub words: WordChanges,
 }
 
 /// Compares two images. It finds no difference exactly where both have the same words, and a word that both have stands in a listed stretch
 /// exactly where its values differ.
-///
-/// # Errors
-///
-/// Memory was refused.
 pub fn compare(alloc: Global, old: &ImageFile, new: &ImageFile) -> Result<Difference, AllocError>
     ensures compared { IfOk result (Compares old.now new.now) }
     ensures same { IfOk result (λ difference. NothingDiffers difference ↔ (old.now ≡ new.now)) }

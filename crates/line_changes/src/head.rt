@@ -2,7 +2,8 @@
 ghost use Rattle.line_changes.specs.Difference.{IsHead};
 
 use sii_words::{Identity, ImageFile};
-use station_rows::{Rows, Value, bare};
+use station_rows::Value::{Byte, Long};
+use station_rows::{Rows, bare};
 use std::alloc::AllocError;
 
 /// The length of an image, and what its first words say (ETG.1000.6, slave information interface).
@@ -40,15 +41,11 @@ pub(crate) fn put_heads(rows: &mut Rows, old: Head, new: Head) -> Result<(), All
     let fields = [
         ("words", old.count.into(), new.count.into()),
         ("alias", old.alias.into(), new.alias.into()),
-        ("check", Value::Byte(old.check), Value::Byte(new.check)),
-        ("vendor", Value::Long(was.vendor), Value::Long(is.vendor)),
-        ("product", Value::Long(was.product), Value::Long(is.product)),
-        (
-            "revision",
-            Value::Long(was.revision),
-            Value::Long(is.revision),
-        ),
-        ("serial", Value::Long(was.serial), Value::Long(is.serial)),
+        ("check", Byte(old.check), Byte(new.check)),
+        ("vendor", Long(was.vendor), Long(is.vendor)),
+        ("product", Long(was.product), Long(is.product)),
+        ("revision", Long(was.revision), Long(is.revision)),
+        ("serial", Long(was.serial), Long(is.serial)),
     ];
     for (field, a, b) in &fields {
         if *a != *b {

@@ -9,7 +9,6 @@ use station_files::{Fault, Store};
 use station_listing::Code;
 use station_rows::{Form, Rows, bare, data, put_layout, said};
 use std::alloc::{AllocError, Global};
-use std::io;
 use std::io::Write;
 
 /// Puts the process image of a line with these contents, as `layout` lists it, or that there is none. `name` says which one it is.
@@ -38,10 +37,6 @@ fn rows_of(alloc: Global, plant: &Plant) -> Result<Rows, AllocError> {
 }
 
 /// Puts the process images of a line with the contents `before` and `after`, if they differ.
-///
-/// # Errors
-///
-/// Memory was refused.
 pub fn put_images(rows: &mut Rows, before: &Plant, after: &Plant) -> Result<(), AllocError> {
     let old = rows_of(rows.alloc(), before)?;
     let new = rows_of(rows.alloc(), after)?;
@@ -72,17 +67,13 @@ pub fn print_image<S: Store, W: Write>(
     let after = words_now(alloc, &before.line, store)?;
     let old = rows_of(alloc, &before.words)?;
     let new = rows_of(alloc, &after)?;
-    if old.as_str() != new.as_str() {
-        write_image(new.as_str(), output)?;
+    let (old, image) = (old.as_str(), new.as_str());
+    if old != image {
+        let bytes = image.as_bytes();
+        let lines = bytes.iter().filter(|byte| **byte == b'\n').count();
+        writeln!(output, "event image {lines}")?;
+        write!(output, "{image}")?;
+        output.flush()?;
     }
     Ok(())
-}
-
-/// Writes a process image, after a line that says how many lines it has.
-fn write_image<W: Write>(image: &str, output: &mut W) -> io::Result<()> {
-    let bytes = image.as_bytes();
-    let lines = bytes.iter().filter(|byte| **byte == b'\n').count();
-    writeln!(output, "event image {lines}")?;
-    write!(output, "{image}")?;
-    output.flush()
 }

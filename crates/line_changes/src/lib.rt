@@ -10,7 +10,6 @@ mod difference;
 mod head;
 mod layout;
 mod report;
-mod said;
 mod words;
 
 pub use changes::{ChangedWord, MOST_PRINTED, changed_words, put_changes};

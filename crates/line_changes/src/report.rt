@@ -1,7 +1,7 @@
 //! The report after a run or a recovery.
 ghost use Rattle.std.specs.Prelude.{◌≡◌, IfErr, IfOk};
 ghost use Rattle.station_files.specs.Faults.{IsOfStream};
-ghost use Rattle.station_files.specs.LineFiles.{SpellsLine, SpellsSlaves};
+ghost use Rattle.station_files.specs.LineFiles.{SpellsSlaves};
 ghost use Rattle.line_changes.specs.Report.{Reports};
 
 use crate::changes::{ChangedWord, changed_words, put_changes};
@@ -26,12 +26,10 @@ pub const REPORT: &str = "Prints after everything else, unless a fault ends the 
                    bytes C; .. A slave acts on its new words only when it starts
                    again";
 
-/// A line before a run or a recovery.
+/// A line before a run or a recovery: its line file, and the words of the slaves.
 #[derive(Drop)]
 pub struct Before {
-    /// The line file.
     pub line: LineFile,
-    /// The words of the slaves.
     pub words: Plant,
 }
 
@@ -145,8 +143,7 @@ pub fn look_before<S: Store>(
         return Ok(None);
     }
     let line = load_line(alloc, name, store)?;
-    let slaves = load_slaves(alloc, &line, store)?;
-    let words = Plant::of(slaves);
+    let words = Plant::of(load_slaves(alloc, &line, store)?);
     Ok(Some(Before { line, words }))
 }
 

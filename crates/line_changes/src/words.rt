@@ -7,12 +7,11 @@ use sii_words::{Run, push_stretches};
 use station_rows::{Rows, Value, data, said, said_place};
 use std::alloc::{AllocError, Global};
 
-/// The words in which two images differ, of those that both have: the longest stretches of them, in rising order.
+/// The words in which two images differ, of those that both have: the longest stretches of them, in rising order, with the words of the first
+/// image and with those of the second.
 #[derive(Drop)]
 pub struct WordChanges {
-    /// The stretches, with the words of the first image.
     pub old: Vec<Run>,
-    /// The same stretches, with the words of the second image.
     pub new: Vec<Run>,
 }
 
@@ -49,33 +48,27 @@ fn compare_same(alloc: Global, old: &[u16], new: &[u16]) -> Result<WordChanges, 
 /// How many words of a stretch stand on one line.
 const WORDS_OF_A_LINE: usize = 8;
 
-/// Puts the words that differ. Text has neighbouring ones on a line, some at a time.
+/// Puts a row for each of the words that differ. Text has neighbouring ones on a line, some at a time: the number of a single word, and both values;
+/// or the numbers of the first and the last word, and all old and all new values.
 pub(crate) fn put_words(rows: &mut Rows, changes: &WordChanges) -> Result<(), AllocError> {
     for (old, new) in changes.old.iter().zip(changes.new.iter()) {
         let mut at = old.first;
         let old_lines = old.words.as_slice().chunks(WORDS_OF_A_LINE);
         let new_lines = new.words.as_slice().chunks(WORDS_OF_A_LINE);
         for (olds, news) in old_lines.zip(new_lines) {
-            put_line(rows, at, olds, news)?;
+            let (was, is) = match olds.len() {
+                1 => ("", ""),
+                _ => ("old", "new"),
+            };
+            let [from, to] = said_place(at, olds.len());
+            let old = said(was, Value::Words(olds));
+            rows.say(&[from, to, old, said(is, Value::Words(news))])?;
+            for (place, (a, b)) in olds.iter().zip(news.iter()).enumerate() {
+                let word = usize::from(at).saturating_add(place);
+                rows.put("word", &[data("word", word), data("a", *a), data("b", *b)])?;
+            }
             at = at.saturating_add(WORDS_OF_A_LINE as u16);
         }
-    }
-    Ok(())
-}
-
-/// Puts a row for each of neighbouring words, from word `at` on. Text has the number of a single word, and both values; or the numbers of the
-/// first and the last word, and all old and all new values.
-fn put_line(rows: &mut Rows, at: u16, olds: &[u16], news: &[u16]) -> Result<(), AllocError> {
-    let (was, is) = match olds.len() {
-        1 => ("", ""),
-        _ => ("old", "new"),
-    };
-    let [from, to] = said_place(at, olds.len());
-    let old = said(was, Value::Words(olds));
-    rows.say(&[from, to, old, said(is, Value::Words(news))])?;
-    for (place, (a, b)) in olds.iter().zip(news.iter()).enumerate() {
-        let word = usize::from(at).saturating_add(place);
-        rows.put("word", &[data("word", word), data("a", *a), data("b", *b)])?;
     }
     Ok(())
 }

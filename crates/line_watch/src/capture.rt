@@ -98,11 +98,8 @@ impl<F: RandomAccessFile + Drop> Capture<F> {
 /// Whether the file is empty, or begins as a capture of this program does.
 fn is_vacant<F: RandomAccessFile>(file: &F) -> io::Result<bool> {
     let length = file.len()?;
-    if length == 0 {
-        return Ok(true);
-    }
     if length < BEGIN as u64 {
-        return Ok(false);
+        return Ok(length == 0);
     }
     let mut start = [0u8; BEGIN];
     file.read_exact_at(&mut start, 0)?;
@@ -130,7 +127,6 @@ fn append<F: RandomAccessFile, R: Clock>(
     requires { length frame.now ≤ MAX_LEN }
 {
     let record = record_now(rt, way, frame)?;
-    let bytes = record.as_slice();
-    file.write_all_at(bytes, at)?;
-    Ok(at.wrapping_add(bytes.len() as u64))
+    file.write_all_at(record.as_slice(), at)?;
+    Ok(at.wrapping_add(record.len() as u64))
 }

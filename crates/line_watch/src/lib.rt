@@ -7,12 +7,10 @@ mod observed_wire;
 mod pcap;
 mod progress;
 mod stage;
-mod watch;
 mod watched_device;
 
 pub use capture::{BeginFault, Capture};
 pub use observed_wire::ObservedWire;
 pub use pcap::Way;
-pub use progress::{Cleared, Progress};
-pub use watch::Watch;
+pub use progress::{Cleared, Progress, Watch};
 pub use watched_device::Watched;

@@ -7,8 +7,7 @@ use crate::progress::Progress;
 use ecat_frame::{Command, Datagram, Frame, MAX_LEN};
 use sii_words::{MAX_SLAVES, MAX_WORDS};
 use site_file::RandomAccessFile;
-use std::io;
-use std::io::Write;
+use std::io::{self, Write};
 use std::rt::Clock;
 use std::sync::Wait;
 use std::sync::atomic::Ordering::SeqCst;
@@ -20,10 +19,9 @@ const CONTROL: u32 = 0x0502;
 /// The word that tells the size of an EEPROM in KiBit, less one (ETG.1000.6, slave information interface).
 const SIZE: u16 = 0x3e;
 
-/// What was seen of a slave.
+/// What was seen of the slave with this station address.
 #[derive(Clone, Copy)]
 struct SeenSlave {
-    /// Its station address.
     station: u16,
     /// How many of its words were read, from word 0 on.
     read: u16,
@@ -74,13 +72,7 @@ fn frame_in(bytes: &[u8], count: usize) -> &[u8]
     front_of(front_of(bytes, MAX_LEN), count)
 }
 
-impl<'o, W: Wire, F: RandomAccessFile + Drop, T: Write, R: Wait + Clock> ObservedWire<
-    'o,
-    W,
-    F,
-    T,
-    R,
-> {
+impl<'o, W, F, T, R> ObservedWire<'o, W, F, T, R> {
     /// Makes the wire whose frames are written down in this capture, and count for this progress.
     pub fn new(
         wire: W,
@@ -104,7 +96,9 @@ impl<'o, W: Wire, F: RandomAccessFile + Drop, T: Write, R: Wait + Clock> Observe
             is_writing: false,
         }
     }
+}
 
+impl<W: Wire, F: RandomAccessFile + Drop, T: Write, R: Wait + Clock> ObservedWire<'_, W, F, T, R> {
     /// Writes down the frame of so many bytes at the front of these.
     fn write_down(&self, way: Way, bytes: &[u8], count: usize) {
         if let Some(capture) = self.capture {
@@ -134,17 +128,15 @@ impl<'o, W: Wire, F: RandomAccessFile + Drop, T: Write, R: Wait + Clock> Observe
             return;
         };
         slave.at = word;
-        let read = if slave.size == 0 {
-            word
-        } else {
-            word.min(slave.size)
+        let read = match slave.size {
+            0 => word,
+            size => word.min(size),
         };
         if read <= slave.read {
             return;
         }
-        progress
-            .read
-            .fetch_add(u64::from(read - slave.read), SeqCst);
+        let more = u64::from(read - slave.read);
+        progress.read.fetch_add(more, SeqCst);
         slave.read = read;
         if read == slave.size && !self.is_writing {
             progress.done.fetch_add(1, SeqCst);
@@ -160,14 +152,11 @@ impl<'o, W: Wire, F: RandomAccessFile + Drop, T: Write, R: Wait + Clock> Observe
             return;
         }
         let behind = 4 + 2 * usize::from(SIZE - slave.at);
-        match shown.get(behind..behind + 2) {
-            Some([low, high]) => {
-                let said = 64 * (usize::from(u16::from_le_bytes([*low, *high])) + 1);
-                let size = said.min(MAX_WORDS);
-                slave.size = size as u16;
-                progress.to_read.fetch_add(size as u64, SeqCst);
-            }
-            _ => {}
+        if let Some([low, high]) = shown.get(behind..behind + 2) {
+            let said = 64 * (usize::from(u16::from_le_bytes([*low, *high])) + 1);
+            let size = said.min(MAX_WORDS);
+            slave.size = size as u16;
+            progress.to_read.fetch_add(size as u64, SeqCst);
         }
     }
 
@@ -192,8 +181,7 @@ impl<'o, W: Wire, F: RandomAccessFile + Drop, T: Write, R: Wait + Clock> Observe
     /// Notes how many words each slave is to write, if that is known. The slaves were seen in the order of the line.
     fn begin_writing(&mut self, progress: &Progress<T>) {
         let expected = progress.expected(self.rt);
-        let mut slaves = 0u64;
-        let mut words = 0u64;
+        let (mut slaves, mut words) = (0u64, 0u64);
         for (slave, left) in self.slaves.iter_mut().zip(expected) {
             slave.left = left;
             slaves = slaves.saturating_add(u64::from(left > 0));

@@ -3,8 +3,8 @@ ghost use Rattle.std.specs.Io.{WritesAtMost};
 
 use crate::stage::{Stage, line_of};
 use sii_words::MAX_SLAVES;
-use std::io;
-use std::io::Write;
+use std::alloc::AllocError;
+use std::io::{self, Write};
 use std::rt::Clock;
 use std::sync::atomic::AtomicU64;
 use std::sync::atomic::Ordering::SeqCst;
@@ -89,10 +89,7 @@ impl<T: Write> Line<T> {
         } else {
             (self.reading, stage.read, stage.to_read)
         };
-        match since {
-            Some(since) => seconds_for(now.saturating_sub(since), done, all),
-            None => 0,
-        }
+        since.map_or(0, |since| seconds_for(now.saturating_sub(since), done, all))
     }
 
     /// Notes when the first words are read, and when the first ones are written.
@@ -124,9 +121,7 @@ impl<T: Write> Progress<T> {
         T: Drop,
     {
         let terminal = terminal?;
-        let Ok(now) = rt.monotonic() else {
-            return None;
-        };
+        let now = rt.monotonic().ok()?;
         Some(Progress {
             commands: AtomicU64::new(0),
             durable: AtomicU64::new(0),
@@ -213,8 +208,7 @@ impl<T: Write> Progress<T> {
 
     /// Erases the line, if it is drawn.
     pub fn erase<R: Wait>(&self, rt: &R) {
-        let mut line = self.line.lock(rt);
-        line.erase();
+        self.line.lock(rt).erase();
     }
 
     /// Erases the line, and writes these bytes. No line is drawn until they end with a line feed. Then they are flushed, so that whole lines
@@ -271,5 +265,36 @@ impl<'a, W: Write, T: Write, R: Wait> Write for Cleared<'a, W, T, R> {
             progress.erase(self.rt);
         }
         self.writer.flush()
+    }
+}
+
+/// The runtime of a call, and the progress that counts what it does, if there is one.
+#[derive(Drop)]
+pub struct Watch<'a, T, R> {
+    pub rt: &'a R,
+    pub progress: Option<&'a Progress<T>>,
+}
+
+impl<'a, T, R> Copy for Watch<'a, T, R> {}
+
+impl<'a, T, R> Clone for Watch<'a, T, R> {
+    fn clone(&self) -> Result<Self, AllocError> {
+        Ok(*self)
+    }
+}
+
+impl<'a, T: Write, R: Wait> Watch<'a, T, R> {
+    /// Tells the progress how many commands there are.
+    pub fn expect(self, commands: usize) {
+        if let Some(progress) = self.progress {
+            progress.expect(commands);
+        }
+    }
+
+    /// Erases the line of the progress.
+    pub fn erase(self) {
+        if let Some(progress) = self.progress {
+            progress.erase(self.rt);
+        }
     }
 }

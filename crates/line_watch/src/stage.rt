@@ -3,8 +3,7 @@ ghost use Rattle.std.specs.Prelude.{◌≡◌, ◌++◌, IfOk, OnOk};
 ghost use Rattle.line_watch.specs.Line.{counts, line, of_all, rest};
 
 use arrayvec::ArrayVec;
-use std::io;
-use std::io::Write;
+use std::io::{self, Write};
 
 /// The most bytes of a line.
 const LONGEST: usize = 320;
@@ -34,11 +33,8 @@ pub(crate) struct Stage {
     pub(crate) left: u64,
 }
 
-/// The line of a run that is this far. It begins at the left edge of a terminal, and erases what stands after it there.
-///
-/// # Errors
-///
-/// If it has more than 320 bytes. No line has.
+/// The line of a run that is this far. It begins at the left edge of a terminal, and erases what stands after it there. It would fail with more
+/// than 320 bytes, which no line has.
 pub(crate) fn line_of(stage: Stage) -> io::Result<ArrayVec<u8, LONGEST>>
     ensures { IfOk result (λ text. text.items ≡ line stage) }
 {
@@ -53,16 +49,9 @@ pub(crate) fn line_of(stage: Stage) -> io::Result<ArrayVec<u8, LONGEST>>
 fn write_counts(stage: Stage, text: &mut ArrayVec<u8, LONGEST>) -> io::Result<()>
     ensures { OnOk result (text.new.items ≡ text.old.items ++ counts stage) }
 {
-    let Stage {
-        commands,
-        durable,
-        read,
-        to_read,
-        words,
-        to_write,
-        busy,
-        ..
-    } = stage;
+    let (commands, durable) = (stage.commands, stage.durable);
+    let (read, to_read) = (stage.read, stage.to_read);
+    let (words, to_write, busy) = (stage.words, stage.to_write, stage.busy);
     if commands > 0 {
         write!(text, "commands {durable} of {commands} durable, ")?;
     }
@@ -91,12 +80,7 @@ fn write_of(done: u64, all: u64, text: &mut ArrayVec<u8, LONGEST>) -> io::Result
 fn write_rest(stage: Stage, text: &mut ArrayVec<u8, LONGEST>) -> io::Result<()>
     ensures { OnOk result (text.new.items ≡ text.old.items ++ rest stage) }
 {
-    let Stage {
-        finished,
-        slaves,
-        left,
-        ..
-    } = stage;
+    let (finished, slaves, left) = (stage.finished, stage.slaves, stage.left);
     if slaves > 0 {
         write!(text, ", {finished} of {slaves} done")?;
     }

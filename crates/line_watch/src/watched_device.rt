@@ -62,8 +62,7 @@ impl<'p, D, T: Write, R: Clock> Watched<'p, D, T, R> {
     pub fn into_device(self) -> D
         ensures { result ≡ self.entry.device }
     {
-        let Watched { device, .. } = self;
-        device
+        self.device
     }
 
     /// Something was written to the journal from `at` on: a gate, a batch or a header.
@@ -128,11 +127,8 @@ impl<'p, D: Device, T: Write, R: Clock> Device for Watched<'p, D, T, R> {
 
     fn rest(&mut self, slave: usize, half: &RomHalf, frame: &Frame, k: usize) -> Resting {
         let resting = self.device.rest(slave, half, frame, k);
-        if let (Some(progress), Some(_), Resting::Well) = (
-            self.progress,
-            half.in_flight(),
-            resting,
-        ) {
+        let word = half.in_flight();
+        if let (Some(progress), Some(_), Resting::Well) = (self.progress, word, resting) {
             progress.words.fetch_add(1, SeqCst);
             progress.set_busy(slave, false);
             progress.look(self.rt);

@@ -1,5 +1,4 @@
 //! Sets the alias of an image without taking memory.
-
 ghost use Rattle.std.specs.Prelude.{◌≡◌, ◌≢◌, ◌≤◌, ◌<◌, ℕ, length, slice_index, false, [], ◌∷◌};
 ghost use Rattle.sii_words.specs.CheckByte.{IsChecked, bits_of_byte, check_byte_of};
 ghost use Rattle.sii_words.specs.Words.{IsImageSize, bytes_of};

@@ -1,5 +1,4 @@
 //! Walks the chain of categories.
-
 ghost use Rattle.std.specs.Prelude.{◌≡◌, ◌≤◌, length};
 ghost use Rattle.sii_words.specs.Words.{IsImageSize};
 ghost use Rattle.sii_bytes.specs.Bytes.{Answers};

@@ -1,5 +1,4 @@
 //! The numbers of codes.
-
 ghost use Rattle.std.specs.Prelude.{◌≡◌};
 ghost use Rattle.sii_bytes.specs.Codes.{code_of_cause, code_of_words};
 

@@ -1,5 +1,4 @@
 //! Reads the items of a category's content: sync managers, PDOs and their entries, strings.
-
 ghost use Rattle.std.specs.Prelude.{◌≡◌, ◌≤◌, ◌++◌, drop, length, IfOk, IfErr};
 ghost use Rattle.sii_words.specs.Words.{bytes_of};
 ghost use Rattle.sii_cats.specs.Contents.{AreManagers};

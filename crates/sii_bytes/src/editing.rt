@@ -1,5 +1,4 @@
 //! Applies one edit to a device.
-
 ghost use Rattle.std.specs.Prelude.{◌≡◌, ◌*◌, ◌%◌, [], ◌∷◌, length, IfOk, IfErr};
 ghost use Rattle.sii_words.specs.Words.{IsDeviceSize};
 ghost use Rattle.sii_bytes.specs.Bytes.{Answers, words_in};

@@ -1,5 +1,4 @@
 //! What stands in front of an image's categories.
-
 ghost use Rattle.std.specs.Prelude.{◌≡◌};
 ghost use Rattle.sii_words.specs.Words.{IsImageSize};
 ghost use Rattle.sii_bytes.specs.Bytes.{Answers};

@@ -1,5 +1,4 @@
 //! The process image of a line.
-
 ghost use Rattle.std.specs.Prelude.{◌≡◌, ◌+◌, ◌<◌, ◌≤◌, ◌++◌, drop, length, map, sum, ◌↔◌, IfOk, IfErr, IsTrue, MatchOption, Ok};
 ghost use Rattle.sii_bytes.specs.Line.{FirstRefused, IsSizes, PlacesLine, ReadsEach, ReadsLine, pieces, placed_segment};
 

@@ -1,5 +1,4 @@
 //! Reads bytes as the words of an image or of a device.
-
 ghost use Rattle.sii_words.specs.Words.{IsDeviceSize, IsImageSize};
 ghost use Rattle.sii_bytes.specs.Bytes.{Reads};
 
@@ -7,11 +6,7 @@ use crate::codes::words_code;
 use sii_words::{ImageFile, Words};
 use std::alloc::Global;
 
-/// Reads an image of 64 to 4,096 words.
-///
-/// # Errors
-///
-/// The code: 1 if the number of bytes is odd; 2 if it is no image's; 20 if memory was refused.
+/// Reads an image of 64 to 4,096 words; or the code: 1 if the number of bytes is odd; 2 if it is no image's; 20 if memory was refused.
 pub(crate) fn read_image(alloc: Global, bytes: &[u8]) -> Result<ImageFile, u32>
     ensures { Reads IsImageSize bytes.now result }
 {
@@ -21,11 +16,8 @@ pub(crate) fn read_image(alloc: Global, bytes: &[u8]) -> Result<ImageFile, u32>
     }
 }
 
-/// Reads the words of a device: 64 to 4,096, a multiple of 64.
-///
-/// # Errors
-///
-/// The code: 1 if the number of bytes is odd; 2 if it is no device's; 20 if memory was refused.
+/// Reads the words of a device, 64 to 4,096, a multiple of 64; or the code: 1 if the number of bytes is odd; 2 if it is no device's; 20 if
+/// memory was refused.
 pub(crate) fn read_device(alloc: Global, bytes: &[u8]) -> Result<Words, u32>
     ensures { Reads IsDeviceSize bytes.now result }
 {

@@ -1,5 +1,4 @@
 //! Validates an image.
-
 ghost use Rattle.std.specs.Prelude.{◌≢◌, All, MatchOption};
 ghost use Rattle.station_listing.specs.declared.items.Items.TheVariants.{Malformed};
 ghost use Rattle.sii_bytes.specs.Validating.{IsFirstMalformed, Validates, ValidatesListing};

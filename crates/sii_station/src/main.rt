@@ -3,12 +3,11 @@
 #![tactic(auto)]
 
 use station_serve::wire::{
-    Arguments, Connection, Screen, read_arguments, refuse_text, serve_on_wire,
+    Arguments, Connection, OwnWire, Screen, read_arguments, refuse_text, serve_on_wire,
 };
 use station_serve::{Streams, refuse_words, serve};
-use std::alloc::{AllocError, Global};
 use std::fs::{File, Files};
-use std::io::{BufWriter, Input, IsTerminal, Print, Read, Write};
+use std::io::{BufWriter, Input, IsTerminal, Print, Write};
 use std::process::ExitCode;
 use std::rt::Clock;
 use std::sync::Wait;
@@ -41,19 +40,12 @@ fn main(rt: HostRuntime) -> ExitCode {
 /// The arguments, the program's name first. With the environment variable `PILZHOON_VERBOSE` a call on files has `--verbose` too, so that the log of
 /// a service has the second line of a fault.
 fn words(rt: &HostRuntime) -> io::Result<Vec<String>> {
-    let words: Vec<String> = env::args(rt)?.collect(rt.alloc())?;
+    let mut words: Vec<String> = env::args(rt)?.collect(rt.alloc())?;
     let is_reported = words.iter().any(|word| word.as_str() == "--verbose");
-    if is_reported || is_on_wire(&words) || env::var(rt, "PILZHOON_VERBOSE").is_err() {
-        return Ok(words);
+    if !is_reported && !is_on_wire(&words) && env::var(rt, "PILZHOON_VERBOSE").is_ok() {
+        let place = words.len().min(1);
+        words.insert(place, String::from_str(rt.alloc(), "--verbose")?)?;
     }
-    Ok(reported(rt.alloc(), words)?)
-}
-
-/// These arguments, with `--verbose` after the program's name.
-fn reported(alloc: Global, words: Vec<String>) -> Result<Vec<String>, AllocError> {
-    let mut words = words;
-    let place = words.len().min(1);
-    words.insert(place, String::from_str(alloc, "--verbose")?)?;
     Ok(words)
 }
 
@@ -68,11 +60,7 @@ fn serve_files<
     E: Write + IsTerminal + Copy + Send + Drop,
 >(rt: &H, words: &[String], faults: &mut E) -> u8 {
     let mut files = FileStore::new(rt.alloc(), rt);
-    let terminal = if faults.is_terminal() {
-        Some(*faults)
-    } else {
-        None
-    };
+    let terminal = faults.is_terminal().then_some(*faults);
     match BufWriter::new(rt.alloc(), io::writer(rt)) {
         Ok(mut output) => {
             let streams = Streams {
@@ -88,10 +76,9 @@ fn serve_files<
 /// Carries out the arguments over this connection. The text goes to the file that they name, or to the stream for faults.
 fn serve_wire<
     H: Files<File = File> + Wait + Threads + Clock + AllocGlobal + Sync,
-    R: Read + Send + Drop,
-    W: Write + Send + Drop,
+    L: OwnWire,
     E: Write + IsTerminal + Copy + Send + Drop,
->(rt: &H, words: &[String], connection: Connection<R, W>, faults: &mut E) -> u8 {
+>(rt: &H, words: &[String], connection: Connection<L>, faults: &mut E) -> u8 {
     match read_arguments(rt.alloc(), words) {
         Ok(arguments) => match Text::open(rt, arguments.text, *faults) {
             Ok(mut text) => serve_task(rt, arguments, connection, &mut text, faults),
@@ -104,20 +91,12 @@ fn serve_wire<
 /// Carries out what the arguments ask for on a wire, with its text in this stream.
 fn serve_task<
     H: Files<File = File> + Wait + Threads + Clock + AllocGlobal + Sync,
-    R: Read + Send + Drop,
-    W: Write + Send + Drop,
+    L: OwnWire,
     O: Write,
     E: Write + IsTerminal + Copy + Send + Drop,
->(
-    rt: &H,
-    arguments: Arguments<'_>,
-    connection: Connection<R, W>,
-    text: &mut O,
-    faults: &mut E,
-) -> u8 {
+>(rt: &H, arguments: Arguments<'_>, connection: Connection<L>, text: &mut O, faults: &mut E) -> u8 {
     let mut files = FileStore::new(rt.alloc(), rt);
-    let is_terminal = faults.is_terminal();
-    let terminal = if is_terminal { Some(*faults) } else { None };
+    let terminal = faults.is_terminal().then_some(*faults);
     let screen = Screen {
         faults,
         is_reported: arguments.is_verbose || !arguments.is_quiet,

@@ -12,10 +12,6 @@ use site_shadow::{Device, ShadowSite};
 use std::alloc::{AllocError, Global};
 
 /// A copy of the words of all slaves of a line. A word in flight has its old value. The site must own the EEPROM of every slave.
-///
-/// # Errors
-///
-/// Memory was refused.
 pub(crate) fn contents_of<D: Device + Drop>(
     alloc: Global,
     site: &ShadowSite<D>,

@@ -4,15 +4,11 @@ use jrn_format::{
     AREA_START, Batch, Entry, Form, Journal, OPEN, capacity, gate, slave_count, version,
 };
 use line_changes::MOST_PRINTED;
-use sii_words::Run;
 use station_rows::{Rows, Value, data, named, said, said_place};
 use std::alloc::AllocError;
 
-/// Puts what a journal's file says in its header, and then the live batches of the journal that it is, if it is one.
-///
-/// # Errors
-///
-/// Memory was refused.
+/// Puts what a journal's file says in its header, and then how full each half is of the journal that it is, if it is one, or the area of version 1,
+/// and the live batches.
 pub(crate) fn put_journal(
     rows: &mut Rows,
     file: &[u8],
@@ -29,14 +25,10 @@ pub(crate) fn put_journal(
         named("area", area),
     ];
     rows.put("journal", &row)?;
-    match journal {
-        Some(journal) => put_area(rows, journal, area as usize),
-        None => Ok(()),
-    }
-}
-
-/// Puts how full each half is, or the area of version 1, and then the live batches.
-fn put_area(rows: &mut Rows, journal: &Journal, area: usize) -> Result<(), AllocError> {
+    let Some(journal) = journal else {
+        return Ok(());
+    };
+    let area = area as usize;
     match journal.form {
         Form::One => put_half(rows, journal, None, area)?,
         Form::Two => {
@@ -55,8 +47,7 @@ fn put_half(
     half: Option<u8>,
     room: usize,
 ) -> Result<(), AllocError> {
-    let mut batches = 0usize;
-    let mut live = 0usize;
+    let (mut batches, mut live) = (0usize, 0usize);
     for batch in journal.batches.as_slice() {
         if batch.half == half.unwrap_or(0) {
             batches = batches.saturating_add(1);
@@ -117,7 +108,8 @@ fn put_batches(rows: &mut Rows, journal: &Journal, area: usize) -> Result<(), Al
     Ok(())
 }
 
-/// Puts the commands of a batch, and the runs of words that they change. Text names a command with each of its runs.
+/// Puts the commands of a batch, and the runs of words that they change. Text names a command with each of its runs, and of a long run has only the
+/// number of its words.
 fn put_commands(rows: &mut Rows, entries: &[Entry]) -> Result<(), AllocError> {
     for entry in entries {
         let runs = entry.runs.as_slice();
@@ -125,34 +117,27 @@ fn put_commands(rows: &mut Rows, entries: &[Entry]) -> Result<(), AllocError> {
         if runs.is_empty() {
             rows.say(&[named("command", number), said("", "no words")])?;
         }
-        rows.put(
-            "command",
-            &[data("command", number), data("runs", runs.len())],
-        )?;
+        let row = [data("command", number), data("runs", runs.len())];
+        rows.put("command", &row)?;
         for run in runs {
-            put_run(rows, number, run)?;
+            let words = run.words.as_slice();
+            let [from, to] = said_place(run.first, words.len());
+            let (count, new) = if words.len() > MOST_PRINTED {
+                (words.len().into(), data("new", Value::Words(words)))
+            } else {
+                (Value::Absent, named("new", Value::Words(words)))
+            };
+            let row = [
+                named("command", number),
+                named("slave", run.slave),
+                from,
+                to,
+                data("word", run.first),
+                said("count", count),
+                new,
+            ];
+            rows.put("run", &row)?;
         }
     }
     Ok(())
-}
-
-/// Puts a run of words that a command changes. Of a long one text has only their number.
-fn put_run(rows: &mut Rows, command: u64, run: &Run) -> Result<(), AllocError> {
-    let words = run.words.as_slice();
-    let [from, to] = said_place(run.first, words.len());
-    let (count, new) = if words.len() > MOST_PRINTED {
-        (words.len().into(), data("new", Value::Words(words)))
-    } else {
-        (Value::Absent, named("new", Value::Words(words)))
-    };
-    let row = [
-        named("command", command),
-        named("slave", run.slave),
-        from,
-        to,
-        data("word", run.first),
-        said("count", count),
-        new,
-    ];
-    rows.put("run", &row)
 }

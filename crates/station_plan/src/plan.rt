@@ -24,14 +24,11 @@ use station_rows::{Form, RefusedCommand, Rows};
 use std::alloc::Global;
 use std::io::Write;
 
-/// What a run would do to a line.
+/// What a run would do to a line: the words of the slaves before and after it, and those in which the two differ.
 #[derive(Drop)]
 pub(crate) struct Planned {
-    /// The words of the slaves before the run.
     pub before: Plant,
-    /// Their words after it.
     pub after: Plant,
-    /// The words in which the two differ.
     pub changes: Vec<ChangedWord>,
     /// Where an accepted command makes word 0x3E say another size than the slave has. The commands are counted as they are accepted.
     pub resizes: Vec<Resize>,
@@ -125,10 +122,6 @@ pub fn plan_line<W: Write>(
 
 /// Opens the station on the line in memory, serves the commands on one thread, and compares the words before and after. Tells the
 /// answers and the totals.
-///
-/// # Errors
-///
-/// As for `open_station`, then as for `serve_commands`; `Memory` at any point.
 fn plan_site<A: Answers>(
     alloc: Global,
     site: ShadowSite<FaultPlan>,
@@ -143,7 +136,7 @@ fn plan_site<A: Answers>(
     ensures { IfOk result (IsPlanOf site commands.items answered.old answered.new) }
 {
     let before = contents_of(alloc, &site)?;
-    let site = site.with_device(Tally::new());
+    let site = site.with_device(Tally::default());
     match open_station(alloc, site, was_old) {
         Ok(alone) => serve_plan(alloc, before, alone, commands, answers, answered),
         Err((left, fault)) => {

@@ -3,7 +3,7 @@ ghost use Rattle.std.specs.Prelude.{◌≡◌};
 ghost use Rattle.station_plan.specs.Refusals.{refused_at};
 
 use crate::plan::Planned;
-use line_changes::{Resize, put_changes, put_images};
+use line_changes::{put_changes, put_images};
 use station_files::{Fault, Refused};
 use station_line::Answers;
 use station_rows::{END, RefusedCommand, Rows, Value, bare, named, said};
@@ -79,25 +79,9 @@ fn refused_at(place: usize, refused: Refused) -> RefusedCommand
 
 /// Puts the words that change, the commands that make word 0x3E say another size than the slave has, how much is written on the way, and the
 /// process image before and after if it changes.
-///
-/// # Errors
-///
-/// Memory was refused.
 pub(crate) fn put_plan(rows: &mut Rows, planned: &Planned) -> Result<(), AllocError> {
     put_changes(rows, &planned.changes)?;
-    put_resizes(rows, &planned.resizes)?;
-    let row = [
-        said("", "writes"),
-        named("words", planned.tally.words),
-        named("bytes", planned.tally.bytes),
-        named("syncs", planned.tally.syncs),
-    ];
-    rows.put("writes", &row)?;
-    put_images(rows, &planned.before, &planned.after)
-}
-
-fn put_resizes(rows: &mut Rows, resizes: &[Resize]) -> Result<(), AllocError> {
-    for resize in resizes {
+    for resize in &planned.resizes {
         let row = [
             said("", "command accepted as"),
             bare("accepted", resize.command),
@@ -110,5 +94,12 @@ fn put_resizes(rows: &mut Rows, resizes: &[Resize]) -> Result<(), AllocError> {
         ];
         rows.put("resize", &row)?;
     }
-    Ok(())
+    let row = [
+        said("", "writes"),
+        named("words", planned.tally.words),
+        named("bytes", planned.tally.bytes),
+        named("syncs", planned.tally.syncs),
+    ];
+    rows.put("writes", &row)?;
+    put_images(rows, &planned.before, &planned.after)
 }

@@ -6,7 +6,7 @@ use site_mem::{Pattern, has_taken_word};
 use site_shadow::{Device, Passing, Resting};
 
 /// A device behind a line in memory, in whose calls nothing fails. It counts the writes. Contracts don't see it.
-#[derive(Clone, Copy, Drop)]
+#[derive(Clone, Copy, Default, Drop)]
 pub(crate) struct Tally {
     /// The words that slaves have taken.
     pub words: u64,
@@ -14,17 +14,6 @@ pub(crate) struct Tally {
     pub bytes: u64,
     /// The syncs of the journal.
     pub syncs: u64,
-}
-
-impl Tally {
-    /// A count of nothing yet.
-    pub fn new() -> Tally {
-        Tally {
-            words: 0,
-            bytes: 0,
-            syncs: 0,
-        }
-    }
 }
 
 impl Device for Tally {

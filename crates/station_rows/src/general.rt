@@ -19,7 +19,8 @@ const COE: [&str; 6] = [
 /// What the flags say, lowest first.
 const FLAGS: [&str; 5] = ["safeop", "not_lrw", "data_link", "id_status", "id_memory"];
 
-/// Puts what the bits of a category General with these words enable, and what its ports are, if the words go as far.
+/// Puts what the bits of a category General with these words enable, and what its four ports are, if the words go as far: four bits each, port 0
+/// the lowest.
 pub(crate) fn put_details(rows: &mut Rows, words: &[u16]) -> Result<(), AllocError> {
     let mut row = vec![in rows.alloc(); said("", "details")]?;
     push_bits(&mut row, byte_at(words, 5), &COE)?;
@@ -27,10 +28,18 @@ pub(crate) fn put_details(rows: &mut Rows, words: &[u16]) -> Result<(), AllocErr
     push_bits(&mut row, byte_at(words, 7), &["eoe"])?;
     push_bits(&mut row, byte_at(words, 11), &FLAGS)?;
     rows.put("details", &row)?;
-    match words.get(8) {
-        Some(ports) => put_ports(rows, *ports),
-        None => Ok(()),
-    }
+    let Some(ports) = words.get(8).copied() else {
+        return Ok(());
+    };
+    let row = [
+        said("", "ports"),
+        bare("bits", Value::Word(ports)),
+        bare("port0", physics_of(ports)),
+        bare("port1", physics_of(ports / 16)),
+        bare("port2", physics_of(ports / 256)),
+        bare("port3", physics_of(ports / 4096)),
+    ];
+    rows.put("ports", &row)
 }
 
 /// Adds which bits of a byte are set, by what they mean, the lowest first.
@@ -45,19 +54,6 @@ pub(crate) fn push_bits(
         rest /= 2;
     }
     Ok(())
-}
-
-/// Puts what the four ports are: four bits each, port 0 the lowest.
-fn put_ports(rows: &mut Rows, ports: u16) -> Result<(), AllocError> {
-    let row = [
-        said("", "ports"),
-        bare("bits", Value::Word(ports)),
-        bare("port0", physics_of(ports)),
-        bare("port1", physics_of(ports / 16)),
-        bare("port2", physics_of(ports / 256)),
-        bare("port3", physics_of(ports / 4096)),
-    ];
-    rows.put("ports", &row)
 }
 
 /// What a port is, by the lowest four bits.

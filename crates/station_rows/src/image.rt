@@ -5,7 +5,7 @@ use crate::head::put_head;
 use crate::items::put_items;
 use crate::rows::Rows;
 use crate::value::Value;
-use station_listing::{Items, ListedCategory, ListedChain, Listing};
+use station_listing::{Items, ListedChain, Listing};
 use std::alloc::AllocError;
 
 /// Puts a row for the head of an image, one for each category, and one for the end of their chain. With `all` a category's name stands beside
@@ -31,35 +31,27 @@ pub(crate) fn put_image(
     ];
     rows.put("image", &row)?;
     match &listing.chain {
-        ListedChain::Complete(categories) => put_categories(rows, all, categories)?,
+        ListedChain::Complete(categories) => {
+            for category in categories {
+                let name = if all { name_of(category.kind) } else { None };
+                let row = [
+                    named("category", category.kind),
+                    bare("name", name),
+                    named("words", category.words.len()),
+                    cell_of(&category.items),
+                ];
+                rows.put("category", &row)?;
+            }
+            rows.put("end", &[said("", "end")])?;
+            if all {
+                put_items(rows, categories)?;
+            }
+        }
         ListedChain::RunsOut { at } => {
             rows.put("runs_out", &[said("", "runs out"), named("at", *at)])?
         }
     }
     if all { put_head(rows, words) } else { Ok(()) }
-}
-
-fn put_categories(
-    rows: &mut Rows,
-    all: bool,
-    categories: &[ListedCategory],
-) -> Result<(), AllocError> {
-    for category in categories {
-        let name = if all { name_of(category.kind) } else { None };
-        let row = [
-            named("category", category.kind),
-            bare("name", name),
-            named("words", category.words.len()),
-            cell_of(&category.items),
-        ];
-        rows.put("category", &row)?;
-    }
-    rows.put("end", &[said("", "end")])?;
-    if all {
-        put_items(rows, categories)
-    } else {
-        Ok(())
-    }
 }
 
 /// What a category's content is: the number of its items under what they are, or that it is bad.

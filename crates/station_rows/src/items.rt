@@ -5,7 +5,7 @@ use crate::cell::{Cell, bare, named, said};
 use crate::general::put_details;
 use crate::rows::{Row, Rows};
 use crate::value::Value;
-use sii_cats::{FmmuUnit, FmmuUse, Manager, Pdo, PdoEntry, kind};
+use sii_cats::{FmmuUnit, FmmuUse, Manager, Pdo, kind};
 use station_listing::{Items, ListedCategory};
 use std::alloc::{AllocError, Global};
 
@@ -59,10 +59,6 @@ pub(crate) fn put_items(rows: &mut Rows, categories: &[ListedCategory]) -> Resul
 }
 
 /// The items of one of these categories, a line for each; none where its content isn't read.
-///
-/// # Errors
-///
-/// Memory was refused.
 pub fn lines_of<'a>(
     alloc: Global,
     categories: &'a [ListedCategory],
@@ -195,50 +191,32 @@ impl<'a> Lines<'a> {
             _ => ("rxpdo", "rxpdo_entry"),
         };
         for pdo in pdos {
-            let labels = [said("", pdo_row), bare("index", Value::Word(pdo.index))];
-            self.push_pdo(pdo_row, &labels, pdo)?;
+            let [head, index] = [said("", pdo_row), bare("index", Value::Word(pdo.index))];
+            let manager = match pdo.manager {
+                0xFF => Value::Null,
+                number => number.into(),
+            };
+            let said_of = [
+                named("entries", pdo.entries.len()),
+                named("sm", manager),
+                named("sync", pdo.synchronization),
+                named("flags", Value::Word(pdo.flags)),
+                named("name", self.name(pdo.name)),
+            ];
+            self.push(pdo_row, &[head, index], &said_of)?;
             for (place, entry) in pdo.entries.iter().enumerate() {
+                let said_of = [
+                    named("object", Value::Object(entry.index, entry.subindex)),
+                    named("type", Value::Byte(entry.data_type)),
+                    named("bits", entry.bit_length),
+                    named("flags", Value::Word(entry.flags)),
+                    named("name", self.name(entry.name)),
+                ];
                 let number = named("entry", place.saturating_add(1));
-                self.push_entry(entry_row, &[labels[0], labels[1], number], *entry)?;
+                self.push(entry_row, &[head, index, number], &said_of)?;
             }
         }
         Ok(())
-    }
-
-    fn push_pdo(
-        &mut self,
-        row: &'static str,
-        labels: &[Cell<'a>],
-        pdo: &Pdo,
-    ) -> Result<(), AllocError> {
-        let manager = match pdo.manager {
-            0xFF => Value::Null,
-            number => number.into(),
-        };
-        let said_of = [
-            named("entries", pdo.entries.len()),
-            named("sm", manager),
-            named("sync", pdo.synchronization),
-            named("flags", Value::Word(pdo.flags)),
-            named("name", self.name(pdo.name)),
-        ];
-        self.push(row, labels, &said_of)
-    }
-
-    fn push_entry(
-        &mut self,
-        row: &'static str,
-        labels: &[Cell<'a>],
-        entry: PdoEntry,
-    ) -> Result<(), AllocError> {
-        let said_of = [
-            named("object", Value::Object(entry.index, entry.subindex)),
-            named("type", Value::Byte(entry.data_type)),
-            named("bits", entry.bit_length),
-            named("flags", Value::Word(entry.flags)),
-            named("name", self.name(entry.name)),
-        ];
-        self.push(row, labels, &said_of)
     }
 
     /// Adds the operation modes of a category DC (ETG.2010), of twelve words each: times in nanoseconds, of SYNC0 and SYNC1. Words after the

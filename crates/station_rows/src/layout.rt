@@ -37,10 +37,6 @@ pub fn show_layout<S: Store, W: Write>(
 }
 
 /// Puts a row for each segment of a process image, and one for its sizes. `name` says which process image it is, where there are two.
-///
-/// # Errors
-///
-/// Memory was refused.
 pub fn put_layout(
     rows: &mut Rows,
     name: Option<&str>,

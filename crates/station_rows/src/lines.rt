@@ -65,9 +65,6 @@ pub struct LineRows<'a, W> {
     refused: Option<Vec<RefusedCommand>>,
 }
 
-/// A line that was read: what its row is, and the cells.
-type Found<'l> = (&'static str, Vec<Cell<'l>>);
-
 impl<'a, W: Write> LineRows<'a, W> {
     /// A writer of lines in this form to this output. It remembers the commands that are refused if `remembers`.
     pub fn new(alloc: Global, form: Form, remembers: bool, output: &'a mut W) -> LineRows<'a, W> {
@@ -76,11 +73,7 @@ impl<'a, W: Write> LineRows<'a, W> {
             form,
             output,
             line: Vec::new(alloc),
-            refused: if remembers {
-                Some(Vec::new(alloc))
-            } else {
-                None
-            },
+            refused: remembers.then_some(Vec::new(alloc)),
         }
     }
 
@@ -91,10 +84,9 @@ impl<'a, W: Write> LineRows<'a, W> {
 
     /// The commands that were refused, in order, if it remembers them. Where memory was refused for one, it isn't there.
     pub fn refused(&self) -> &[RefusedCommand] {
-        match &self.refused {
-            Some(refused) => refused.as_slice(),
-            None => &[],
-        }
+        self.refused
+            .as_ref()
+            .map_or(&[], |refused| refused.as_slice())
     }
 
     /// Takes a part of a line, or its end.
@@ -153,8 +145,8 @@ impl<W: Write> Write for LineRows<'_, W> {
     }
 }
 
-/// What a line says: as the row of `LINES` that it is spelt as, or else as the row `text`.
-fn read_line(alloc: Global, line: &[u8]) -> Result<Found<'_>, AllocError> {
+/// What the row of a line is, and its cells: as the row of `LINES` that it is spelt as, or else as the row `text`.
+fn read_line(alloc: Global, line: &[u8]) -> Result<(&'static str, Vec<Cell<'_>>), AllocError> {
     if let Ok(text) = str::from_utf8(line) {
         for row in LINES {
             let (name, spelling) = row.split_once(": ").unwrap_or(("", ""));
@@ -192,24 +184,17 @@ fn read_cells<'l>(
     Ok(if rest.is_empty() { Some(cells) } else { None })
 }
 
-/// The cell of a word, if it is spelt so. A word that says nothing is a cell that JSON doesn't print.
+/// The cell of a word, if it is spelt so. A word that says nothing is a cell that JSON doesn't print. Brackets around all that follows are left out.
 fn read_cell<'l>(token: &'static str, word: &'l str) -> Option<Cell<'l>> {
     if let Some(key) = token.strip_prefix('[') {
-        return if key == word {
-            Some(data(key, Value::Begin))
-        } else {
-            None
-        };
+        return (key == word).then_some(data(key, Value::Begin));
     }
     let Some(key) = token.strip_prefix('{') else {
-        return if token == word {
-            Some(said("", Value::Absent))
-        } else {
-            None
-        };
+        return (token == word).then_some(said("", Value::Absent));
     };
     if let Some(key) = key.strip_suffix("..}") {
-        return Some(data(key, unbracketed(word)));
+        let inner = word.strip_prefix('(').unwrap_or("");
+        return Some(data(key, inner.strip_suffix(')').unwrap_or(word)));
     }
     let key = key.strip_suffix('}').unwrap_or(key);
     let (key, wanted) = key.split_once('=').unwrap_or((key, word));
@@ -220,14 +205,6 @@ fn read_cell<'l>(token: &'static str, word: &'l str) -> Option<Cell<'l>> {
         Ok(number) => data(key, number),
         Err(_) => data(key, word),
     })
-}
-
-/// A text without the brackets around it, if there are any.
-fn unbracketed(text: &str) -> &str {
-    match text.strip_prefix('(') {
-        Some(inner) => inner.strip_suffix(')').unwrap_or(text),
-        None => text,
-    }
 }
 
 /// The command that these cells refuse, if they are those of its answer.

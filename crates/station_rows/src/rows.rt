@@ -55,10 +55,6 @@ impl Rows {
     }
 
     /// Adds a row. A row of which text has no cell has no line there.
-    ///
-    /// # Errors
-    ///
-    /// Memory was refused.
     pub fn put(&mut self, name: &'static str, cells: &[Cell<'_>]) -> Result<(), AllocError> {
         let row = Row { name, cells };
         let line = match self.form {
@@ -74,10 +70,6 @@ impl Rows {
     }
 
     /// Adds a line that text alone has.
-    ///
-    /// # Errors
-    ///
-    /// Memory was refused.
     pub fn say(&mut self, cells: &[Cell<'_>]) -> Result<(), AllocError> {
         match self.form {
             Form::Text => self.put("", cells),
@@ -133,23 +125,15 @@ impl fmt::Display for Row<'_> {
                 (None, _) | (_, Value::Absent | Value::End | Value::Truth(false)) => {}
                 (Some(name), value) => {
                     f.write_str(gap)?;
-                    print_cell(f, name, value)?;
+                    match value {
+                        Value::Truth(_) | Value::Begin => f.write_str(name)?,
+                        _ if name.is_empty() => write!(f, "{value}")?,
+                        _ => write!(f, "{name} {value}")?,
+                    }
                     gap = " ";
                 }
             }
         }
         Ok(())
-    }
-}
-
-fn print_cell<W: fmt::Write>(
-    f: &mut fmt::Formatter<W>,
-    name: &str,
-    value: Value<'_>,
-) -> fmt::Result {
-    match value {
-        Value::Truth(_) | Value::Begin => f.write_str(name),
-        _ if name.is_empty() => write!(f, "{value}"),
-        _ => write!(f, "{name} {value}"),
     }
 }

@@ -48,10 +48,6 @@ pub enum Value<'a> {
 struct Escaped<'a>(&'a [u8]);
 
 /// The value as text.
-///
-/// # Errors
-///
-/// Memory was refused.
 pub fn printed(alloc: Global, value: Value<'_>) -> Result<String, AllocError> {
     format!(in alloc; "{value}")
 }
@@ -79,7 +75,16 @@ impl<'a> Value<'a> {
             Value::Truth(truth) => out.bool(truth),
             Value::Text(text) => out.str(text),
             Value::Words(words) => words.serialize(out),
-            Value::Check(check) => put_check(check, out),
+            Value::Check(check) => {
+                out.begin_map(None)?;
+                out.key("ok")?;
+                out.bool(check == CheckByte::Right)?;
+                if let CheckByte::Wrong { found, expected } = check {
+                    put_number("found", u64::from(found), out)?;
+                    put_number("expected", u64::from(expected), out)?;
+                }
+                out.end_map()
+            }
             Value::Kind { word, byte } => {
                 out.str(word.unwrap_or("other"))?;
                 put_number("byte", u64::from(byte), out)
@@ -89,7 +94,15 @@ impl<'a> Value<'a> {
                 put_number("subindex", u64::from(subindex), out)
             }
             Value::String(string) => out.collect_str(&Escaped(string)),
-            Value::Name(number, string) => put_name(number, string, out),
+            Value::Name(number, string) => {
+                out.begin_map(None)?;
+                put_number("string", u64::from(number), out)?;
+                if let Some(string) = string {
+                    out.key("text")?;
+                    out.collect_str(&Escaped(string))?;
+                }
+                out.end_map()
+            }
             Value::Begin => out.begin_map(None),
             Value::End => out.end_map(),
             Value::Absent | Value::Break => Ok(()),
@@ -100,31 +113,6 @@ impl<'a> Value<'a> {
 fn put_number<S: Serializer>(key: &str, number: u64, out: &mut S) -> Result<(), S::Error> {
     out.key(key)?;
     out.u64(number)
-}
-
-/// Puts whether a check byte is right, and if not, which one there is and which is expected.
-fn put_check<S: Serializer>(check: CheckByte, out: &mut S) -> Result<(), S::Error> {
-    out.begin_map(None)?;
-    out.key("ok")?;
-    match check {
-        CheckByte::Right => out.bool(true)?,
-        CheckByte::Wrong { found, expected } => {
-            out.bool(false)?;
-            put_number("found", u64::from(found), out)?;
-            put_number("expected", u64::from(expected), out)?;
-        }
-    }
-    out.end_map()
-}
-
-fn put_name<S: Serializer>(number: u8, string: Option<&[u8]>, out: &mut S) -> Result<(), S::Error> {
-    out.begin_map(None)?;
-    put_number("string", u64::from(number), out)?;
-    if let Some(string) = string {
-        out.key("text")?;
-        out.collect_str(&Escaped(string))?;
-    }
-    out.end_map()
 }
 
 impl fmt::Display for Value<'_> {

@@ -7,7 +7,7 @@ ghost use Rattle.station_serve.specs.Images.{RenamesFile};
 use crate::arguments::JSON;
 use crate::request::Task;
 use crate::wire::ANY_DEVICE;
-use command_line::{Argument, ParsedArguments, Subcommand, argument, small_in, subcommand};
+use command_line::{Argument, ParsedArguments, Subcommand, argument, subcommand};
 use line_changes::Compared;
 use station_files::{
     ExitStatus, Failure, Fault, STANDARD_INPUT, Store, keep_output_separate, read_image, set_alias,
@@ -42,7 +42,7 @@ const FIRST: Argument = argument!("A": Word => "The file of the first image; - f
 const SECOND: Argument =
     argument!("B": Word => "The file of the second image; - for standard input");
 
-const SHOW: Subcommand = subcommand!("show": "Prints what an EEPROM image says",
+pub(crate) const SHOW: Subcommand = subcommand!("show": "Prints what an EEPROM image says",
     long: "Reads the image of a slave's EEPROM from FILE, or from standard input, and prints its alias, whether its check byte is right, \
         its identity and its categories. An image has 64 to 4096 words, low byte first.",
     after: "Example:\n  sii_station show slave.bin\n  sii_station show < slave.bin",
@@ -95,11 +95,7 @@ Example:
   sii_station show < slave.bin",
     [FILE, ALL, JSON, HEX]);
 
-pub(crate) fn show_row() -> Subcommand {
-    SHOW
-}
-
-const ALIAS: Subcommand =
+pub(crate) const ALIAS: Subcommand =
     subcommand!("alias": "Sets the configured station alias of an EEPROM image, and the check byte that goes with it",
     long: "Reads the image of a slave's EEPROM from FILE, or from standard input, sets the configured station alias and the check byte \
         that goes with it, and writes the image to standard output, or with -i in FILE's place. An image has 64 to 4096 words, low byte first. \
@@ -107,21 +103,13 @@ const ALIAS: Subcommand =
     after: "Examples:\n  sii_station alias 1001 -i slave.bin\n  sii_station alias 0x3e9 slave.bin > renamed.bin",
     [VALUE, FILE, IN_PLACE, HEX_BOTH]);
 
-pub(crate) fn alias_row() -> Subcommand {
-    ALIAS
-}
-
-const WRITE: Subcommand =
+pub(crate) const WRITE: Subcommand =
     subcommand!("write": "Writes an image file over the first words of another one",
     long: "Writes the image in FILE over the first words of a slave's EEPROM, which are in the file IMAGE, as sii_wire write does to a slave: \
         what comes out is judged as an image command of a script is. IMAGE is replaced as a whole, and nothing is printed. An image of \
         another vendor or product, or with fewer words, is refused (fault 114).",
     after: "Example:\n  sii_station write drive.bin new.bin",
     [IMAGE, GIVEN, ANY_DEVICE]);
-
-pub(crate) fn write_row() -> Subcommand {
-    WRITE
-}
 
 /// What `verify` prints.
 pub(crate) const VERIFY_ANSWERS: &str = "Answers:
@@ -130,18 +118,14 @@ pub(crate) const VERIFY_ANSWERS: &str = "Answers:
   words N wrong M  of the N words of FILE M differ, or aren't in the EEPROM
 The exit status is 0 where none is wrong, and 1 where some are.";
 
-const VERIFY: Subcommand =
+pub(crate) const VERIFY: Subcommand =
     subcommand!("verify": "Looks whether an image has the words of an image file",
     long: "Prints which words of the image in the file IMAGE differ from those of the image in FILE.",
     after: "Example:\n  sii_station verify drive.bin backup/drive.bin",
     answers: VERIFY_ANSWERS,
     [IMAGE, GIVEN]);
 
-pub(crate) fn verify_row() -> Subcommand {
-    VERIFY
-}
-
-const DIFF: Subcommand = subcommand!("diff": "Prints what two EEPROM images differ in",
+pub(crate) const DIFF: Subcommand = subcommand!("diff": "Prints what two EEPROM images differ in",
     long: "Reads two images of slaves' EEPROMs and prints what they differ in, a line for each: their lengths, alias, check byte, \
         identity, what their categories say, and the words. One of the two may be standard input. An image has 64 to 4096 words, low byte first.",
     after: "Example:\n  sii_station diff drive.bin backup/drive.bin",
@@ -172,27 +156,8 @@ Example:
   sii_station diff drive.bin - < backup/drive.bin",
     [FIRST, SECOND, JSON, HEX]);
 
-pub(crate) fn diff_row() -> Subcommand {
-    DIFF
-}
-
-/// The task of `alias`. Only a file has a place in which the new image can be put.
-pub(crate) fn alias_task<'a>(given: &ParsedArguments<'a>) -> Result<Task<'a>, &'static str> {
-    let value = small_in(given.word("VALUE")).ok_or("VALUE is a number, 0 to 65535")?;
-    let hex = given.has("hex");
-    match (file_of(given, "FILE"), given.has("inplace")) {
-        (Some(name), true) => Ok(Task::AliasInPlace { value, hex, name }),
-        (None, true) => Err("--inplace wants FILE"),
-        (file, false) => Ok(Task::Alias { value, hex, file }),
-    }
-}
-
 /// Sets the configured station alias of the image in the file of this name, as `set_alias` does, and replaces the file by one with the new image,
 /// as a whole.
-///
-/// # Errors
-///
-/// As for `set_alias`; then `File` or `Memory`, as the store answers.
 #[tactic(auto, using(crate::proofs::InPlace::renames_file))]
 pub(crate) fn alias_in_place<R: Read, S: Store>(
     alloc: Global,
@@ -215,10 +180,6 @@ pub(crate) fn alias_in_place<R: Read, S: Store>(
 
 /// Prints the words in which an image, of the file of this name or of the input, differs from the one that is wanted, and how many words are wrong,
 /// with those that it doesn't have. Returns the exit status: `Refused` where some are.
-///
-/// # Errors
-///
-/// As for `read_image` of the one and then of the other; `File` or `Memory`, as the output answers.
 pub(crate) fn verify_image<R: Read, S: Store, O: Write>(
     alloc: Global,
     found: Option<&str>,
@@ -234,8 +195,7 @@ pub(crate) fn verify_image<R: Read, S: Store, O: Write>(
     let count = wanted.as_slice().len();
     let mut wrong = count.saturating_sub(found.as_slice().len());
     for (at, (held, wanted)) in found.as_slice().iter().zip(wanted.as_slice()).enumerate() {
-        let (held, wanted) = (*held, *wanted);
-        if held != wanted {
+        if *held != *wanted {
             writeln!(
                 output,
                 "word 0x{at:04x} found 0x{held:04x} expected 0x{wanted:04x}"
@@ -285,8 +245,5 @@ pub(crate) fn two_files<'a>(
 
 /// The name of a file; `None` where it is left out, or `-`, and standard input is meant.
 pub(crate) fn file_of<'a>(given: &ParsedArguments<'a>, argument: &str) -> Option<&'a str> {
-    match given.text(argument) {
-        Some("-") => None,
-        found => found,
-    }
+    given.text(argument).filter(|name| *name != "-")
 }

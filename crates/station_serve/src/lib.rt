@@ -3,7 +3,6 @@
 
 mod arguments;
 mod images;
-mod line_listings;
 mod line_work;
 mod pages;
 mod refusals;

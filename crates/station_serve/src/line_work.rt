@@ -1,4 +1,4 @@
-//! The subcommands that work on a line: `init`, `run` and `recover`.
+//! The subcommands that work on a line, `init`, `run` and `recover`, and those that tell of it: `plan`, `journal` and `layout`.
 
 use crate::arguments::{JSON, LINE, QUIET, REPORT, SCRIPT, script_of};
 use crate::serving::Host;
@@ -31,7 +31,7 @@ const FUSE: Argument =
 const LEFT: Argument =
     argument!("left": Small("W") => "What a torn write leaves, 0 to 65535; 0 where nothing is said");
 
-const INIT: Subcommand = subcommand!("init": "Formats the journal of a line of slaves",
+pub(crate) const INIT: Subcommand = subcommand!("init": "Formats the journal of a line of slaves",
     long: "Reads a line file and the EEPROM images that it names, and makes an empty journal in the file that it names for it. That file \
         must not be there yet.",
     after: "Example:\n  sii_station init line.toml",
@@ -47,11 +47,8 @@ Example:
   sii_station init line.toml",
     [LINE, JSON]);
 
-pub(crate) fn init_row() -> Subcommand {
-    INIT
-}
-
-const RUN: Subcommand = subcommand!("run": "Runs a script of commands on a line of slaves",
+pub(crate) const RUN: Subcommand =
+    subcommand!("run": "Runs a script of commands on a line of slaves",
     long: "Reads a line file, the EEPROM images and the journal that it names and a script file, submits the script's commands in order \
         and prints the answer to each, brings them to the slaves by way of the journal, and saves images and journal.",
     after: "Examples:\n  sii_station run line.toml script.toml\n  sii_station run line.toml -e 'alias = { slave = 2, value = 7 }'",
@@ -78,11 +75,8 @@ Example:
   sii_station run line.toml script.toml",
     [LINE, SCRIPT, COMMANDS, FUSE, LEFT, REPORT, JSON, QUIET]);
 
-pub(crate) fn run_row() -> Subcommand {
-    RUN
-}
-
-const RECOVER: Subcommand = subcommand!("recover": "Ends what a run has left in the journal",
+pub(crate) const RECOVER: Subcommand =
+    subcommand!("recover": "Ends what a run has left in the journal",
     long: "Reads a line file, the EEPROM images and the journal that it names, brings to the slaves what the journal holds, and saves \
         images and journal. A journal of version 1 becomes one of version 2.",
     after: "Example:\n  sii_station recover line.toml",
@@ -102,16 +96,108 @@ Example:
   sii_station recover line.toml",
     [LINE, REPORT, JSON, QUIET]);
 
-pub(crate) fn recover_row() -> Subcommand {
-    RECOVER
-}
+pub(crate) const PLAN: Subcommand =
+    subcommand!("plan": "Says what a script would do to a line, and does nothing",
+    long: "Reads what run would read, and prints how run would answer each command, which words of which slaves would change, how much \
+        would be written, and the process image before and after if it would change. No file is written.",
+    after: "Examples:\n  sii_station plan line.toml script.toml\n  sii_station plan line.toml - < script.toml",
+    answers: "Answers:
+  command I accepted N           as run would answer, see run --help
+  command I refused CODE NAME
+  accepted A durable D settled S
+  slave P word 0xW old 0xO new 0xN
+                   word W of slave P would get the value N in place of O
+  slave P words 0xV to 0xW old .. new ..
+                   the same of neighbouring words
+  slave P words 0xV to 0xW count C
+                   the same of more than 8 words
+  command accepted as N makes word 0x003e of slave P say W words, and its EEPROM has H
+                   the command changes the word by which masters and tools tell the
+                   size of an EEPROM, and it is wrong then
+  writes words W bytes B syncs S
+                   how many words would be written to the slaves, and how many
+                   bytes to the journal with how many syncs, by one thread. The
+                   threads of run may write more.
+  process image before
+  process image after
+                   if it changes, each with the lines that layout prints
+Faults go to standard error as: fault CODE NAME. The subcommand explain says what
+a code means.
 
-/// The task of `run`.
-pub(crate) fn run_task<'a>(given: &ParsedArguments<'a>) -> Result<LineTask<'a>, &'static str> {
+No file is written. The journal is locked while the files are read and planned:
+of a line on which another station is busy it says fault 95 Busy.
+
+Exit status, as of run: 0 done, 1 a command was refused, 2 wrong usage, 3 a file
+or its form, 5 no memory. The highest that applies wins.
+
+Examples:
+  sii_station plan line.toml script.toml
+  sii_station plan line.toml - < script.toml
+  sii_station plan line.toml script.toml --json",
+    [LINE, SCRIPT, COMMANDS, JSON]);
+
+pub(crate) const JOURNAL: Subcommand =
+    subcommand!("journal": "Says what a journal holds, and what a recovery would do",
+    long: "Reads a line file, the EEPROM images and the journal that it names, and prints the journal's header, the batches that aren't \
+        done with their commands, and which words of which slaves a recovery would change. Of a damaged journal it prints what its \
+        header says, and where it is damaged. No file is written.",
+    after: "Example:\n  sii_station journal line.toml",
+    answers: "Answers:
+  journal version V slaves N area A
+                   what the header says; the area has A bytes
+  half H batches B live L free F
+                   half H of the area has B batches that aren't done; they take L
+                   bytes of it. In version 1 there is one area and no half.
+  batch I half H generation G at P bytes B commands C
+                   batch I, in the order of a recovery; it begins at byte P of the
+                   file
+  command N slave P word 0xW new 0xX
+                   a command of the batch, and a word that it changes; several
+                   words and long runs as plan prints them
+  recovery batches B commands C words W
+                   what recover would find and write, then the words that change
+                   as plan prints them
+Of a journal that recover refuses only what the header says is printed. The fault
+goes to standard error, as: fault CODE NAME; of a damaged one, with the byte of the
+file that can't be read. The subcommand explain says what a code means.
+
+No file is written.
+
+Exit status: 0 done, 2 wrong usage, 3 a file or its form, or recover refuses the
+journal, 5 no memory.
+
+Example:
+  sii_station journal line.toml",
+    [LINE, JSON]);
+
+pub(crate) const LAYOUT: Subcommand =
+    subcommand!("layout": "Prints the process image of a line of slaves",
+    long: "Reads a line file and the EEPROM images that it names, and prints where the process data of each sync manager lies in the \
+        process image, then the sizes of outputs and inputs in bytes and the working counter that is expected. No file is written.",
+    after: "Example:\n  sii_station layout line.toml",
+    answers: "Answers:
+  slave P sm M out offset O size S bits B
+                   the outputs of sync manager M of slave P: where they begin
+                   in the process image, and their length in bytes and in bits
+  slave P sm M in ..
+                   the same of inputs
+  outputs A inputs B counter C
+                   all outputs and inputs in bytes, and the working counter of
+                   a cycle that every slave takes part in
+
+Exit status: 0 done, 2 wrong usage, 3 a file or its form, or no process image,
+5 no memory.
+
+Example:
+  sii_station layout line.toml",
+    [LINE, JSON]);
+
+/// The task of `run` or of `recover`, which has no script and no fuse.
+pub(crate) fn line_task<'a>(given: &ParsedArguments<'a>) -> Result<LineTask<'a>, &'static str> {
     let fuse = given.cut("fuse")?;
     Ok(LineTask {
         line: given.word("LINE"),
-        script: Some(script_of(given)),
+        script: (given.subcommand == "run").then_some(script_of(given)),
         fuse: fuse.map(|(writes, left)| Fuse { writes, left }),
         reports: given.has("report"),
     })

@@ -1,6 +1,6 @@
 //! The subcommands that print of the program itself: `explain`, `completions` and `man`.
 
-use command_line::{Argument, ParsedArguments, Shell, Subcommand, argument, subcommand};
+use command_line::{Argument, ParsedArguments, Subcommand, argument, subcommand};
 use station_files::{Fault, write_complete};
 use station_listing::{CODES, Code, find_code};
 use std::alloc::{AllocError, Global};
@@ -19,58 +19,31 @@ const WHICH_SHELL: Argument = argument!("SHELL": WordOf(SHELLS) => "The shell: b
 const EXPLAINED: Argument =
     argument!("CODE": OptionalWord => "The number or the name of a fault or a refusal");
 
-const EXPLAIN: Subcommand =
+pub(crate) const EXPLAIN: Subcommand =
     subcommand!("explain": "Says what the code of a fault or a refusal means",
     long: "Prints what the code of a fault or a refusal means, why it comes and what to do about it. Without CODE it prints \
         that of all codes.",
     after: "Example:\n  sii_station explain 15\n  sii_station explain BadCheck",
     [EXPLAINED]);
 
-pub(crate) fn explain_row() -> Subcommand {
-    EXPLAIN
-}
-
-const COMPLETIONS: Subcommand =
+pub(crate) const COMPLETE: Subcommand =
     subcommand!("completions": "Prints a script that makes a shell complete arguments",
     long: "Prints a script for bash, zsh or fish. With it the shell completes subcommands, options and file names.",
     after: "Example:\n  source <(sii_station completions bash)",
     [WHICH_SHELL]);
 
-pub(crate) fn completions_row() -> Subcommand {
-    COMPLETIONS
-}
-
-const MAN: Subcommand = subcommand!("man": "Prints the manual page",
+pub(crate) const MAN: Subcommand = subcommand!("man": "Prints the manual page",
     long: "Prints the manual page in roff: the help of each subcommand.",
     after: "Example:\n  sii_station man > sii_station.1\n  man -l sii_station.1",
     []);
 
-pub(crate) fn man_row() -> Subcommand {
-    MAN
-}
-
-/// The shell that `completions` is given: one of the three.
-pub(crate) fn shell_of(given: &ParsedArguments<'_>) -> Shell {
-    match given.word("SHELL") {
-        "zsh" => Shell::Zsh,
-        "fish" => Shell::Fish,
-        _ => Shell::Bash,
-    }
-}
-
-/// The code that `explain` is asked for by its number or its name, if one is.
-///
-/// # Errors
-///
-/// Why it is refused: no code has this number or name.
+/// The code that `explain` is asked for by its number or its name, if one is; or why it is refused.
 pub(crate) fn code_asked(given: &ParsedArguments<'_>) -> Result<Option<Code>, &'static str> {
-    let Some(text) = given.text("CODE") else {
-        return Ok(None);
-    };
-    match find_code(text) {
-        None => Err("CODE is the number or the name of a fault or a refusal"),
-        found => Ok(found),
-    }
+    let wrong = "CODE is the number or the name of a fault or a refusal";
+    given
+        .text("CODE")
+        .map(|text| find_code(text).ok_or(wrong))
+        .transpose()
 }
 
 /// What this code means, why it comes and what to do about it; or this of all codes, with empty lines between.
@@ -79,9 +52,8 @@ pub(crate) fn explanation(alloc: Global, asked: Option<Code>) -> Result<String, 
     for code in &CODES {
         if asked.is_none_or(|one| one == *code) {
             let gap = if text.is_empty() { "" } else { "\n" };
-            let explained = code.entry().explanation;
-            let name = code.entry().name;
-            let number = code.number();
+            let (number, entry) = (code.number(), code.entry());
+            let (name, explained) = (entry.name, entry.explanation);
             let paragraph = format!(in alloc; "{gap}{number} {name}: {explained}\n")?;
             text.push_str(paragraph.as_str())?;
         }
@@ -89,15 +61,10 @@ pub(crate) fn explanation(alloc: Global, asked: Option<Code>) -> Result<String, 
     Ok(text)
 }
 
-/// Prints a text that was made in memory.
-///
-/// # Errors
-///
-/// `Memory` before anything is printed, where that was refused; then `File` or `Memory`, as the output answers.
+/// Prints a text that was made in memory: nothing of it where memory was refused.
 pub(crate) fn print_page<W: Write>(
     page: Result<String, AllocError>,
     output: &mut W,
 ) -> Result<(), Fault> {
-    let text = page?;
-    write_complete(text.as_bytes(), output)
+    write_complete(page?.as_bytes(), output)
 }

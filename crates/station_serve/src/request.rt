@@ -1,21 +1,18 @@
 //! What a command line asks for.
 
 use crate::arguments::{VERBOSE, compared_in, form_of, lines_form, script_of, shown_in};
-use crate::images::{
-    alias_row, alias_task, diff_row, file_of, show_row, two_files, verify_row, write_row,
-};
-use crate::line_listings::{journal_row, layout_row, plan_row};
-use crate::line_work::{LineTask, init_row, recover_row, run_row, run_task};
-use crate::pages::{MANUAL_HEAD, code_asked, completions_row, explain_row, man_row, shell_of};
+use crate::images::{ALIAS, DIFF, SHOW, VERIFY, WRITE, file_of, two_files};
+use crate::line_work::{INIT, JOURNAL, LAYOUT, LineTask, PLAN, RECOVER, RUN, line_task};
+use crate::pages::{COMPLETE, EXPLAIN, MAN, code_asked};
 use command_line::{
-    Argument, ParsedArguments, Program, Shell, Subcommand, Unread, completion_script, manual_page,
-    read_typed, read_words, refuse,
+    Argument, ParsedArguments, Program, Shell, Subcommand, Unread, read_typed, read_words, refuse,
+    small_in,
 };
 use line_changes::Compared;
 use station_listing::Code;
 use station_rows::{Form, ShowOptions};
 use station_session::RunNames;
-use std::alloc::{AllocError, Global};
+use std::alloc::Global;
 
 /// What a command line asks for: a subcommand with its arguments. The name of an image's file is `None` for standard input, and a line is named by its
 /// line file.
@@ -67,44 +64,25 @@ impl<'a> Task<'a> {
     }
 }
 
-/// A task, and how it is told.
-#[derive(Clone, Copy)]
-pub(crate) struct Call<'a> {
-    pub task: Task<'a>,
-    /// How its lines are printed: as text, or as rows of JSON.
-    pub form: Form,
-    /// Whether a fault or a refusal has a second line.
-    pub is_reported: bool,
-}
-
 /// A command line that was read.
 #[derive(Drop)]
 pub(crate) struct Request<'a> {
-    pub call: Call<'a>,
+    pub task: Task<'a>,
+    /// How lines are printed: as text, or as rows of JSON.
+    pub form: Form,
+    /// Whether a fault or a refusal has a second line.
+    pub is_reported: bool,
     /// The text of the script `TYPED`, where commands are typed in place of a script file.
     pub typed: Option<Vec<u8>>,
     /// Whether no line is to be drawn with the progress.
     pub is_quiet: bool,
 }
 
-/// The subcommands, in the order of the help. A table that a function names becomes part of what is proved of it, so each row stands in a
-/// function of its own.
-fn rows() -> [Subcommand; 14] {
+/// The subcommands, in the order of the help.
+pub(crate) fn rows() -> [Subcommand; 14] {
     [
-        show_row(),
-        diff_row(),
-        alias_row(),
-        write_row(),
-        verify_row(),
-        init_row(),
-        plan_row(),
-        run_row(),
-        journal_row(),
-        recover_row(),
-        layout_row(),
-        explain_row(),
-        completions_row(),
-        man_row(),
+        SHOW, DIFF, ALIAS, WRITE, VERIFY, INIT, PLAN, RUN, JOURNAL, RECOVER, LAYOUT, EXPLAIN,
+        COMPLETE, MAN,
     ]
 }
 
@@ -112,7 +90,7 @@ fn rows() -> [Subcommand; 14] {
 const OPTIONS: &[Argument] = &[VERBOSE];
 
 /// The program with these subcommands.
-fn station(subcommands: &[Subcommand]) -> Program<'_> {
+pub(crate) fn station(subcommands: &[Subcommand]) -> Program<'_> {
     Program {
         name: "sii_station",
         about: "Reprograms the SII EEPROMs of a line of EtherCAT slaves",
@@ -123,21 +101,8 @@ fn station(subcommands: &[Subcommand]) -> Program<'_> {
     }
 }
 
-/// A script that makes a shell complete subcommands, options and file names.
-pub(crate) fn completions_for(alloc: Global, shell: Shell) -> Result<String, AllocError> {
-    completion_script(alloc, station(&rows()), shell)
-}
-
-/// The manual page.
-pub(crate) fn manual_of(alloc: Global) -> Result<String, AllocError> {
-    manual_page(alloc, station(&rows()), MANUAL_HEAD)
-}
-
-/// Reads a command line. The first word is the program's name.
-///
-/// # Errors
-///
-/// What is wrong with the words; or the text of the help or the version, where that is asked for; or memory was refused.
+/// Reads a command line. The first word is the program's name. Where that isn't done, what is wrong with the words; or the text of the help or
+/// the version, where that is asked for; or memory was refused.
 pub(crate) fn read_arguments<'a>(
     alloc: Global,
     words: &'a [String],
@@ -147,11 +112,9 @@ pub(crate) fn read_arguments<'a>(
     let given = read_words(alloc, program, words)?;
     match task_of(&given) {
         Ok(task) => Ok(Request {
-            call: Call {
-                task,
-                form: lines_form(&given),
-                is_reported: given.has("verbose"),
-            },
+            task,
+            form: lines_form(&given),
+            is_reported: given.has("verbose"),
             typed: read_typed(alloc, program, &given)?,
             is_quiet: given.has("quiet"),
         }),
@@ -165,7 +128,16 @@ fn task_of<'a>(given: &ParsedArguments<'a>) -> Result<Task<'a>, &'static str> {
     let form = form_of(given);
     let task = match given.subcommand {
         "show" => Task::Show(shown_in(given, file_of(given, "FILE"))),
-        "alias" => alias_task(given)?,
+        "alias" => {
+            let value = small_in(given.word("VALUE")).ok_or("VALUE is a number, 0 to 65535")?;
+            let hex = given.has("hex");
+            match (file_of(given, "FILE"), given.has("inplace")) {
+                (Some(name), true) => Task::AliasInPlace { value, hex, name },
+                // Only a file has a place in which the new image can be put.
+                (None, true) => return Err("--inplace wants FILE"),
+                (file, false) => Task::Alias { value, hex, file },
+            }
+        }
         "write" => Task::Write {
             name: given.word("IMAGE"),
             file: file_of(given, "FILE"),
@@ -181,14 +153,8 @@ fn task_of<'a>(given: &ParsedArguments<'a>) -> Result<Task<'a>, &'static str> {
             let (old, new) = two_files(given, "A", "B", refusal)?;
             Task::Diff(compared_in(given, old, new))
         }
-        "run" => Task::Work(run_task(given)?),
+        "run" | "recover" => Task::Work(line_task(given)?),
         "init" => Task::Init(line),
-        "recover" => Task::Work(LineTask {
-            line,
-            script: None,
-            fuse: None,
-            reports: given.has("report"),
-        }),
         "plan" => {
             let script = script_of(given);
             Task::Plan(RunNames { line, script }, form)
@@ -196,7 +162,11 @@ fn task_of<'a>(given: &ParsedArguments<'a>) -> Result<Task<'a>, &'static str> {
         "journal" => Task::Journal(line, form),
         "layout" => Task::Layout(line, form),
         "explain" => Task::Explain(code_asked(given)?),
-        "completions" => Task::Completions(shell_of(given)),
+        "completions" => Task::Completions(match given.word("SHELL") {
+            "zsh" => Shell::Zsh,
+            "fish" => Shell::Fish,
+            _ => Shell::Bash,
+        }),
         "man" => Task::Man,
         _ => return Err("a subcommand is needed"),
     };

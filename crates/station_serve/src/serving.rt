@@ -2,11 +2,10 @@
 
 use crate::images::{alias_in_place, keep_images_separate, verify_image};
 use crate::line_work::work_on_line;
-use crate::pages::{explanation, print_page};
+use crate::pages::{MANUAL_HEAD, explanation, print_page};
 use crate::refusals::{status_of_plan, tell_refused};
-use crate::request::{Call, Request, Task, completions_for, manual_of, read_arguments};
-use crate::wire::all_done;
-use command_line::{INPUT, InputScript, Script, Unread};
+use crate::request::{Request, Task, read_arguments, rows, station};
+use command_line::{INPUT, InputScript, Script, Unread, completion_script, manual_page};
 use line_changes::{Compared, diff_images};
 use line_watch::{Progress, Watch};
 use station_files::{
@@ -17,6 +16,7 @@ use station_line::init_line;
 use station_plan::{plan_script, show_journal};
 use station_rows::{LineRows, RefusedCommand, ShowOptions, show_image, show_layout};
 use station_troubles::{INPUT_OR_OUTPUT, Noting, OUTPUT, tell_more};
+use std::alloc::Global;
 use std::io::{Read, Write};
 use std::rt::Clock;
 use std::sync::Wait;
@@ -65,21 +65,17 @@ fn serve_request<H: Host, R: Read, S: Store, W: Write, E: Write, T: Write + Send
     streams: Streams<'_, W, E>,
     terminal: Option<T>,
 ) -> ExitStatus {
-    let Request {
-        mut call,
-        typed,
-        is_quiet,
-    } = request;
-    call.is_reported = call.is_reported || terminal.is_some();
-    let begun = Progress::begin(rt, if is_quiet { None } else { terminal });
+    let mut request = request;
+    request.is_reported = request.is_reported || terminal.is_some();
+    let begun = Progress::begin(rt, if request.is_quiet { None } else { terminal });
     let watch = watch_of(rt, begun.as_ref());
-    let script = match (typed, call.task.run_files()) {
+    let script = match (request.typed.take(), request.task.run_files()) {
         (Some(text), _) => Some(Script::typed(text)),
         (None, Some(files)) if files.script == INPUT => Some(Script::read(rt.alloc(), input)),
         _ => None,
     };
     let mut joined = InputScript::new(store, script);
-    serve_and_tell(watch, call, input, &mut joined, streams)
+    serve_and_tell(watch, &request, input, &mut joined, streams)
 }
 
 /// The runtime, and the progress that counts what a task does.
@@ -91,49 +87,45 @@ pub(crate) fn watch_of<'a, T, H>(rt: &'a H, progress: Option<&'a Progress<T>>) -
 /// that was refused says what to do. Rows of JSON say too what has gone wrong.
 fn serve_and_tell<H: Host, R: Read, S: Store, W: Write, E: Write, T: Write + Send>(
     watch: Watch<'_, T, H>,
-    call: Call<'_>,
+    request: &Request<'_>,
     input: &mut R,
     store: &mut S,
     streams: Streams<'_, W, E>,
 ) -> ExitStatus {
-    let Call {
-        task,
-        form,
-        is_reported,
-    } = call;
+    let (task, is_reported) = (request.task, request.is_reported);
     let alloc = watch.rt.alloc();
     let Streams { output, faults } = streams;
-    let files = task.run_files();
     let remembers = is_reported && matches!(task, Task::Work(_));
-    let mut lines = LineRows::new(alloc, form, remembers, output);
+    let mut lines = LineRows::new(alloc, request.form, remembers, output);
     let mut noting = Noting::new(alloc, store, is_reported);
     let mut failures = Failures::none();
-    let (status, planned) = serve_task(watch, call, input, &mut noting, &mut lines, &mut failures);
+    let mut planned = Vec::new(alloc);
+    let status = match task {
+        Task::Work(asked) => {
+            let form = request.form;
+            work_on_line(watch, asked, form, &mut noting, &mut lines, &mut failures)
+        }
+        _ => match do_task(alloc, task, input, &mut noting, &mut lines, &mut planned) {
+            Ok(status) => status,
+            Err(failure) => failures.note_failure(failure),
+        },
+    };
     failures.print(faults);
     if lines.is_json() {
         failures.print(&mut lines);
         let _ = lines.flush();
     }
-    match failures.first() {
-        Some(failure) if is_reported => {
-            let reported = noting.reported(failure.code(), streams_of(task));
-            tell_more("sii_station", failure.code(), reported, faults);
-        }
-        _ => {}
+    if !is_reported {
+        return status;
     }
-    match files {
-        Some(files) if is_reported => {
-            tell_refused(
-                alloc,
-                "sii_station",
-                files,
-                lines.refused(),
-                &mut noting,
-                faults,
-            );
-            tell_refused(alloc, "sii_station", files, &planned, &mut noting, faults);
-        }
-        _ => {}
+    if let Some(failure) = failures.first() {
+        let reported = noting.reported(failure.code(), streams_of(task));
+        tell_more("sii_station", failure.code(), reported, faults);
+    }
+    if let Some(files) = task.run_files() {
+        let kept = lines.refused();
+        tell_refused(alloc, "sii_station", files, kept, &mut noting, faults);
+        tell_refused(alloc, "sii_station", files, &planned, &mut noting, faults);
     }
     status
 }
@@ -151,62 +143,48 @@ fn streams_of(task: Task<'_>) -> &'static str {
     }
 }
 
-/// Carries out a task. Gives the commands that a plan refuses, too.
-fn serve_task<H: Host, R: Read, S: Store, W: Write, T: Write + Send>(
-    watch: Watch<'_, T, H>,
-    call: Call<'_>,
+/// Carries out a task that isn't work on a line. The commands that a plan refuses are put to `refused`.
+fn do_task<R: Read, S: Store, W: Write>(
+    alloc: Global,
+    task: Task<'_>,
     input: &mut R,
     store: &mut S,
     output: &mut W,
-    failures: &mut Failures,
-) -> (ExitStatus, Vec<RefusedCommand>) {
-    let alloc = watch.rt.alloc();
-    let form = call.form;
-    let mut planned = Vec::new(alloc);
-    if let Err(fault) = keep_images_separate(alloc, call.task, store) {
-        return (failures.note(fault), planned);
-    }
-    let ended = match call.task {
-        Task::Work(asked) => {
-            let status = work_on_line(watch, asked, form, store, output, failures);
-            return (status, planned);
-        }
+    refused: &mut Vec<RefusedCommand>,
+) -> Result<ExitStatus, Failure> {
+    keep_images_separate(alloc, task, store)?;
+    match task {
+        Task::Work(_) => {}
         Task::Alias { value, hex, file } => {
-            all_done(set_alias(alloc, value, hex, file, input, store, output))
+            set_alias(alloc, value, hex, file, input, store, output)?
         }
         Task::AliasInPlace { value, hex, name } => {
-            all_done(alias_in_place(alloc, value, hex, name, input, store))
+            alias_in_place(alloc, value, hex, name, input, store)?
         }
         Task::Write {
             name,
             file,
             any_device,
-        } => all_done(write_slave(alloc, name, file, any_device, input, store)),
+        } => { write_slave(alloc, name, file, any_device, input, store)? }
         Task::Verify { found, wanted } => {
-            verify_image(alloc, found, wanted, input, store, output).map_err(Failure::from)
+            return Ok(verify_image(alloc, found, wanted, input, store, output)?);
         }
-        Task::Show(shown) => {
-            show_image(alloc, shown, input, store, output).map_err(Failure::from)
+        Task::Show(shown) => return Ok(show_image(alloc, shown, input, store, output)?),
+        Task::Diff(compared) => return Ok(diff_images(alloc, compared, input, store, output)?),
+        Task::Layout(line, form) => show_layout(alloc, line, form, store, output)?,
+        Task::Explain(code) => print_page(explanation(alloc, code), output)?,
+        Task::Completions(shell) => {
+            print_page(completion_script(alloc, station(&rows()), shell), output)?
         }
-        Task::Diff(compared) => {
-            diff_images(alloc, compared, input, store, output).map_err(Failure::from)
-        }
-        Task::Layout(line, form) => all_done(show_layout(alloc, line, form, store, output)),
-        Task::Explain(code) => all_done(print_page(explanation(alloc, code), output)),
-        Task::Completions(shell) => all_done(print_page(completions_for(alloc, shell), output)),
-        Task::Man => all_done(print_page(manual_of(alloc), output)),
-        Task::Init(line) => all_done(init_line(alloc, line, store, output)),
+        Task::Man => print_page(manual_page(alloc, station(&rows()), MANUAL_HEAD), output)?,
+        Task::Init(line) => init_line(alloc, line, store, output)?,
         Task::Plan(names, form) => {
-            let ended = plan_script(alloc, names.line, names.script, form, store, output);
-            status_of_plan(ended, &mut planned).map_err(Failure::from)
+            let planned = plan_script(alloc, names.line, names.script, form, store, output);
+            return Ok(status_of_plan(planned, refused)?);
         }
-        Task::Journal(line, form) => all_done(show_journal(alloc, line, form, store, output)),
-    };
-    let status = match ended {
-        Ok(status) => status,
-        Err(failure) => failures.note_failure(failure),
-    };
-    (status, planned)
+        Task::Journal(line, form) => show_journal(alloc, line, form, store, output)?,
+    }
+    Ok(ExitStatus::Done)
 }
 
 /// Prints the help or the version that was asked for, or what is wrong with the arguments.

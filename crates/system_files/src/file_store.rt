@@ -44,14 +44,6 @@ impl<'r, R> FileStore<'r, R> {
 }
 
 impl<R: Files<File = File>> FileStore<'_, R> {
-    /// Syncs the folder of a file, and of a link the folder that it leads to, so that a power cut keeps these names. Each folder is synced
-    /// once.
-    fn sync_names(&mut self, name: &str) -> io::Result<()> {
-        self.sync_once(name)?;
-        let place = place_of(self.files, self.alloc, name)?;
-        self.sync_once(place.path.as_str())
-    }
-
     /// The file of this name, if it is one that this store has put in its place. Its lock is this store's, so no other opening of the file gets it.
     fn written(&self, name: &str) -> io::Result<Option<File>> {
         for file in &self.replaced {
@@ -69,8 +61,7 @@ impl<R: Files<File = File>> FileStore<'_, R> {
             return Ok(());
         }
         sync_folder(self.files, name)?;
-        let folder = String::from_str(self.alloc, folder)?;
-        self.synced.push(folder)?;
+        self.synced.push(String::from_str(self.alloc, folder)?)?;
         Ok(())
     }
 }
@@ -83,7 +74,11 @@ impl<R: Files<File = File>> Store for FileStore<'_, R> {
 
     fn read(&mut self, alloc: Global, name: &str) -> io::Result<Option<Vec<u8>>> {
         match File::open(self.files, name) {
-            Ok(file) => read_entire(alloc, file).map(Some),
+            Ok(mut file) => {
+                // Memory for as many bytes as the system says that it has, and no more than a text has.
+                let length = file.metadata()?.len().min(MOST_OF_TEXT);
+                read_about(alloc, length as usize, &mut file).map(Some)
+            }
             Err(error) if error.kind() == io::ErrorKind::NotFound => Ok(None),
             Err(error) => Err(error),
         }
@@ -160,35 +155,28 @@ impl<R: Files<File = File>> Store for FileStore<'_, R> {
         if !matches!(self.look(name), Ok(Entry::File { .. })) {
             return Ok(None);
         }
-        let file = match self.written(name)? {
-            Some(file) => file,
-            None => match File::open(self.files, name) {
-                Ok(file) => file,
-                Err(_) => return Ok(None),
-            },
+        let written = self.written(name)?;
+        let Some(file) = written.or_else(|| File::open(self.files, name).ok()) else {
+            return Ok(None);
         };
         take_lock(&file)?;
         if !is_in_place(self.files, &file, name)? {
             return Err(LockFault::Busy);
         }
-        self.sync_names(name)?;
+        // Of a link also the folder that it leads to, so that a power cut keeps these names.
+        self.sync_once(name)?;
+        let place = place_of(self.files, self.alloc, name)?;
+        self.sync_once(place.path.as_str())?;
         Ok(Some(file))
     }
 }
 
 /// Locks a file without waiting, until it is closed.
 fn take_lock(file: &File) -> Result<(), LockFault> {
-    match file.try_lock() {
-        Ok(()) => Ok(()),
-        Err(TryLockError::WouldBlock) => Err(LockFault::Busy),
-        Err(TryLockError::Error(error)) => Err(LockFault::Io(error)),
-    }
-}
-
-/// Reads a file to its end. Takes memory for as many bytes as the system says that it has, and no more than a text has.
-fn read_entire(alloc: Global, mut file: File) -> io::Result<Vec<u8>> {
-    let length = file.metadata()?.len();
-    read_about(alloc, length.min(MOST_OF_TEXT) as usize, &mut file)
+    file.try_lock().map_err(|error| match error {
+        TryLockError::WouldBlock => LockFault::Busy,
+        TryLockError::Error(error) => LockFault::Io(error),
+    })
 }
 
 /// Whether `name` still names the open file: another station may have replaced it in the meantime.

@@ -5,8 +5,6 @@
 mod file_store;
 mod replacing;
 mod streams;
-mod text;
 
 pub use file_store::{FileStore, SystemFile};
-pub use streams::hold_streams;
-pub use text::Text;
+pub use streams::{Text, hold_streams};

@@ -35,13 +35,8 @@ pub(crate) struct Place {
 
 /// Opens the file `name` for reading if it has exactly these bytes. Takes no memory.
 pub(crate) fn holds<R: Files<File = File>>(files: &R, name: &str, bytes: &[u8]) -> Option<File> {
-    let Ok(mut file) = File::open(files, name) else {
-        return None;
-    };
-    match is_rest(&mut file, bytes) {
-        Ok(true) => Some(file),
-        _ => None,
-    }
+    let mut file = File::open(files, name).ok()?;
+    is_rest(&mut file, bytes).ok()?.then_some(file)
 }
 
 /// Whether what is left to read is exactly these bytes.
@@ -69,11 +64,8 @@ pub(crate) fn place_of<R: Files<File = File>>(
     Ok(Place { path, beside })
 }
 
-/// The whole name of a file, in which no link is left. Where there is no such file, it is the name that the file would get.
-///
-/// # Errors
-///
-/// Memory was refused, or the name leads nowhere: through a file that is no folder, or through links in a circle.
+/// The whole name of a file, in which no link is left. Where there is no such file, it is the name that the file would get. It fails where the
+/// name leads nowhere: through a file that is no folder, or through links in a circle.
 fn entire_name<R: Files<File = File>>(files: &R, alloc: Global, name: &str) -> io::Result<String> {
     let mut path = String::from_str(alloc, name)?;
     for _link in 0..MOST_LINKS {
@@ -115,10 +107,7 @@ fn in_entire_folder<R: Files<File = File>>(
     alloc: Global,
     name: &str,
 ) -> io::Result<String> {
-    let last = match name.rsplit_once('/') {
-        Some((_, last)) => last,
-        None => name,
-    };
+    let last = name.rsplit_once('/').map_or(name, |(_, last)| last);
     match files.canonicalize(alloc, folder_of(name)) {
         Ok(found) => {
             let folder = found.as_str();
@@ -140,10 +129,6 @@ pub(crate) fn folder_of(name: &str) -> &str {
 }
 
 /// Where the file `name` is, and which names and files it may meet there. A name that can't be followed stands for itself.
-///
-/// # Errors
-///
-/// Memory was refused.
 pub(crate) fn locate<R: Files<File = File>>(
     files: &R,
     alloc: Global,
@@ -151,12 +136,11 @@ pub(crate) fn locate<R: Files<File = File>>(
 ) -> io::Result<Location>
     ensures { IfOk result (λ found. string_bytes found.name ≡ name.now) }
 {
-    let place = match place_of(files, alloc, name) {
+    let Place { path, beside } = match place_of(files, alloc, name) {
         Ok(place) => place,
         Err(error) if error.kind() == io::ErrorKind::OutOfMemory => return Err(error),
         Err(_) => return Ok(Location::of_name(alloc, name)?),
     };
-    let Place { path, beside } = place;
     Ok(Location {
         name: String::from_str(alloc, name)?,
         id: id_of(files, name),
@@ -177,12 +161,7 @@ fn id_of<R: Files<File = File>>(files: &R, name: &str) -> Option<FileId> {
 
 /// Replaces the file at this place by a new file with these bytes, or creates it. The new file has the group and the mode of the old one, and
 /// its owner where the system lets the caller give it away; it is returned open for reading and writing, locked where the system can lock it.
-/// Takes no memory.
-///
-/// # Errors
-///
-/// The old file can't be written, or is no file; beside it lies a file that this program didn't make; or the new one can't be made so, written,
-/// synced or renamed.
+/// Takes no memory. It fails as `look_at` does, or where the new file can't be made so, written, synced or renamed.
 pub(crate) fn replace<R: Files<File = File>>(
     files: &R,
     place: &Place,
@@ -192,11 +171,8 @@ pub(crate) fn replace<R: Files<File = File>>(
     let beside = place.beside.as_str();
     let old = old_file(files, name)?;
     let mut file = create_beside(files, beside)?;
-    let placed = match fill(&mut file, old.as_ref(), bytes) {
-        Ok(()) => fs::rename(files, beside, name),
-        Err(error) => Err(error),
-    };
-    if let Err(error) = placed {
+    let filled = fill(&mut file, old.as_ref(), bytes);
+    if let Err(error) = filled.and_then(|()| fs::rename(files, beside, name)) {
         let _ = fs::remove_file(files, beside);
         return Err(error);
     }
@@ -206,11 +182,7 @@ pub(crate) fn replace<R: Files<File = File>>(
     Ok(file)
 }
 
-/// The file of this name, which is to be replaced; `None` where there is none.
-///
-/// # Errors
-///
-/// It can't be read and written, or is no file.
+/// The file of this name, which is to be replaced; `None` where there is none. It fails where the file can't be read and written, or is none.
 fn old_file<R: Files<File = File>>(files: &R, name: &str) -> io::Result<Option<Metadata>> {
     match fs::metadata(files, name) {
         Ok(found) if !found.is_file() => return Err(io::Error::other("it is no file")),
@@ -222,22 +194,15 @@ fn old_file<R: Files<File = File>>(files: &R, name: &str) -> io::Result<Option<M
     Ok(Some(file.metadata()?))
 }
 
-/// Looks whether the file at this place can be replaced. Nothing changes.
-///
-/// # Errors
-///
-/// The file can't be written, or is no file; or beside it lies a file that this program didn't make.
+/// Looks whether the file at this place can be replaced: it fails where the file can't be written, or is no file; or beside it lies a file that
+/// this program didn't make. Nothing changes.
 pub(crate) fn look_at<R: Files<File = File>>(files: &R, place: &Place) -> io::Result<()> {
     let _old = old_file(files, place.path.as_str())?;
     let _left = is_left(files, place.beside.as_str())?;
     Ok(())
 }
 
-/// Whether a file of this name is left over from a run that was cut: it has the mark.
-///
-/// # Errors
-///
-/// There is one without the mark.
+/// Whether a file of this name is left over from a run that was cut: it has the mark. It fails where there is one without the mark.
 fn is_left<R: Files<File = File>>(files: &R, name: &str) -> io::Result<bool> {
     match fs::symlink_metadata(files, name) {
         Ok(found) if found.is_file() && found.mode() & MARK != 0 => Ok(true),

@@ -6,8 +6,7 @@ use site_wire::{LeftAs, OpenWord, StopReason};
 use slave_match::Reason;
 use station_files::Fault;
 use station_listing::Code;
-use std::io;
-use std::io::Write;
+use std::io::{self, Write};
 use wire_frames::{LineFault, Sighting, SlaveFault, SlaveTrouble};
 
 /// What to do about what is the matter with a slave.
@@ -34,40 +33,18 @@ fn remedy_of(cause: SlaveTrouble) -> &'static str {
     }
 }
 
-/// What a command does to registers.
-fn way_of(command: u8) -> &'static str {
-    match command {
-        1 | 4 | 7 => "read",
-        _ => "written",
-    }
-}
-
-/// Tells which slaves of a line still answer, of which so many take a broadcast, up to the place of a slave.
-fn tell_answering<E: Write>(answering: Option<u16>, faults: &mut E) -> io::Result<()> {
-    match answering {
-        None => write!(faults, "; no broadcast comes back"),
-        Some(0) => write!(faults, "; no slave answers a broadcast"),
-        Some(1) => write!(faults, "; slave 0 alone answers a broadcast"),
-        Some(count) => {
-            let last = count.saturating_sub(1);
-            write!(
-                faults,
-                "; {count} slaves answer a broadcast, 0 to {last} if they are the first ones"
-            )
-        }
-    }
-}
-
-/// Tells what was seen of a slave, with the word that was in flight to it, if there was one.
+/// Tells what was seen of a slave, with the word that was in flight to it, if there was one, which others with its station address may have taken.
 fn tell_seen<E: Write>(
     slave: u16,
     seen: Sighting,
     word: Option<OpenWord>,
     faults: &mut E,
 ) -> io::Result<()> {
-    let way = way_of(seen.command);
-    let register = seen.register;
-    let cause = seen.cause();
+    let way = match seen.command {
+        1 | 4 | 7 => "read",
+        _ => "written",
+    };
+    let (register, cause) = (seen.register, seen.cause());
     let what = cause.text();
     write!(
         faults,
@@ -86,28 +63,27 @@ fn tell_seen<E: Write>(
     if let Some(station) = seen.station {
         write!(faults, "; station address 0x{station:04x} at its place")?;
     }
-    tell_answering(seen.answering, faults)?;
-    tell_taken(cause, word, faults)?;
-    let remedy = remedy_of(cause);
-    writeln!(faults, "; {remedy}")
-}
-
-/// Tells which word of a slave others with its station address may have taken.
-fn tell_taken<E: Write>(
-    cause: SlaveTrouble,
-    word: Option<OpenWord>,
-    faults: &mut E,
-) -> io::Result<()> {
-    match (cause, word) {
-        (SlaveTrouble::Shared, Some(OpenWord { write, .. })) => {
-            let (at, value) = (write.word, write.value);
+    match seen.answering {
+        None => write!(faults, "; no broadcast comes back")?,
+        Some(0) => write!(faults, "; no slave answers a broadcast")?,
+        Some(1) => write!(faults, "; slave 0 alone answers a broadcast")?,
+        Some(count) => {
+            let last = count.saturating_sub(1);
             write!(
                 faults,
-                "; a slave that was plugged in may have taken its word 0x{at:04x}, 0x{value:04x}: scan finds which"
-            )
+                "; {count} slaves answer a broadcast, 0 to {last} if they are the first ones"
+            )?;
         }
-        _ => Ok(()),
     }
+    if let (SlaveTrouble::Shared, Some(OpenWord { write, .. })) = (cause, word) {
+        let (at, value) = (write.word, write.value);
+        write!(
+            faults,
+            "; a slave that was plugged in may have taken its word 0x{at:04x}, 0x{value:04x}: scan finds which"
+        )?;
+    }
+    let remedy = remedy_of(cause);
+    writeln!(faults, "; {remedy}")
 }
 
 /// Tells with which word a slave was given up.
@@ -229,10 +205,6 @@ fn tell_reason<E: Write>(slave: usize, reason: Reason, faults: &mut E) -> io::Re
 
 impl WireFault {
     /// Prints what there is to tell of the fault beside its code, on a line of its own; what `explain` says where there is nothing more.
-    ///
-    /// # Errors
-    ///
-    /// As the stream answers.
     pub fn tell<E: Write>(self, faults: &mut E) -> io::Result<()> {
         match self {
             WireFault::Line(fault) => tell_line(fault, faults),

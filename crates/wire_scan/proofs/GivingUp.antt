@@ -1,5 +1,5 @@
 -- A slave that is given up: its image file and the journal's were written.
-use Rattle.std.proofs.Common.{◌≡◌, ◌≢◌, ℕ, ◌<◌, List, [], ◌∷◌, Option, Some, None, IfSome, IsSomeAnd, Contains, length, map, get_or, String, Global, string_bytes, sym, ap, ◌∙◌, subst, arith}
+use Rattle.std.proofs.Common.{◌≡◌, ℕ, ◌<◌, List, Option, Some, None, IfSome, IsSomeAnd, length, map, get_or, String, Global, string_bytes, sym, ap, ◌∙◌, subst, arith}
 use Rattle.std.specs.List.{slice_get}
 use Rattle.std.specs.Option.{option_map}
 use Rattle.std.proofs.lemmas.Option.{slice_get-map, slice_get-get_or}
@@ -7,7 +7,7 @@ use Rattle.sii_words.specs.Plant.{words_of}
 use Rattle.sii_words.specs.Words.{bytes_of}
 use Rattle.jrn_release.specs.Without.{IsWithout}
 use Rattle.station_text.specs.declared.line_file.LineFile.{LineFile}
-use Rattle.station_files.specs.Files.{Known, HasBytes, Holds, ChangesOnly}
+use Rattle.station_files.specs.Files.{Known, HasBytes, ChangesOnly}
 use Rattle.station_files.specs.FileNames.{spelt}
 use Rattle.std.proofs.lemmas.Result.{on_ok_weaker}
 use Rattle.std.specs.Prelude.{Result, Ok, Err, IfErr, OnOk}

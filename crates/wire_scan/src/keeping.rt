@@ -1,12 +1,13 @@
 //! Whether each slave is the one that its image file was written of, and what is to become of one that isn't.
-ghost use Rattle.std.specs.Prelude.{◌≡◌, ◌≤◌, [], length, map, unwrap_or, slice_get, None, IfOk, IfSome, OnOk};
+ghost use Rattle.std.specs.Prelude.{◌≡◌, ◌<◌, ◌≤◌, [], length, map, Some, IfErr, IfOk, OnOk};
 ghost use Rattle.std.specs.List.{AllByRecursion, AllZip};
 ghost use Rattle.sii_words.specs.Redo.{redone};
 ghost use Rattle.jrn_format.specs.Batch.{IsWithin};
 ghost use Rattle.book_model.specs.Entries.{live_runs};
 ghost use Rattle.station_files.specs.FileNames.{spelt};
-ghost use Rattle.wire_scan.specs.Keeping.{AreAlike, AreKept, AreMends, IsEditOf, IsImageOf, IsOwn, KeepsEach, Mends, MendsAll, said_of, together, with_edit, wanted_words, with_serial};
-ghost use Rattle.wire_scan.specs.declared.asked.Mend.TheVariants.{Unsaid};
+ghost use Rattle.station_files.specs.declared.faults.Fault.TheVariants.{Memory};
+ghost use Rattle.wire_scan.specs.Keeping.{AreKept, AreMends, ArePassed, AreRedone, AreSeen, IsEditOf, IsImageOf, IsOwn, IsRefusal, IsSeen, KeepsEach, Mends, MendsAll, may_differ};
+ghost use Rattle.wire_scan.specs.Keeping.{refusal_of, said_of, together, with_edit, wanted_words, with_serial};
 
 use crate::asked::{Mend, Mends};
 use crate::plan::is_there;
@@ -77,22 +78,85 @@ pub(crate) fn validate_kept(
     requires count { length images.now ≡ length slaves.now }
     requires within { AllByRecursion (IsWithin (map length slaves.now)) batches.now }
     ensures kept { OnOk result (AreKept mends.now (live_runs batches.now) slaves.now images.now) }
+    ensures passed { OnOk result (ArePassed mends.now (live_runs batches.now) slaves.now images.now (length slaves.now)) }
+    ensures refused { IfErr result (IsRefusal mends.now batches.now slaves.now images.now) }
     ensures images { IfOk result (λ kept. length kept.images.items ≡ length slaves.now) }
     ensures commands { IfOk result (λ kept. AreMends mends.now kept.commands.items) }
     ensures mends { IfOk result (λ kept. Mends mends.now (live_runs batches.now) slaves.now images.now kept.images.items kept.commands.items) }
 {
-    let copies = copies_of(alloc, slaves)?;
-    let found = recovered(copies, batches);
-    let own = kept_words(alloc, slaves, images)?;
-    let kept = recovered(own, batches);
-    match first_refused(slaves, images, &found, &kept, mends) {
-        None => Ok(mended(alloc, slaves, &found, &kept, mends)?),
-        Some((slave, difference)) => Err(WireFault::OtherWords {
-            slave,
-            difference,
-            reason: reason_of(slave, slaves, images, batches),
-        }),
+    let both = recover_both(alloc, slaves, images, batches)?;
+    require_alike(slaves, images, batches, &both, mends)?;
+    Ok(mended(alloc, slaves, &both.found, &both.kept, mends)?)
+}
+
+/// What is seen of a slave beside its image file.
+#[derive(Clone, Copy)]
+pub(crate) enum Beside {
+    /// There is no image file.
+    Absent,
+    /// It has the words of its image file, but for those that a recovery writes, or what is said of it lets it differ.
+    Same,
+    /// It has others, which is refused; and what that usually is.
+    Differs {
+        difference: Difference,
+        reason: Reason,
+    },
+}
+
+/// What is seen of each slave beside its image file, where these batches are live in the journal.
+///
+/// # Errors
+///
+/// `Memory`.
+pub(crate) fn compare_all(
+    alloc: Global,
+    slaves: &[Words],
+    images: &[Option<Words>],
+    batches: &[Batch],
+) -> Result<Vec<Beside>, Fault>
+    requires some { 1 ≤ length slaves.now }
+    requires most { length slaves.now ≤ 64 }
+    requires count { length images.now ≡ length slaves.now }
+    requires within { AllByRecursion (IsWithin (map length slaves.now)) batches.now }
+    ensures count { IfOk result (λ seen. length seen.items ≡ length slaves.now) }
+    ensures seen { IfOk result (λ seen. AreSeen batches.now slaves.now images.now (length slaves.now) seen.items) }
+{
+    let both = recover_both(alloc, slaves, images, batches)?;
+    let mut seen = Vec::new(alloc);
+    for slave in 0..slaves.len() {
+        let one = seen_of(slave, slaves, images, batches, &both, Mend::Unsaid);
+        seen.push(one)?;
     }
+    Ok(seen)
+}
+
+/// What a recovery makes of the slaves of a line, and of their image files.
+#[derive(Drop)]
+struct Redone {
+    found: Plant,
+    kept: Plant,
+}
+
+/// What a recovery with these live batches makes of the slaves of a line, and of their image files.
+fn recover_both(
+    alloc: Global,
+    slaves: &[Words],
+    images: &[Option<Words>],
+    batches: &[Batch],
+) -> Result<Redone, Fault>
+    requires some { 1 ≤ length slaves.now }
+    requires most { length slaves.now ≤ 64 }
+    requires count { length images.now ≡ length slaves.now }
+    requires within { AllByRecursion (IsWithin (map length slaves.now)) batches.now }
+    ensures redone { IfOk result (λ both. AreRedone (live_runs batches.now) slaves.now images.now both.found both.kept) }
+    ensures failed { IfErr result (λ fault. fault ≡ Memory) }
+{
+    let copies = copies_of(alloc, slaves)?;
+    let own = kept_words(alloc, slaves, images)?;
+    Ok(Redone {
+        found: recovered(copies, batches),
+        kept: recovered(own, batches),
+    })
 }
 
 /// What a recovery with these live batches makes of slaves with these words.
@@ -108,37 +172,36 @@ pub(crate) fn recovered(words: Vec<Words>, batches: &[Batch]) -> Plant
     plant
 }
 
-/// The first slave that is refused, and in what it differs from its image file, where a recovery makes `found` of the slaves and `kept` of their image
-/// files.
-fn first_refused(
+/// Looks whether no slave is refused.
+///
+/// # Errors
+///
+/// `OtherWords` for the first one that is.
+fn require_alike(
     slaves: &[Words],
     images: &[Option<Words>],
-    found: &Plant,
-    kept: &Plant,
+    batches: &[Batch],
+    both: &Redone,
     mends: &Mends,
-) -> Option<(usize, Difference)>
-    requires most { length slaves.now ≤ 64 }
+) -> Result<(), WireFault>
     requires count { length images.now ≡ length slaves.now }
-    requires found { length found.now ≡ length slaves.now }
-    requires kept { length kept.now ≡ length slaves.now }
-    ensures { result ≡ None → AreAlike mends.now slaves.now images.now found.now kept.now }
+    requires redone { AreRedone (live_runs batches.now) slaves.now images.now both.now.found both.now.kept }
+    ensures passed { OnOk result (ArePassed mends.now (live_runs batches.now) slaves.now images.now (length slaves.now)) }
+    ensures refused { IfErr result (IsRefusal mends.now batches.now slaves.now images.now) }
 {
     for slave in 0..slaves.len() {
-        let line = Side {
-            words: &slaves[slave],
-            redone: found.slave(slave),
-        };
-        match refused(
-            line,
-            &images[slave],
-            kept.slave(slave),
-            said_of(mends, slave),
-        ) {
-            None => {}
-            Some(difference) => return Some((slave, difference)),
+        match seen_of(slave, slaves, images, batches, both, said_of(mends, slave)) {
+            Beside::Absent | Beside::Same => {}
+            Beside::Differs { difference, reason } => {
+                return Err(WireFault::OtherWords {
+                    slave,
+                    difference,
+                    reason,
+                });
+            }
         }
     }
-    None
+    Ok(())
 }
 
 /// What is said of a slave.
@@ -148,81 +211,64 @@ fn said_of(mends: &Mends, slave: usize) -> Mend
     mends.get(slave).copied().unwrap_or(Mend::Unsaid)
 }
 
-/// What is seen of a slave beside its image file.
-#[derive(Clone, Copy)]
-pub(crate) enum Beside {
-    /// There is no image file.
-    Absent,
-    /// It has the words of its image file, but for those that a recovery writes.
-    Same,
-    /// It has others; and what that usually is.
-    Differs {
-        difference: Difference,
-        reason: Reason,
-    },
-}
-
-/// What is seen of each slave beside its image file, where these batches are live in the journal.
-pub(crate) fn compare_all(
-    alloc: Global,
+/// What is seen of the slave at this place beside its image file, where this is said of it.
+fn seen_of(
+    slave: usize,
     slaves: &[Words],
     images: &[Option<Words>],
     batches: &[Batch],
-) -> Result<Vec<Beside>, AllocError>
-    requires some { 1 ≤ length slaves.now }
-    requires most { length slaves.now ≤ 64 }
+    both: &Redone,
+    mend: Mend,
+) -> Beside
+    requires inside { slave < length slaves.now }
     requires count { length images.now ≡ length slaves.now }
-    requires within { AllByRecursion (IsWithin (map length slaves.now)) batches.now }
+    requires redone { AreRedone (live_runs batches.now) slaves.now images.now both.now.found both.now.kept }
+    ensures { IsSeen batches.now mend slaves.now images.now slave result }
 {
-    let copies = copies_of(alloc, slaves)?;
-    let found = recovered(copies, batches);
-    let own = kept_words(alloc, slaves, images)?;
-    let kept = recovered(own, batches);
-    let mut seen = Vec::new(alloc);
-    for slave in 0..slaves.len() {
-        let line = Side {
-            words: &slaves[slave],
-            redone: found.slave(slave),
-        };
-        let image = &images[slave];
-        let one = match refused(line, image, kept.slave(slave), Mend::Unsaid) {
-            Some(difference) => Beside::Differs {
-                difference,
-                reason: reason_of(slave, slaves, images, batches),
-            },
-            None if image.is_none() => Beside::Absent,
-            None => Beside::Same,
-        };
-        seen.push(one)?;
-    }
-    Ok(seen)
-}
-
-/// A slave: its words, and what a recovery makes of them.
-#[derive(Clone, Copy)]
-struct Side<'a> {
-    words: &'a Words,
-    redone: &'a Words,
-}
-
-/// In what a slave differs from its image file, of which a recovery makes `kept`, if that is refused.
-fn refused(line: Side<'_>, image: &Option<Words>, kept: &Words, mend: Mend) -> Option<Difference>
-    ensures { result ≡ None → mend ≡ Unsaid → IfSome image.now (λ image. (length image ≡ length line.entry.words.now) × (line.entry.redone.now ≡ kept.now)) }
-{
-    let image = image.as_ref()?;
-    let is_as_long = image.len() == line.words.len();
-    let found = if is_as_long {
-        difference_between(line.redone.as_slice(), kept.as_slice())?
-    } else {
-        difference_between(line.words.as_slice(), image.as_slice())?
+    let Some(image) = &images[slave] else {
+        return Beside::Absent;
     };
-    let is_allowed = match mend {
+    let (found, kept) = (both.found.slave(slave), both.kept.slave(slave));
+    match refused(&slaves[slave], image, found, kept, mend) {
+        None => Beside::Same,
+        Some(difference) => Beside::Differs {
+            difference,
+            reason: reason_of(slave, slaves, images, batches),
+        },
+    }
+}
+
+/// In what a slave differs from its image file, if that is refused, where a recovery makes `found` and `kept` of them.
+fn refused(
+    words: &Words,
+    image: &Words,
+    found: &Words,
+    kept: &Words,
+    mend: Mend,
+) -> Option<Difference>
+    ensures { result ≡ refusal_of mend words.now (Some image.now) found.now kept.now }
+{
+    if may_differ(mend, words, image) {
+        return None;
+    }
+    if image.len() == words.len() {
+        difference_between(found.as_slice(), kept.as_slice())
+    } else {
+        difference_between(words.as_slice(), image.as_slice())
+    }
+}
+
+/// Whether what is said of a slave lets it differ from its image file.
+fn may_differ(mend: Mend, words: &Words, image: &Words) -> bool
+    ensures { result ≡ may_differ mend words.now image.now }
+{
+    let is_as_long = image.len() == words.len();
+    match mend {
         Mend::Unsaid => false,
         Mend::Slave => true,
         Mend::File => is_as_long,
-        Mend::Exchanged => is_as_long && is_same_type(line.words.identity(), image.identity()),
-    };
-    if is_allowed { None } else { Some(found) }
+        Mend::Exchanged => is_as_long && is_same_type(words.identity(), image.identity()),
+    }
 }
 
 /// The words of each image file, or those of its slave where it isn't there or has another number of them.
@@ -262,10 +308,11 @@ fn mended(
     found: &Plant,
     kept: &Plant,
     mends: &Mends,
-) -> Result<Kept, AllocError>
+) -> Result<Kept, Fault>
     requires most { length slaves.now ≤ 64 }
     requires found { length found.now ≡ length slaves.now }
     requires kept { length kept.now ≡ length slaves.now }
+    ensures failed { IfErr result (λ fault. fault ≡ Memory) }
     ensures images { IfOk result (λ kept. length kept.images.items ≡ length slaves.now) }
     ensures commands { IfOk result (λ kept. AreMends mends.now kept.commands.items) }
     ensures all { IfOk result (λ begun. MendsAll mends.now slaves.now found.now kept.now begun.images.items begun.commands.items) }

@@ -9,7 +9,7 @@ ghost use Rattle.station_line.specs.Validating.{HasJournal};
 ghost use Rattle.station_line.specs.OpenFiles.{AreOpenedAs};
 ghost use Rattle.station_line.specs.Site.{files_of};
 ghost use Rattle.wire_scan.specs.Keeping.{AreMends, AreOfImages, KeepsImages, MendsFiles, MendsImages};
-ghost use Rattle.wire_scan.specs.Opening.{IsFound};
+ghost use Rattle.wire_scan.specs.Opening.{IfOtherWords, IsFound, IsOtherFault, RefusesFound, RefusesRead};
 
 use crate::asked::{ScanOptions, Tells};
 use crate::backup::write_missing;
@@ -79,6 +79,7 @@ pub fn find_line<R: Clock + AllocGlobal, W: Wire, S: Store>(
         MendsFiles (S.files store.old) found.line asked.mends found.journal.items found.slaves.items found.images.items found.mends.items) }
     ensures some { IfOk result (λ found. 1 ≤ length found.slaves.items) }
     ensures most { IfOk result (λ found. length found.slaves.items ≤ 64) }
+    ensures refused { IfErr result (IfOtherWords (RefusesFound (S.files store.old) name.now asked.mends)) }
     ensures same { S.files store.new ≡ S.files store.old }
 {
     let line = load_line(rt.alloc(), name, store)?;
@@ -121,6 +122,7 @@ fn bring_up_validated<R: Clock + AllocGlobal, W: Wire>(
 ) -> Result<FoundLine, WireFault>
     ensures some { IfOk result (λ found. 1 ≤ length found.slaves.items) }
     ensures most { IfOk result (λ found. length found.slaves.items ≤ 64) }
+    ensures failed { IfErr result IsOtherFault }
 {
     let sizes = sizes_of(images, asked.trusts_images);
     // On a wire that is lent slaves may be in any state, and who has their EEPROMs is looked at as they are opened.
@@ -164,6 +166,7 @@ fn read_found<S: Store>(
     ensures mends { IfOk result (λ read. AreMends asked.mends read.kept.commands.items) }
     ensures mended { IfOk result (λ read.
         MendsImages asked.mends read.journal.items read.slaves.items images.now read.kept.images.items read.kept.commands.items) }
+    ensures refused { IfErr result (IfOtherWords (RefusesRead (S.files store.old) line.now asked.mends images.now)) }
     ensures same { S.files store.new ≡ S.files store.old }
 {
     let slaves = validate_slaves(alloc, found, line.images.len())?;

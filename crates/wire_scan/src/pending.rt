@@ -3,6 +3,7 @@ ghost use Rattle.std.specs.Prelude.{◌≡◌, ◌≤◌, length, None, IfErr, I
 ghost use Rattle.station_files.specs.Faults as station;
 ghost use Rattle.wire_faults.specs.Faults.{IsOfStream};
 ghost use Rattle.wire_faults.specs.declared.faults.WireFault.TheVariants.{NothingPending};
+ghost use Rattle.wire_scan.specs.Opening.{IfOtherWords, IsOtherFault, RefusesFound};
 ghost use Rattle.wire_scan.specs.Pending.{GivesUp, GivesUpFound, GivesUpPending, IsPending, PendsNothing, WritesImageFirst, WritesInOrder, let_pass};
 
 use crate::asked::{Mend, Mends, ScanOptions};
@@ -58,6 +59,9 @@ pub fn list_pending<R: Clock + AllocGlobal, W: Wire, S: Store, O: Write>(
         OnOk result (GivesUp (S.files store.old) (S.files store.new) order.entry.line.now order.entry.asked.mends slave)) }
     ensures first { IfSome order.entry.gives_up (WritesInOrder (S.files store.old) (S.files store.new) order.entry.line.now) }
     ensures refused { IfErr result (λ fault. ¬ IsOfStream fault → S.files store.new ≡ S.files store.old) }
+    ensures words { IfErr result (IfOtherWords (RefusesFound (S.files store.old) order.entry.line.now
+        (let_pass order.entry.gives_up order.entry.asked.mends))) }
+    ensures passed { order.entry.gives_up ≡ None → IfErr result IsOtherFault }
 {
     match find_line(rt, wire, order.line, options_of(order), store) {
         Ok(found) => {
@@ -111,6 +115,7 @@ fn list_found<S: Store, O: Write>(
         found.now.line found.now.slaves.items found.now.journal.items slave)) }
     ensures first { IfSome order.entry.gives_up (WritesImageFirst (S.files store.old) (S.files store.new) found.now.line found.now.slaves.items) }
     ensures refused { IfErr result (λ fault. ¬ IsOfStream fault → S.files store.new ≡ S.files store.old) }
+    ensures failed { IfErr result IsOtherFault }
 {
     let pending = pending_words(alloc, found, store)?;
     let slaves = found.slaves.len();
@@ -136,6 +141,7 @@ fn pending_words<S: Store>(
     requires some { 1 ≤ length found.now.slaves.items }
     requires most { length found.now.slaves.items ≤ 64 }
     ensures pending { IfOk result (λ words. IsPending found.now.slaves.items found.now.journal.items words.items) }
+    ensures failed { IfErr result IsOtherFault }
     ensures same { S.files store.new ≡ S.files store.old }
 {
     let name = found.line.journal.as_str();
@@ -234,6 +240,7 @@ fn give_up<S: Store>(
         found.now.line found.now.slaves.items found.now.journal.items slave) }
     ensures first { WritesImageFirst (S.files store.old) (S.files store.new) found.now.line found.now.slaves.items slave }
     ensures refused { IfErr result (λ fault. ¬ IsOfStream fault → S.files store.new ≡ S.files store.old) }
+    ensures failed { IfErr result IsOtherFault }
 {
     let place = usize::from(slave);
     if place >= found.slaves.len() {

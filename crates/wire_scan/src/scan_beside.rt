@@ -76,7 +76,7 @@ fn beside_files<S: Store>(
     let sizes = words_of_each(alloc, &slaves)?;
     // Without a journal of these slaves no batch is live.
     match scan(alloc, &bytes, &sizes) {
-        Ok(journal) => Ok(compare_all(alloc, &slaves, images, journal.batches.as_slice())?),
-        Err(_) => Ok(compare_all(alloc, &slaves, images, &[])?),
+        Ok(journal) => compare_all(alloc, &slaves, images, journal.batches.as_slice()),
+        Err(_) => compare_all(alloc, &slaves, images, &[]),
     }
 }

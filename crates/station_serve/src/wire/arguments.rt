@@ -3,10 +3,9 @@
 use crate::arguments::{compared_in, form_of, lines_form, shown_in};
 use crate::pages::code_asked;
 use crate::wire::changing::{Change, New};
-use crate::wire::mends::mends_of;
+use crate::wire::of_slaves::{mends_of, sizes_of};
 use crate::wire::one_slave::{Look, Purpose};
 use crate::wire::rows::{rows, wire_program};
-use crate::wire::sizes::sizes_of;
 use crate::wire::which::which_in;
 use command_line::{ParsedArguments, Unread, read_typed, read_words, refuse, small_in};
 use sii_words::MAX_SLAVES;
@@ -31,15 +30,13 @@ pub struct Arguments<'a> {
     pub capture: Option<&'a str>,
     /// The capture and the files that it may be none of, if there are any.
     pub separate: Option<CaptureNames<'a>>,
-    /// Whose the wire is.
     pub tenure: Tenure,
-    /// How lines are printed: as text, or as rows of JSON.
+    /// How lines are printed.
     pub form: Form,
     /// Whether faults have a second line where standard error is no terminal, too.
     pub is_verbose: bool,
     /// Whether no line is drawn with the progress.
     pub is_quiet: bool,
-    /// What is asked for.
     pub task: Task<'a>,
     /// The text of the script `TYPED`, where commands are typed in place of a script file.
     pub typed: Option<Vec<u8>>,
@@ -86,10 +83,8 @@ impl<'a> Task<'a> {
     /// The files of a run, or of the plan of one; no names where they aren't known.
     pub(crate) fn run_files(self) -> RunNames<'a> {
         let (line, script) = match self {
-            Task::Run(order, _) | Task::Reads(Reading::Plan(order)) => (
-                order.named.line,
-                order.named.script,
-            ),
+            Task::Run(RunOrder { named, .. }, _) => (named.line, named.script),
+            Task::Reads(Reading::Plan(RunOrder { named, .. })) => (named.line, named.script),
             _ => ("", ""),
         };
         RunNames { line, script }
@@ -114,12 +109,8 @@ pub fn read_arguments<'a>(alloc: Global, words: &'a [String]) -> Result<Argument
     let subcommands = rows();
     let program = wire_program(&subcommands);
     let given = read_words(alloc, program, words)?;
-    let tenure = match tenure_of(&given) {
-        Ok(tenure) => tenure,
-        Err(text) => return Err(refuse(alloc, program, given.subcommand, text)),
-    };
-    match task_of(&given) {
-        Ok(task) => Ok(Arguments {
+    match asked_of(&given) {
+        Ok((tenure, task)) => Ok(Arguments {
             text: given.text("text"),
             time_out: given.milliseconds("timeout"),
             capture: given.text("capture"),
@@ -147,24 +138,16 @@ fn separate_in<'a>(given: &ParsedArguments<'a>) -> Option<CaptureNames<'a>> {
 /// Whose the wire is, as the options of the subcommand say, or why they are refused.
 fn tenure_of(given: &ParsedArguments<'_>) -> Result<Tenure, &'static str> {
     let carried = given.text("carry");
-    if !given.has("beside") {
-        return match carried {
-            Some(_) => Err("--carry is taken with --beside alone"),
-            None => Ok(Tenure::Own),
-        };
-    }
-    let room = match carried {
-        Some(text) => {
-            room_of(text).ok_or(
-                "--carry is N or N,BYTES with N from 1 to 64 and BYTES from 28 to 1486",
-            )?
-        }
-        None => Room::one(),
+    let room = match (given.has("beside"), carried) {
+        (false, None) => return Ok(Tenure::Own),
+        (false, Some(_)) => return Err("--carry is taken with --beside alone"),
+        (true, None) => Room::one(),
+        (true, Some(text)) => room_of(text).ok_or(
+            "--carry is N or N,BYTES with N from 1 to 64 and BYTES from 28 to 1486",
+        )?,
     };
-    Ok(Tenure::Lent {
-        is_forced: given.has("force"),
-        room,
-    })
+    let is_forced = given.has("force");
+    Ok(Tenure::Lent { is_forced, room })
 }
 
 /// How much a message may hold, as `--carry` says: a number of datagrams, and perhaps one of bytes.
@@ -174,15 +157,14 @@ fn room_of(text: &str) -> Option<Room> {
         None => (text, FRAME_BYTES),
     };
     let datagrams = count.parse::<u16>().ok()?;
-    if (1..=MAX_SLAVES).contains(&usize::from(datagrams)) && (28..=FRAME_BYTES).contains(&bytes) {
-        Some(Room { datagrams, bytes })
-    } else {
-        None
-    }
+    let fits = (1..=MAX_SLAVES).contains(&usize::from(datagrams))
+        && (28..=FRAME_BYTES).contains(&bytes);
+    fits.then_some(Room { datagrams, bytes })
 }
 
-/// The task of the subcommand that was given, or why its words are refused.
-fn task_of<'a>(given: &ParsedArguments<'a>) -> Result<Task<'a>, &'static str> {
+/// Whose the wire is, and the task of the subcommand that was given; or why its words are refused.
+fn asked_of<'a>(given: &ParsedArguments<'a>) -> Result<(Tenure, Task<'a>), &'static str> {
+    let tenure = tenure_of(given)?;
     let task = match (given.subcommand, given.text("LINE")) {
         ("run", _) => Task::Run(order_of(given)?, given.text("state")),
         ("recover", Some(line)) => Task::Recover(line, asked_separate(given)?),
@@ -191,7 +173,7 @@ fn task_of<'a>(given: &ParsedArguments<'a>) -> Result<Task<'a>, &'static str> {
         ("alias" | "write", _) => Task::Change(change_of(given)?),
         (_, line) => Task::Reads(reading_of(given, line)?),
     };
-    Ok(task)
+    Ok((tenure, task))
 }
 
 /// The same of a subcommand that leaves the words of all slaves as they are.
@@ -261,10 +243,10 @@ fn pending_task<'a>(
     line: Option<&'a str>,
 ) -> Result<Task<'a>, &'static str> {
     let asked = asked_separate(given)?;
-    let gives_up = match given.text("give-up") {
-        Some(text) => Some(small_in(text).ok_or("--give-up is the number of a slave")?),
-        None => None,
-    };
+    let gives_up = given
+        .text("give-up")
+        .map(|text| small_in(text).ok_or("--give-up is the number of a slave"))
+        .transpose()?;
     let folder = match line {
         Some(_) => None,
         None => Some(folder_in(given)?),
@@ -280,9 +262,8 @@ fn pending_task<'a>(
 
 /// The sizes of EEPROMs that are given.
 fn sizes_in(given: &ParsedArguments<'_>) -> Result<Sizes, &'static str> {
-    sizes_of(given.word("words")).ok_or(
-        "--words is SLAVE=N,.. with N from 64 to 4096, a multiple of 64",
-    )
+    let wrong = "--words is SLAVE=N,.. with N from 64 to 4096, a multiple of 64";
+    sizes_of(given.word("words")).ok_or(wrong)
 }
 
 /// What `run` or `plan` is given.
@@ -298,11 +279,8 @@ fn order_of<'a>(given: &ParsedArguments<'a>) -> Result<RunOrder<'a>, &'static st
 
 /// What the flags ask for.
 fn asked_in(given: &ParsedArguments<'_>) -> Result<ScanOptions, &'static str> {
-    let mends = mends_of(
-        given.text("found"),
-        given.text("file"),
-        given.text("exchanged"),
-    );
+    let (found, file) = (given.text("found"), given.text("file"));
+    let mends = mends_of(found, file, given.text("exchanged"));
     Ok(ScanOptions {
         trusts_images: given.has("trust-images"),
         is_forced: given.has("force"),

@@ -29,19 +29,13 @@ pub fn back_up_to<H: Clock + AllocGlobal, W: Wire, S: Store, O: Write>(
     let stem = dated_name(rt, folder, false)?;
     let line = format!(in rt.alloc(); "{stem}.toml")?;
     let ended = back_up(rt, &line, sizes, wire, store, output)?;
-    let name = Escaped {
-        text: line.as_str(),
-        has_lines: false,
-    };
+    let (text, has_lines) = (line.as_str(), false);
+    let name = Escaped { text, has_lines };
     writeln!(output, "line {name}")?;
     Ok(ended)
 }
 
 /// Backs up the line, and makes an empty journal for it if there is none.
-///
-/// # Errors
-///
-/// As for `backup_line`, and then as for `begin_journal`; `File` or `Memory`, as the output answers.
 pub(crate) fn back_up<H: Clock + AllocGlobal, W: Wire, S: Store, O: Write>(
     rt: &H,
     line: &str,
@@ -55,19 +49,13 @@ pub(crate) fn back_up<H: Clock + AllocGlobal, W: Wire, S: Store, O: Write>(
 }
 
 /// A name in this folder that says the date and the time now, in UTC, as `FOLDER/20261126-211500`; where it is exact, with microseconds, as
-/// `FOLDER/20261126-211500.123456`.
-///
-/// # Errors
-///
-/// `File` where the system's clock can't be read; `Memory`.
+/// `FOLDER/20261126-211500.123456`. `File` where the system's clock can't be read.
 pub(crate) fn dated_name<R: Clock + AllocGlobal>(
     rt: &R,
     folder: &str,
     is_exact: bool,
 ) -> Result<String, Fault> {
-    let Some(now) = now_in_utc(rt) else {
-        return Err(Fault::File);
-    };
+    let now = now_in_utc(rt).ok_or(Fault::File)?;
     let (year, month, day) = (now.date.year, now.date.month, now.date.day);
     let (hour, minute, second) = (now.time.hour, now.time.minute, now.time.second);
     let stem = format!(in rt.alloc();

@@ -8,12 +8,8 @@ use line_watch::{BeginFault, Capture};
 use site_file::RandomAccessFile;
 use station_files::{ExitStatus, Failures, Fault, Place, Store, Wrong, worse};
 
-/// Begins a capture in the file of this name, if there is one.
-///
-/// # Errors
-///
-/// `Busy` where another station has the file; `Exists` where it holds something else than a capture of this program, and it stays as it is
-/// then; `File` where it can't be created or written; `Memory`.
+/// Begins a capture in the file of this name, if there is one: `Busy` where another station has the file; `Exists` where it holds something else
+/// than a capture of this program, and it stays as it is then; `File` where it can't be created or written; `Memory`.
 pub(crate) fn begin_capture<S: Store>(
     name: Option<&str>,
     store: &mut S,

@@ -13,7 +13,7 @@ use line_watch::Watch;
 use sii_words::{ImageFile, Plant};
 use station_files::{Entry, ExitStatus, Fault, Place, Store, load_line, read_image};
 use station_listing::Code;
-use station_rows::{Form, Rows, named, said};
+use station_rows::{Rows, named, said};
 use std::alloc::{AllocError, Global};
 use std::io::Write;
 use std::rt::Clock;
@@ -28,7 +28,6 @@ use wire_session::{RunOrder, begin_journal, run_script};
 /// A change of one slave.
 #[derive(Clone, Copy)]
 pub struct Change<'a> {
-    /// The slave that is meant.
     pub which: Which,
     /// The sizes of EEPROMs, as far as they are given.
     pub sizes: Sizes,
@@ -49,14 +48,11 @@ pub enum New<'a> {
     Image(&'a str),
 }
 
-/// What is there for a run.
+/// What is there for a run: the names of the line file and of the script, and the words of the slaves.
 #[derive(Drop)]
 struct Ready {
-    /// The name of the line file.
     line: String,
-    /// The name of the script.
     script: String,
-    /// The words of the slaves.
     words: Plant,
 }
 
@@ -65,21 +61,13 @@ const CUT: &str =
     "an earlier call was cut: recover, without a line file, ends it; of another line, name another folder by --state";
 
 /// The name of the line file of the last call that changed a slave, in this folder.
-///
-/// # Errors
-///
-/// Memory was refused.
 pub(crate) fn last_line(alloc: Global, folder: &str) -> Result<String, AllocError> {
     format!(in alloc; "{folder}/line.toml")
 }
 
 /// Changes one slave of the line on this wire: writes what a run needs into the folder, under names with the date and the time, and runs it. Prints
 /// the name of the file with the image of the slave as it was, the answers of the run, and, if it ends well, the words that have changed, and that
-/// all is done. Returns the exit status.
-///
-/// # Errors
-///
-/// As for `make_ready`, with no word of a slave written; then as for `run_script`; then `File` or `Memory`, as files or the output answer.
+/// all is done. Returns the exit status. Where `make_ready` fails, no word of a slave is written.
 pub(crate) fn change_slave<H: Host, W: Wire + Send + Drop, S: Store, O: Write, T: Write>(
     watch: Watch<'_, T, H>,
     wire: NumberedWire<W>,
@@ -97,23 +85,24 @@ pub(crate) fn change_slave<H: Host, W: Wire + Send + Drop, S: Store, O: Write, T
         },
         asked,
     };
-    match run_script(watch, wire, order, store, output).into_ended() {
-        Ok(ExitStatus::Done) => {
-            tell_changed(watch.rt.alloc(), asked.tells.form, ready, store, output)
-        }
-        ended => ended,
+    let ended = run_script(watch, wire, order, store, output).into_ended();
+    if !matches!(ended, Ok(ExitStatus::Done)) {
+        return ended;
     }
+    let alloc = watch.rt.alloc();
+    let Ready { line, words, .. } = ready;
+    let line = load_line(alloc, line.as_str(), store)?;
+    let report = changes_since(alloc, &Before { line, words }, store)?;
+    let mut rows = Rows::new(alloc, asked.tells.form);
+    put_changes(&mut rows, &report.changes)?;
+    let row = [said("", "done"), named("words", report.changes.len())];
+    rows.put("done", &row)?;
+    all_done(rows.write(output))
 }
 
 /// Looks whether an earlier call was cut, finds the line and the slave that is meant, and writes into the folder: the image of the slave as it is,
 /// whose name is printed; a backup of the line with an empty journal; and a script. The line file is the last one of the folder then. No word of a
-/// slave is written.
-///
-/// # Errors
-///
-/// `Exists` where an earlier call was cut; as for `read_image` of the new image; unless that is allowed, as for `validate_states`; as for `bring_up`;
-/// `NotOne` where not one slave is meant; as for `validate_measures`; unless that is allowed, as for `validate_image`; then as for `save_backup` and
-/// `begin_journal`, and `File` or `Memory`, as files or the output answer.
+/// slave is written. It is `Exists` where an earlier call was cut, and `NotOne` where not one slave is meant.
 fn make_ready<H: Clock + AllocGlobal, W: Wire, S: Store, O: Write>(
     rt: &H,
     wire: &mut NumberedWire<W>,
@@ -121,18 +110,34 @@ fn make_ready<H: Clock + AllocGlobal, W: Wire, S: Store, O: Write>(
     store: &mut S,
     output: &mut O,
 ) -> Result<Ready, WireFault> {
-    require_ended(rt.alloc(), change.folder, store)?;
-    let image = image_in(rt.alloc(), change.new, store)?;
+    let alloc = rt.alloc();
+    require_ended(alloc, change.folder, store)?;
+    let mut nothing: &[u8] = &[];
+    let image = match change.new {
+        New::Image(file) => Some(read_image(alloc, false, Some(file), &mut nothing, store)?),
+        New::Alias(_) => None,
+    };
     let meant = find_meant(rt, wire, change, image)?;
-    write_ready(rt, change, meant, store, output)
+    let stem = dated_name(rt, change.folder, true)?;
+    let bytes = meant.words.slave(meant.place).to_bytes()?;
+    let before = format!(in alloc; "{stem}-before.bin")?;
+    store.write(before.as_str(), &bytes)?;
+    writeln!(output, "kept {before}")?;
+    output.flush()?;
+    let script = write_script(alloc, stem.as_str(), meant.place, change.new, store)?;
+    let line = begin_line(alloc, change.folder, stem.as_str(), &meant.words, store)?;
+    let words = meant.words;
+    Ok(Ready {
+        line,
+        script,
+        words,
+    })
 }
 
-/// The slaves of a line, and which of them is meant.
+/// The words of the slaves of a line, and the place of the one that is meant.
 #[derive(Drop)]
 struct Meant {
-    /// The words of all slaves.
     words: Plant,
-    /// The place of the one that is meant.
     place: usize,
 }
 
@@ -171,46 +176,6 @@ fn meant_in(alloc: Global, found: FoundLine, change: Change<'_>) -> Result<Meant
     Ok(Meant { words, place })
 }
 
-/// Writes into the folder what a run needs that changes this slave.
-fn write_ready<H: Clock + AllocGlobal, S: Store, O: Write>(
-    rt: &H,
-    change: Change<'_>,
-    meant: Meant,
-    store: &mut S,
-    output: &mut O,
-) -> Result<Ready, WireFault>
-    requires { meant.place < length meant.words }
-{
-    let alloc = rt.alloc();
-    let stem = dated_name(rt, change.folder, true)?;
-    keep_image(alloc, stem.as_str(), &meant, store, output)?;
-    let script = write_script(alloc, stem.as_str(), meant.place, change.new, store)?;
-    let line = begin_line(alloc, change.folder, stem.as_str(), &meant.words, store)?;
-    Ok(Ready {
-        line,
-        script,
-        words: meant.words,
-    })
-}
-
-/// Writes the image of the slave that is meant to a file, and prints its name.
-fn keep_image<S: Store, O: Write>(
-    alloc: Global,
-    stem: &str,
-    meant: &Meant,
-    store: &mut S,
-    output: &mut O,
-) -> Result<(), Fault>
-    requires { meant.now.place < length meant.now.words }
-{
-    let bytes = meant.words.slave(meant.place).to_bytes()?;
-    let before = format!(in alloc; "{stem}-before.bin")?;
-    store.write(before.as_str(), &bytes)?;
-    writeln!(output, "kept {before}")?;
-    output.flush()?;
-    Ok(())
-}
-
 /// Writes the script that gives the slave at this place what it is to get, and returns its name.
 fn write_script<S: Store>(
     alloc: Global,
@@ -219,17 +184,22 @@ fn write_script<S: Store>(
     new: New<'_>,
     store: &mut S,
 ) -> Result<String, Fault> {
-    let text = script_text(alloc, place, new)?;
+    let text = match new {
+        New::Alias(value) => {
+            format!(in alloc; "[[command]]\nalias = {{ slave = {place}, value = {value} }}\n")?
+        }
+        New::Image(file) => {
+            let file = spelt(alloc, file)?;
+            format!(in alloc; "[[command]]\nimage = {{ slave = {place}, file = \"{file}\" }}\n")?
+        }
+    };
     let script = format!(in alloc; "{stem}-script.toml")?;
     store.write(script.as_str(), text.as_bytes())?;
     Ok(script)
 }
 
-/// Looks whether the last call that changed a slave has left nothing to do in the folder. In a folder that can't be read there was none.
-///
-/// # Errors
-///
-/// `Exists` where it was cut; as for `begin_journal`.
+/// Looks whether the last call that changed a slave has left nothing to do in the folder: `Exists` where it was cut. In a folder that can't be
+/// read there was none.
 pub(crate) fn require_ended<S: Store>(
     alloc: Global,
     folder: &str,
@@ -245,34 +215,6 @@ pub(crate) fn require_ended<S: Store>(
         store.note(Code::Exists, Place::File(line.as_str()), &CUT);
     }
     ended
-}
-
-/// The image that a slave gets, if it gets one.
-fn image_in<S: Store>(
-    alloc: Global,
-    new: New<'_>,
-    store: &mut S,
-) -> Result<Option<ImageFile>, Fault> {
-    match new {
-        New::Image(file) => {
-            let mut nothing: &[u8] = &[];
-            Ok(Some(read_image(alloc, false, Some(file), &mut nothing, store)?))
-        }
-        New::Alias(_) => Ok(None),
-    }
-}
-
-/// The script that gives the slave at this place what it is to get.
-fn script_text(alloc: Global, place: usize, new: New<'_>) -> Result<String, AllocError> {
-    match new {
-        New::Alias(value) => {
-            format!(in alloc; "[[command]]\nalias = {{ slave = {place}, value = {value} }}\n")
-        }
-        New::Image(file) => {
-            let file = spelt(alloc, file)?;
-            format!(in alloc; "[[command]]\nimage = {{ slave = {place}, file = \"{file}\" }}\n")
-        }
-    }
 }
 
 /// A text as it stands between double quotes in TOML.
@@ -299,56 +241,15 @@ fn begin_line<S: Store>(
     store: &mut S,
 ) -> Result<String, WireFault> {
     let line = format!(in alloc; "{stem}.toml")?;
-    save_words(alloc, line.as_str(), words, store)?;
-    let mut unseen: Vec<u8> = Vec::new(alloc);
-    begin_journal(alloc, line.as_str(), store, &mut unseen)?;
-    make_last(alloc, folder, line.as_str(), store)?;
-    Ok(line)
-}
-
-/// Writes a backup of slaves with these words.
-fn save_words<S: Store>(
-    alloc: Global,
-    line: &str,
-    words: &Plant,
-    store: &mut S,
-) -> Result<(), WireFault> {
     let mut slaves = Vec::new(alloc);
     for slave in 0..words.len() {
         slaves.push(words.slave(slave).try_copy()?)?;
     }
-    save_backup(alloc, line, &slaves, store)
-}
-
-/// Makes this line file the last one of the folder.
-fn make_last<S: Store>(
-    alloc: Global,
-    folder: &str,
-    line: &str,
-    store: &mut S,
-) -> Result<(), Fault> {
-    let Some(text) = store.read(alloc, line)? else {
-        return Err(Fault::File);
-    };
+    save_backup(alloc, line.as_str(), &slaves, store)?;
+    let mut unseen: Vec<u8> = Vec::new(alloc);
+    begin_journal(alloc, line.as_str(), store, &mut unseen)?;
+    let text = store.read(alloc, line.as_str())?.ok_or(Fault::File)?;
     let last = last_line(alloc, folder)?;
     store.write(last.as_str(), &text)?;
-    Ok(())
-}
-
-/// Prints the words that a run has changed, and that all is done.
-fn tell_changed<S: Store, O: Write>(
-    alloc: Global,
-    form: Form,
-    ready: Ready,
-    store: &mut S,
-    output: &mut O,
-) -> Result<ExitStatus, WireFault> {
-    let Ready { line, words, .. } = ready;
-    let line = load_line(alloc, line.as_str(), store)?;
-    let report = changes_since(alloc, &Before { line, words }, store)?;
-    let mut rows = Rows::new(alloc, form);
-    put_changes(&mut rows, &report.changes)?;
-    let row = [said("", "done"), named("words", report.changes.len())];
-    rows.put("done", &row)?;
-    all_done(rows.write(output))
+    Ok(line)
 }

@@ -36,11 +36,7 @@ pub enum Purpose<'a> {
     Verify(&'a str),
 }
 
-/// Brings up the line, and hands its EEPROMs back.
-///
-/// # Errors
-///
-/// As for `bring_up`, which finds 64 slaves at most.
+/// Brings up the line, of 64 slaves at most, and hands its EEPROMs back.
 pub(crate) fn find_slaves<H: Clock + AllocGlobal, W: Wire>(
     rt: &H,
     wire: &mut NumberedWire<W>,
@@ -54,12 +50,8 @@ pub(crate) fn find_slaves<H: Clock + AllocGlobal, W: Wire>(
 }
 
 /// Reads one slave of the line on this wire, and prints what is asked for of its words. No word of a slave is written, and no file that is there.
-/// Returns the exit status: `Refused` where the words differ from an image.
-///
-/// # Errors
-///
-/// As for `bring_up`; `NotOne` where not one slave is meant; `Line` where it can't be worked on; as for `read_image` where a file is named;
-/// `Exists` where the file for the words holds others; `File` or `Memory`, as the file or the output answers.
+/// Returns the exit status: `Refused` where the words differ from an image. It is `NotOne` where not one slave is meant, `Line` where it can't be
+/// worked on, and `Exists` where the file for the words holds others.
 pub(crate) fn look_at_slave<H: Clock + AllocGlobal, W: Wire, S: Store, O: Write>(
     rt: &H,
     wire: &mut NumberedWire<W>,
@@ -69,36 +61,19 @@ pub(crate) fn look_at_slave<H: Clock + AllocGlobal, W: Wire, S: Store, O: Write>
 ) -> Result<ExitStatus, WireFault> {
     let found = find_slaves(rt, wire, &look.sizes)?;
     let place = look.which.place_in(&found)?;
-    let image = image_of(&found, place)?;
-    tell_image(rt.alloc(), look.purpose, &image, store, output)
-}
-
-/// The bytes of the slave at this place.
-fn image_of(found: &FoundLine, place: usize) -> Result<Vec<u8>, WireFault> {
-    let Some(slave) = found.slaves.get(place) else {
-        return Err(WireFault::Line(LineFault::NoSlaves));
+    let slave = found.slaves.get(place).ok_or(LineFault::NoSlaves)?;
+    let image = match &slave.words {
+        Ok(words) => words.to_bytes()?,
+        Err(why) => {
+            let (slave, why) = (u16::try_from(place).unwrap_or(u16::MAX), *why);
+            return Err(WireFault::Line(LineFault::Slave { slave, why }));
+        }
     };
-    match &slave.words {
-        Ok(words) => Ok(words.to_bytes()?),
-        Err(why) => Err(WireFault::Line(LineFault::Slave {
-            slave: u16::try_from(place).unwrap_or(u16::MAX),
-            why: *why,
-        })),
-    }
-}
-
-/// Prints what is asked for of the image of a slave.
-fn tell_image<S: Store, O: Write>(
-    alloc: Global,
-    purpose: Purpose<'_>,
-    image: &[u8],
-    store: &mut S,
-    output: &mut O,
-) -> Result<ExitStatus, WireFault> {
-    let mut input = image;
-    let ended = match purpose {
-        Purpose::Read(None) => return all_done(write_complete(image, output)),
-        Purpose::Read(Some(name)) => return all_done(write_new(alloc, name, image, store)),
+    let alloc = rt.alloc();
+    let mut input = image.as_slice();
+    let ended = match look.purpose {
+        Purpose::Read(None) => return all_done(write_complete(&image, output)),
+        Purpose::Read(Some(name)) => return all_done(write_new(alloc, name, &image, store)),
         Purpose::Verify(file) => verify_image(alloc, None, Some(file), &mut input, store, output),
         Purpose::Show(shown) => show_image(alloc, shown, &mut input, store, output),
         Purpose::Diff(compared) => diff_images(alloc, compared, &mut input, store, output),

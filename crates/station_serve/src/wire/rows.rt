@@ -1,12 +1,12 @@
 //! The subcommands of the program, with their help.
 
 use crate::arguments::{JSON, LINE, REPORT, VERBOSE};
-use crate::pages::explain_row;
+use crate::pages::EXPLAIN;
 use crate::wire::shared_arguments::{
     ANY_DEVICE, BESIDE, CAPTURE, CARRY, EVENTS, EXCHANGED, FILE, FORCE, FOUND, GIVE_UP, QUIET,
     RESIZE, SCRIPT, TAKE, TRUST, WORDS,
 };
-use crate::wire::slave_rows::{alias_row, diff_row, read_row, show_row, verify_row, write_row};
+use crate::wire::slave_rows::{ALIAS, DIFF, READ, SHOW, VERIFY, WRITE};
 use command_line::{
     Argument, INTERFACE, Kind, Program, STATE, Subcommand, TEXT, TIMEOUT,
     TYPED_COMMANDS as COMMANDS, WIRE, argument, subcommand,
@@ -46,10 +46,6 @@ and with LINE:
                    the line), same type, other type, torn, or changed",
     [COMPARED, WORDS, JSON, BESIDE, CARRY, TAKE, CAPTURE, QUIET]);
 
-fn scan_row() -> Subcommand {
-    SCAN
-}
-
 /// The line file of `backup`, where the files don't go to a folder.
 const BACKED: Argument = Argument {
     kind: Kind::WordUnless("to"),
@@ -84,10 +80,6 @@ and with --to, behind all:
   line NAME        the name of the line file",
     [BACKED, FOLDER, WORDS, JSON, BESIDE, CARRY, TAKE, CAPTURE, QUIET]);
 
-fn backup_row() -> Subcommand {
-    BACKUP
-}
-
 const INIT: Subcommand = subcommand!("init": "Makes an empty journal for the line",
     long: "Brings up the line, and makes an empty journal for as many slaves. No word of a slave is written.",
     after: "Example:\n  sii_wire -i eth0 init line.toml",
@@ -97,10 +89,6 @@ The line file has to name an image file for each slave, and these have to be the
 as backup leaves them. A journal that is there already is never written over:
 fault 94 Exists.",
     [LINE, JSON, BESIDE, CARRY, TAKE, TRUST, CAPTURE, QUIET]);
-
-fn init_row() -> Subcommand {
-    INIT
-}
 
 const RUN: Subcommand = subcommand!("run": "Runs the commands of a script on the line",
     long: "Brings up the line, submits the commands of the script in order, carries them out,
@@ -129,10 +117,6 @@ says replace = true with it, and a slave that has other words than its image fil
 (115), unless --found, --file or --exchanged names it. Commands of --file and --exchanged come first.",
     [LINE, SCRIPT, COMMANDS, BESIDE, CARRY, FORCE, TRUST, RESIZE, ANY_DEVICE, FOUND, FILE, EXCHANGED, REPORT, EVENTS, JSON, CAPTURE, QUIET]);
 
-fn run_row() -> Subcommand {
-    RUN
-}
-
 const PLAN: Subcommand =
     subcommand!("plan": "Says what a script would do to the line, and does nothing",
     long: "Brings up the line, and prints how run would answer each command of the script, which words of which slaves would change, and \
@@ -155,10 +139,6 @@ The line is found as for run: with the same flags, and refused for the same reas
 before anything is printed. No word of a slave and no file is written, but for that
 of --capture.",
     [LINE, SCRIPT, COMMANDS, JSON, BESIDE, CARRY, FORCE, TRUST, RESIZE, ANY_DEVICE, FOUND, FILE, EXCHANGED, CAPTURE, QUIET]);
-
-fn plan_row() -> Subcommand {
-    PLAN
-}
 
 /// The line file of `recover`, where it isn't the line of the last call on one slave.
 const RECOVERED: Argument = Argument {
@@ -188,10 +168,6 @@ Without LINE it recovers the line on which alias or write was cut, and prints
 first.",
     [RECOVERED, BESIDE, CARRY, TAKE, TRUST, FOUND, FILE, EXCHANGED, REPORT, JSON, CAPTURE, QUIET]);
 
-fn recover_row() -> Subcommand {
-    RECOVER
-}
-
 const PENDING: Subcommand =
     subcommand!("pending": "Says what a recovery is still to write, and gives up a slave that can't be written",
     long: "Brings up the line, and prints which words of each slave recover would write. Gives a slave up where that is said.",
@@ -212,28 +188,11 @@ one is given up.
 Without LINE it is the line on which alias or write was cut.",
     [RECOVERED, GIVE_UP, JSON, BESIDE, CARRY, TAKE, TRUST, CAPTURE, QUIET]);
 
-fn pending_row() -> Subcommand {
-    PENDING
-}
-
-/// The subcommands, in the order of the help. A table that a function names becomes part of what is proved of it, so each row stands in a
-/// function of its own.
+/// The subcommands, in the order of the help.
 pub(crate) fn rows() -> [Subcommand; 14] {
     [
-        scan_row(),
-        read_row(),
-        show_row(),
-        alias_row(),
-        write_row(),
-        verify_row(),
-        diff_row(),
-        backup_row(),
-        init_row(),
-        run_row(),
-        plan_row(),
-        recover_row(),
-        pending_row(),
-        explain_row(),
+        SCAN, READ, SHOW, ALIAS, WRITE, VERIFY, DIFF, BACKUP, INIT, RUN, PLAN, RECOVER, PENDING,
+        EXPLAIN,
     ]
 }
 

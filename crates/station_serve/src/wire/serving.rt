@@ -15,22 +15,25 @@ use station_files::{ExitStatus, Failure, Failures, Fault, Store, report_fault};
 use station_rows::{LineRows, RefusedCommand};
 use station_troubles::{CAPTURE_OR_OUTPUT, Noting, OUTPUT, tell_more};
 use std::alloc::Global;
-use std::io;
-use std::io::{Read, Write};
+use std::io::{self, Write};
 use std::rt::Clock;
 use wire_faults::WireFault;
-use wire_frames::{EthernetWire, NumberedWire, TimedWire, Wire};
+use wire_frames::{NumberedWire, TimedWire, Wire};
 use wire_scan::{
-    CaptureNames, Mend, Mends, PendingOrder, ScanOptions, keep_capture_separate, list_pending,
-    scan_files, scan_line,
+    CaptureNames, Mend, PendingOrder, ScanOptions, keep_capture_separate, list_pending, scan_files,
+    scan_line,
 };
 use wire_session::{init_on_wire, mend_line, plan_on_wire, recover_line, run_script};
 
+/// A wire that a call owns.
+pub trait OwnWire: Wire + Send + Drop {}
+
+impl<L: Wire + Send + Drop> OwnWire for L {}
+
 /// A connection to a line.
 #[derive(Drop)]
-pub struct Connection<R, W> {
-    /// The wire, which is read and written by these two.
-    pub wire: EthernetWire<R, W>,
+pub struct Connection<L> {
+    pub wire: L,
     /// The number after which the frames are numbered.
     pub number: u32,
 }
@@ -55,8 +58,7 @@ pub struct Screen<'a, E, T> {
 /// after all others.
 pub fn serve_on_wire<
     H: Host,
-    R: Read + Send + Drop,
-    W: Write + Send + Drop,
+    L: OwnWire,
     S: Store,
     O: Write,
     E: Write,
@@ -65,7 +67,7 @@ pub fn serve_on_wire<
     rt: &H,
     arguments: Arguments<'_>,
     screen: Screen<'_, E, T>,
-    connection: Connection<R, W>,
+    connection: Connection<L>,
     store: &mut S,
     output: &mut O,
 ) -> ExitStatus {
@@ -76,19 +78,11 @@ pub fn serve_on_wire<
 }
 
 /// The same with the script among the files of the store. What is noted of files is kept, if a fault has a second line.
-fn serve_noting<
-    H: Host,
-    R: Read + Send + Drop,
-    W: Write + Send + Drop,
-    S: Store,
-    O: Write,
-    E: Write,
-    T: Write + Send + Copy + Drop,
->(
+fn serve_noting<H: Host, L: OwnWire, S: Store, O: Write, E: Write, T: Write + Send + Copy + Drop>(
     rt: &H,
     arguments: Arguments<'_>,
     screen: Screen<'_, E, T>,
-    connection: Connection<R, W>,
+    connection: Connection<L>,
     store: &mut S,
     output: &mut O,
 ) -> ExitStatus {
@@ -100,19 +94,11 @@ fn serve_noting<
 }
 
 /// The same on a store that keeps what is noted, with what is printed as lines or as rows.
-fn serve_job<
-    H: Host,
-    R: Read + Send + Drop,
-    W: Write + Send + Drop,
-    S: Store,
-    O: Write,
-    E: Write,
-    T: Write + Send + Copy + Drop,
->(
+fn serve_job<H: Host, L: OwnWire, S: Store, O: Write, E: Write, T: Write + Send + Copy + Drop>(
     rt: &H,
     arguments: Arguments<'_>,
     screen: Screen<'_, E, T>,
-    connection: Connection<R, W>,
+    connection: Connection<L>,
     store: &mut Noting<'_, S>,
     lines: &mut LineRows<'_, O>,
 ) -> ExitStatus {
@@ -172,18 +158,11 @@ fn put_fault<O: Write>(fault: WireFault, lines: &mut LineRows<'_, O>) {
 
 /// Carries out a task on this wire, whose frames are written to the capture, if there is one, and count for the progress. The line of the progress
 /// gives way to the text. Gives the commands that a plan refuses, too.
-fn do_observed<
-    H: Host,
-    R: Read + Send + Drop,
-    W: Write + Send + Drop,
-    S: Store,
-    O: Write,
-    T: Write + Send + Drop,
->(
+fn do_observed<H: Host, L: OwnWire, S: Store, O: Write, T: Write + Send + Drop>(
     watch: Watch<'_, T, H>,
     arguments: &Arguments<'_>,
     capture: Option<&Capture<S::File>>,
-    connection: Connection<R, W>,
+    connection: Connection<L>,
     store: &mut S,
     output: &mut O,
 ) -> (Result<ExitStatus, WireFault>, Vec<RefusedCommand>) {
@@ -197,23 +176,14 @@ fn do_observed<
     };
     let mut cleared = Cleared::new(output, progress, rt);
     let mut refused = Vec::new(rt.alloc());
-    let ended = do_task(
-        watch,
-        arguments.task,
-        numbered,
-        store,
-        &mut cleared,
-        &mut refused,
-    );
+    let task = arguments.task;
+    let ended = do_task(watch, task, numbered, store, &mut cleared, &mut refused);
     watch.erase();
     (ended, refused)
 }
 
-/// Begins the capture, if one is named and it is none of the files that the call works on.
-///
-/// # Errors
-///
-/// As for `keep_capture_separate`, and then as for `begin_capture`.
+/// Begins the capture, if one is named and it is none of the files that the call works on. It fails as `keep_capture_separate` and then
+/// `begin_capture` do.
 fn begin_separate<S: Store>(
     alloc: Global,
     capture: Option<&str>,
@@ -227,7 +197,7 @@ fn begin_separate<S: Store>(
 }
 
 /// Carries out a task on this wire. The commands that a plan refuses are put to `refused`.
-fn do_task<H: Host, W: Wire + Send + Drop, S: Store, O: Write, T: Write>(
+fn do_task<H: Host, W: OwnWire, S: Store, O: Write, T: Write>(
     watch: Watch<'_, T, H>,
     task: Task<'_>,
     wire: NumberedWire<W>,
@@ -249,7 +219,11 @@ fn do_task<H: Host, W: Wire + Send + Drop, S: Store, O: Write, T: Write>(
             run_script(watch, wire, order, store, output).into_ended()
         }
         Task::Recover(line, asked) => recover(watch, wire, line, asked, store, output),
-        Task::RecoverLast(folder, asked) => recover_last(watch, wire, folder, asked, store, output),
+        Task::RecoverLast(folder, asked) => {
+            let line = last_line(watch.rt.alloc(), folder)?;
+            writeln!(output, "line {line}")?;
+            recover(watch, wire, line.as_str(), asked, store, output)
+        }
         Task::Pending(order, folder) => pending(watch, wire, order, folder, store, output),
         Task::Change(change) => change_slave(watch, wire, change, store, output),
     }
@@ -280,22 +254,8 @@ fn read<H: Clock + AllocGlobal, W: Wire, S: Store, O: Write>(
     }
 }
 
-/// Recovers the line on which the last call that changed one slave was cut.
-fn recover_last<H: Host, W: Wire + Send + Drop, S: Store, O: Write, T: Write>(
-    watch: Watch<'_, T, H>,
-    wire: NumberedWire<W>,
-    folder: &str,
-    asked: ScanOptions,
-    store: &mut S,
-    output: &mut O,
-) -> Result<ExitStatus, WireFault> {
-    let line = last_line(watch.rt.alloc(), folder)?;
-    writeln!(output, "line {line}")?;
-    recover(watch, wire, line.as_str(), asked, store, output)
-}
-
 /// Recovers a line, and writes the image files to their slaves of which that is said.
-fn recover<H: Host, W: Wire + Send + Drop, S: Store, O: Write, T: Write>(
+fn recover<H: Host, W: OwnWire, S: Store, O: Write, T: Write>(
     watch: Watch<'_, T, H>,
     wire: NumberedWire<W>,
     line: &str,
@@ -303,7 +263,8 @@ fn recover<H: Host, W: Wire + Send + Drop, S: Store, O: Write, T: Write>(
     store: &mut S,
     output: &mut O,
 ) -> Result<ExitStatus, WireFault> {
-    if writes_images(&asked.mends) {
+    let is_image_right = |said: &Mend| matches!(said, Mend::File | Mend::Exchanged);
+    if asked.mends.iter().any(is_image_right) {
         return mend_line(watch, wire, line, asked, store, output).into_ended();
     }
     all_done(recover_line(watch.rt, wire, line, asked, store, output).into_ended())
@@ -311,7 +272,7 @@ fn recover<H: Host, W: Wire + Send + Drop, S: Store, O: Write, T: Write>(
 
 /// Prints what a recovery is still to write to a line, that of the last call that changed one slave where none is named, and gives up a slave and
 /// recovers the others, if that is said.
-fn pending<H: Host, W: Wire + Send + Drop, S: Store, O: Write, T: Write>(
+fn pending<H: Host, W: OwnWire, S: Store, O: Write, T: Write>(
     watch: Watch<'_, T, H>,
     wire: NumberedWire<W>,
     order: PendingOrder<'_>,
@@ -319,33 +280,18 @@ fn pending<H: Host, W: Wire + Send + Drop, S: Store, O: Write, T: Write>(
     store: &mut S,
     output: &mut O,
 ) -> Result<ExitStatus, WireFault> {
-    let last = match folder {
-        Some(folder) => Some(last_line(watch.rt.alloc(), folder)?),
-        None => None,
-    };
-    let line = match &last {
-        Some(last) => last.as_str(),
-        None => order.line,
-    };
+    let last = folder
+        .map(|folder| last_line(watch.rt.alloc(), folder))
+        .transpose()?;
+    let line = last.as_ref().map_or(order.line, |last| last.as_str());
     let order = PendingOrder { line, ..order };
     let mut wire = wire;
-    match (
-        list_pending(watch.rt, &mut wire, order, store, output),
-        order.gives_up,
-    ) {
-        (Ok(()), Some(_)) => recover(watch, wire, order.line, order.asked, store, output),
-        (ended, _) => {
-            drop(wire);
-            all_done(ended)
-        }
+    let listed = list_pending(watch.rt, &mut wire, order, store, output);
+    if listed.is_ok() && order.gives_up.is_some() {
+        return recover(watch, wire, line, order.asked, store, output);
     }
-}
-
-/// Whether image files are to be written to their slaves.
-fn writes_images(mends: &Mends) -> bool {
-    mends
-        .iter()
-        .any(|said| matches!(said, Mend::File | Mend::Exchanged))
+    drop(wire);
+    all_done(listed)
 }
 
 /// `Done` where no fault came.

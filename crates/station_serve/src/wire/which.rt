@@ -33,11 +33,7 @@ impl Which {
         }
     }
 
-    /// The place of the slave that is meant on a line that was found.
-    ///
-    /// # Errors
-    ///
-    /// `NotOne` where it is none of the line, or where several are like this.
+    /// The place of the slave that is meant on a line that was found: `NotOne` where it is none of the line, or where several are like this.
     pub(crate) fn place_in(self, found: &FoundLine) -> Result<usize, WireFault>
         ensures { IfOk result (λ place. place < length found.now.slaves.items) }
     {
@@ -53,10 +49,8 @@ impl Which {
         if count == 1 && at < slaves {
             return Ok(at);
         }
-        Err(WireFault::NotOne {
-            found: count,
-            slaves,
-        })
+        let found = count;
+        Err(WireFault::NotOne { found, slaves })
     }
 }
 
@@ -65,34 +59,31 @@ pub(crate) fn which_in<'a>(
     given: &ParsedArguments<'a>,
     name: &str,
 ) -> Result<(Which, Option<&'a str>), &'static str> {
-    match (named(given)?, given.text("P"), given.text(name)) {
-        (Some(which), word, None) => Ok((which, word)),
-        (Some(_), _, Some(_)) => Err("P isn't taken with --alias or --device"),
-        (None, Some(place), word) => match small_in(place) {
-            Some(place) if usize::from(place) < MAX_SLAVES => Ok((Which::Place(place), word)),
-            _ => Err("P is the slave's place on the line, 0 to 63"),
-        },
-        (None, None, _) => {
-            Err("which slave? P is its place on the line, from 0; or say --alias or --device")
+    let (first, word) = (given.text("P"), given.text(name));
+    let which = match (given.text("alias"), given.text("device"), first) {
+        (Some(_), Some(_), _) => return Err("--alias isn't taken with --device"),
+        (Some(alias), None, _) => {
+            Which::Alias(small_in(alias).ok_or("--alias is a number, 0 to 65535")?)
         }
-    }
-}
-
-/// The slave that an option means, if one is given.
-fn named(given: &ParsedArguments<'_>) -> Result<Option<Which>, &'static str> {
-    match (given.text("alias"), given.text("device")) {
-        (None, None) => Ok(None),
-        (Some(alias), None) => match small_in(alias) {
-            Some(alias) => Ok(Some(Which::Alias(alias))),
-            None => Err("--alias is a number, 0 to 65535"),
+        (None, Some(device), _) => device_in(device).ok_or(
+            "--device is VENDOR:PRODUCT or VENDOR:PRODUCT:SERIAL, each a number, as 0x00000002",
+        )?,
+        (None, None, Some(place)) => match small_in(place) {
+            Some(place) if usize::from(place) < MAX_SLAVES => return Ok((
+                Which::Place(place),
+                word,
+            )),
+            _ => return Err("P is the slave's place on the line, 0 to 63"),
         },
-        (None, Some(device)) => match device_in(device) {
-            Some(which) => Ok(Some(which)),
-            None => Err(
-                "--device is VENDOR:PRODUCT or VENDOR:PRODUCT:SERIAL, each a number, as 0x00000002",
-            ),
-        },
-        (Some(_), Some(_)) => Err("--alias isn't taken with --device"),
+        (None, None, None) => {
+            return Err(
+                "which slave? P is its place on the line, from 0; or say --alias or --device",
+            );
+        }
+    };
+    match word {
+        None => Ok((which, first)),
+        Some(_) => Err("P isn't taken with --alias or --device"),
     }
 }
 

@@ -11,7 +11,7 @@ use Rattle.script_session.proofs.threads.serve_task.Goals as goal
 pub serve_at_desk-requires-clause-opening : goal.serve_at_desk-requires-clause-opening
 serve_at_desk-requires-clause-opening g c κs lives = record {
   core = refl;
-  none = ap (λ (b : Book). b.accepted) (c.of-opening.ensures.core ∙ c.into_parts-core.ensures.book) ∙ c.requires;
+  none = ap (λ (b : Book). b.accepted) (c.of-opening.ensures.core ∙ c.into_parts-core.ensures.book) ∙ c.requires.none;
   tickets = (refl, refl);
   refusals = (refl, refl);
   parts = (omega (arith, c.of-opening.ensures.parts.0), omega (arith, c.of-opening.ensures.parts.1));
@@ -33,7 +33,7 @@ returns-in-Ok-serve_at_desk-clause-parts g c =
     let back = c.put_back in
     serves-parts c.args.alone c.args.task.work.commands.items c.of-opening.result.core parts.result.1.seen prepared.prepared.sites desk.at
     (c.of-opening.ensures.core ∙ parts.ensures.book) parts.ensures.seen prepared.ensures.sites.separate desk.ensures.served.of_sites desk.ensures.served.ending
-    g.D.Device.follows g.D.Device.well g.D.Lends.tells c.args.task.turns prepared.prepared.entire.reported back.result prepared.ensures.turning back.ensures.left back.ensures.reported back.ensures.sound
+    g.D.Device.follows g.D.Device.well g.D.Lends.tells c.args.task.turns prepared.prepared.entire.reported back.result prepared.ensures.turning back.ensures.left back.ensures.reported back.ensures.sound back.ensures.words
     prepared.ensures.reported (ap (λ (l : Line). length l.sizes) (sym parts.ensures.line) ∙ c.prepare.ensures.count) back.ensures.followed
 
 pub returns-in-Ok-serve_at_desk-clause-failed : goal.returns-in-Ok-serve_at_desk-clause-failed

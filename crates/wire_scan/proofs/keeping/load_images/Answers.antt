@@ -1,7 +1,6 @@
-use Rattle.std.proofs.Common.{◌≡◌, ℕ, ◌+◌, ◌<◌, List, [], ◌∷◌, ◌++◌, Option, length, map, take, get_or, subst, ap, ◌∙◌, arith, rules}
+use Rattle.std.proofs.Common.{◌≡◌, ℕ, ◌+◌, ◌<◌, List, [], ◌∷◌, ◌++◌, Option, length, map, take, get_or, subst, ap, ◌∙◌, rules}
 use Rattle.std.proofs.Common.{String, Global, string_bytes}
 use Rattle.std.specs.List.{AllZip}
-use Rattle.station_files.specs.FileNames.{spelt}
 use Rattle.station_files.specs.Files.{Known}
 use Rattle.sii_words.proofs.ListedMembers.{AllZip-take-step}
 use Rattle.wire_scan.specs.Keeping.{IsImageOf}

@@ -1,4 +1,4 @@
-use Rattle.std.proofs.Common.{◌≡◌, ℕ, ◌+◌, List, rules, sym, subst}
+use Rattle.std.proofs.Common.{ℕ, ◌+◌, List, rules, sym, subst}
 use Rattle.wire_scan.specs.Keeping.{MendsBelow}
 use Rattle.wire_scan.proofs.KeptWords.{read_at, words_at}
 use Rattle.wire_scan.proofs.Mending.{mends_more, unsaid}

@@ -1,5 +1,5 @@
 use Rattle.std.proofs.Common.{refl}
-use Rattle.wire_scan.proofs.KeptWords.{made, opened_after}
+use Rattle.wire_scan.proofs.Opened.{made, opened_after}
 use Rattle.wire_scan.proofs.opening.open_line.Goals as goal
 
 pub returns-in_err-make_images-clause-others : goal.returns-in_err-make_images-clause-others

@@ -1,4 +1,9 @@
 use Rattle.wire_scan.proofs.GivingUp.{first_found, given_found, none_written, refused_after}
+use Rattle.std.proofs.Common.{◌∙◌, ap, Option, ℕ}
+use Rattle.wire_faults.specs.declared.faults.WireFault.{WireFault}
+use Rattle.wire_scan.specs.Opening.{IfOtherWords, IsOtherFault, RefusesFound}
+use Rattle.wire_scan.specs.Pending.{let_pass}
+use Rattle.wire_scan.proofs.Refusing.{handed_on, never_refused, of_other}
 use Rattle.wire_scan.proofs.pending.list_pending.Goals as goal
 
 pub returns-in-Ok-clause-given : goal.returns-in-Ok-clause-given
@@ -19,3 +24,17 @@ returns-in-Err-clause-first g c =
 pub returns-in-Ok-clause-refused : goal.returns-in-Ok-clause-refused
 returns-in-Ok-clause-refused g c =
     refused_after c.list_found.result (g.S.Store.files c.args.store.now) (g.S.Store.files c.find_line.new.store) (g.S.Store.files c.list_found.new.store) c.find_line.ensures.same c.list_found.ensures.refused
+
+pub returns-in-Ok-clause-words : goal.returns-in-Ok-clause-words
+returns-in-Ok-clause-words g c =
+    let mends = let_pass c.args.order.gives_up c.args.order.asked.mends in
+    let refuses = RefusesFound (g.S.Store.files c.args.store.now) c.args.order.line.now mends in
+    handed_on (λ (fault : WireFault). IfOtherWords refuses fault) (λ (fault : WireFault). IsOtherFault fault) c.list_found.result (of_other refuses) c.list_found.ensures.failed
+
+pub returns-in-Err-clause-words : goal.returns-in-Err-clause-words
+returns-in-Err-clause-words g c = rw c.options_of.ensures at c.in-Err.ensures.refused
+
+pub returns-in-Err-clause-passed : goal.returns-in-Err-clause-passed
+returns-in-Err-clause-passed g c = λ none.
+    let all = c.options_of.ensures ∙ ap (λ (slave : Option ℕ). let_pass slave c.args.order.asked.mends) none in
+    never_refused (g.S.Store.files c.args.store.now) c.args.order.line.now c.options_of.result.mends c.in-Err.fault all c.in-Err.ensures.refused
