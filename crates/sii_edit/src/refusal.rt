@@ -3,69 +3,56 @@ ghost use Rattle.sii_edit.specs.Refusal.{placed, entire};
 
 use sii_cats::{CatFault, ChainFault};
 use std::alloc::{AllocError, AllocFailed};
-use std::error::Error;
 use std::fmt;
+use thiserror::Error;
 
 /// Why a command is refused.
-#[derive(Clone, Copy, Debug, PartialEq, Eq)]
+#[derive(Clone, Copy, Debug, PartialEq, Eq, Error)]
 pub enum Cause {
     /// The line has no such slave.
+    #[error("the line has no such slave")]
     NoSlave,
     /// Both slaves of a swap are the same.
+    #[error("both slaves of the swap are the same")]
     SameSlave,
     /// The group has no edits.
+    #[error("the group has no edits")]
     EmptyGroup,
     /// The group has more than 64 edits.
+    #[error("the group has more than 64 edits")]
     GroupTooLong,
     /// The image is longer than the device.
+    #[error("the image is longer than the device")]
     ImageTooLong,
     /// The check byte in word 7 is wrong.
+    #[error("the check byte is wrong")]
     BadCheck,
     /// The slave doesn't have the expected identity.
+    #[error("the slave has another identity than expected")]
     WrongIdentity,
     /// There is no category of this type to be removed.
+    #[error("there is no category of this type")]
     NoSuchCategory,
     /// There are several categories of this type, so none is chosen.
+    #[error("there are several categories of this type")]
     SeveralCategories,
     /// The content of a category of type `kind` is malformed, or no category may have this type. For an image, `kind` is the
     /// type of the first malformed category of the words that it would leave.
+    #[error("a category of type {kind} is malformed")]
     BadCategory { kind: u16 },
     /// The categories don't fit into the device.
+    #[error("the categories do not fit into the device")]
     NoRoom,
     /// The chain of categories can't be read.
+    #[error("the chain of categories can not be read")]
     BadChain,
     /// The process image would be over its limits: 1,486 bytes, and 8 segments in a slave.
+    #[error("the process image would be over its limits")]
     ImageOverLimit,
     /// Memory was refused.
+    #[error("there is no memory")]
     Memory,
 }
-
-impl fmt::Display for Cause {
-    fn fmt<W: fmt::Write>(&self, f: &mut fmt::Formatter<W>) -> fmt::Result {
-        let text = match self {
-            Cause::NoSlave => "the line has no such slave",
-            Cause::SameSlave => "both slaves of the swap are the same",
-            Cause::EmptyGroup => "the group has no edits",
-            Cause::GroupTooLong => "the group has more than 64 edits",
-            Cause::ImageTooLong => "the image is longer than the device",
-            Cause::BadCheck => "the check byte is wrong",
-            Cause::WrongIdentity => "the slave has another identity than expected",
-            Cause::NoSuchCategory => "there is no category of this type",
-            Cause::SeveralCategories => "there are several categories of this type",
-            Cause::BadCategory { kind } => return write!(
-                f,
-                "a category of type {kind} is malformed"
-            ),
-            Cause::NoRoom => "the categories do not fit into the device",
-            Cause::BadChain => "the chain of categories can not be read",
-            Cause::ImageOverLimit => "the process image would be over its limits",
-            Cause::Memory => "there is no memory",
-        };
-        f.write_str(text)
-    }
-}
-
-impl Error for Cause {}
 
 /// The refusal of a command.
 #[derive(Clone, Copy, Debug, PartialEq, Eq)]
