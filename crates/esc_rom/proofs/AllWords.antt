@@ -7,11 +7,11 @@ use Rattle.esc_model.specs.WordAccess.{IsAt, IsIdle, OnlyRests}
 use Rattle.esc_model.proofs.OnlyResting.{OnlyRests-then, OnlyRests-none, OnlyRests-length, MayRest-only}
 use Rattle.site_core.specs.State.{Seen, HalfGoes, clock, words_held}
 use Rattle.site_core.proofs.Times.{Follows-clock}
-use Rattle.esc_rom.specs.declared.poll.Rested.{Rested}
-use Rattle.esc_rom.specs.declared.poll.Rested.TheVariants.{Well, Failed}
+use Rattle.rom_steps.specs.declared.back.Rested.{Rested}
+use Rattle.rom_steps.specs.declared.back.Rested.TheVariants.{Well, Failed}
 use Rattle.esc_rom.specs.declared.fault.RomFault.{RomFault}
 use Rattle.esc_rom.specs.declared.fault.RomFault.TheVariants as rom
-use Rattle.esc_rom.specs.declared.reading.WordPair.{WordPair}
+use Rattle.rom_steps.specs.declared.back.WordPair.{WordPair}
 use Rattle.esc_rom.specs.Runs.{Quiet, Ran, StopsQuietly, IsSeen, Waited}
 use Rattle.esc_rom.specs.WordPairs.{ReadsPair, ReadsAll}
 use Rattle.esc_rom.specs.Access.{BecomesRead, BecomesUnread, ReadsWords}

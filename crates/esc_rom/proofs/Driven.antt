@@ -1,7 +1,6 @@
 -- The datagrams of an access that were sent so far.
-use Rattle.std.proofs.Common.{◌≡◌, ℕ, ◌+◌, ◌<◌, Bool, true, false, List, [], ◌∷◌, ◌++◌, length, map, take, Some, slice_get, Result, Ok, Err, IsErr, refl, sym, ap, subst, ◌∙◌, arith, length-append}
+use Rattle.std.proofs.Common.{◌≡◌, ℕ, ◌+◌, ◌<◌, Bool, true, false, List, [], ◌∷◌, ◌++◌, length, take, Option, Some, None, slice_get, Result, Ok, Err, IsErr, refl, sym, ap, subst, ◌∙◌, arith, length-append}
 use Rattle.std.proofs.lemmas.Bool.{false≢true}
-use Rattle.std.proofs.lemmas.List.{map-append}
 use Rattle.ecat_frame.specs.Frame.{Pdu, sent}
 use Rattle.ecat_frame.specs.Command.{command_of}
 use Rattle.ecat_frame.specs.declared.command.Command.{Command}
@@ -11,24 +10,40 @@ use Rattle.site_core.specs.declared.fault.DeviceFault.{DeviceFault}
 use Rattle.site_core.specs.declared.fault.DeviceFault.TheVariants as device
 use Rattle.site_core.specs.State.{Seen}
 use Rattle.site_core.specs.Calls.{ExchangesFrame}
-use Rattle.rom_steps.specs.Courses as steps
+use Rattle.rom_steps.specs.Courses.{Asked}
 use Rattle.rom_steps.specs.Back.{IsBack}
 use Rattle.rom_steps.specs.declared.back.Back.{Back}
 use Rattle.rom_steps.specs.declared.back.Back.TheVariants as backs
+use Rattle.rom_steps.specs.declared.back.Rested.{Rested}
+use Rattle.rom_steps.specs.declared.back.WordPair.{WordPair}
 use Rattle.rom_steps.specs.declared.datagram.ToSend.{ToSend}
 use Rattle.rom_steps.specs.declared.step.End.{End}
 use Rattle.rom_steps.specs.declared.step.Step.{Step}
-use Rattle.rom_steps.specs.declared.step.Step.TheVariants.{Forces, Frees, WaitsToClear, Clears, Commands, WaitsToFetch, Fetches, Issues, WaitsToSettle, Tidies, Ended, Stopped}
-use Rattle.rom_steps.specs.Remaining.{IsNext, Moves, left, pdu_to}
+use Rattle.rom_steps.specs.declared.step.Step.TheVariants.{Forces, Frees, WaitsToClear, Clears, Waits, Commands, WaitsToFetch, Fetches, Issues, WaitsToSettle, Tidies, Ended, Stopped}
+use Rattle.rom_steps.specs.Remaining.{opening_end, waiting_end, reading_end, IsNext, Moves, Remains, left, pdu_to}
 use Rattle.rom_steps.specs.Complete.{Went, nothing_sent, one_more_sent}
 use Rattle.rom_steps.proofs.Stopping.{sends-some, stopped-moves}
 use Rattle.rom_steps.proofs.CompleteLaws.{went-ended, went-stopped, went-bounded}
-use Rattle.esc_rom.specs.declared.fault.Stop.{Stop}
+use Rattle.rom_steps.specs.declared.step.Stop.{Stop}
 use Rattle.esc_rom.specs.Sending.{Sends}
-use Rattle.esc_rom.specs.Courses.{Asked, AskedInTurn, outcome_of, frame_after}
-use Rattle.esc_rom.specs.Driving.{here, AsksOnce, IsEndOf, Drives}
+use Rattle.esc_rom.specs.Courses.{AskedInTurn, Takes, outcome_of, frame_after}
+use Rattle.esc_rom.specs.Driving.{AsksOnce, IsEndOf, is_open, rest_at, words_at}
 use Rattle.esc_rom.proofs.Courses.{asked-then}
 use Rattle.esc_rom.proofs.Exchanges.{one_answer}
+
+-- WHAT AN END TELLS
+
+pub open-is : (opened : Bool) → is_open (opening_end opened) ≡ opened
+open-is true = refl
+open-is false = refl
+
+pub rest-is : (found : Option Rested) → rest_at (waiting_end found) ≡ found
+rest-is None = refl
+rest-is (Some rested) = refl
+
+pub words-are : (pair : Option WordPair) → words_at (reading_end pair) ≡ pair
+words-are None = refl
+words-are (Some pair) = refl
 
 -- ONE DATAGRAM
 
@@ -75,8 +90,8 @@ module _ {old : Seen} {slave : ℕ} {order wanted : Pdu} (answer : List Pdu) {ne
 
 -- So many datagrams led from the first step to this one.
 pub record WentSo (slave : ℕ) (first : Step) (turns : ℕ) (a : Seen) (step : Step) (b : Seen) : Type 0 where
-  pub log : List steps.Asked
-  pub asked : AskedInTurn (map here log) a b
+  pub log : List Asked
+  pub asked : AskedInTurn log a b
   pub went : Went slave first log step
   pub turns_are : length log ≡ turns
 
@@ -89,13 +104,12 @@ module _ (slave : ℕ) (first : Step) (turns : ℕ) (a : Seen) (step : Step) (b 
       → WentSo slave first (turns + 1) a later c
   went-more order came later c next sent moves = record {
     log = so.log ++ one ∷ [];
-    asked = subst (λ (l : List Asked). AskedInTurn l a c) (sym (map-append here so.log (one ∷ [])))
-        (asked-then (map here so.log) (here one ∷ []) a b c so.asked (c, sent, refl));
+    asked = asked-then so.log (one ∷ []) a b c so.asked (c, sent, refl);
     went = one_more_sent order came later so.went next moves;
     turns_are = let long = length-append so.log (one ∷ []) in let before = so.turns_are in omega arith;
   }
     where
-      one : steps.Asked
+      one : Asked
       one = record { slave = slave; order = order; back = came }
 
   -- nothing is left when all turns are over
@@ -104,17 +118,18 @@ module _ (slave : ℕ) (first : Step) (turns : ℕ) (a : Seen) (step : Step) (b 
 
 over-by : (slave : ℕ) (first : Step) (turns : ℕ) (a : Seen) (step : Step) (b : Seen) → WentSo slave first turns a step b → left step ≡ 0
     → (result : Result End Stop) → IsEndOf step result
-    → Drives slave first a result b
+    → Takes (Remains slave first) a result b
 over-by slave first turns a (Ended end) b so over result is =
-    subst (λ (r : Result End Stop). Drives slave first a r b) (sym is)
+    subst (λ (r : Result End Stop). Takes (Remains slave first) a r b) (sym is)
     (record { log = so.log; asked = so.asked; took = went-ended slave first so.log end so.went })
 over-by slave first turns a Stopped b so over (Ok end) is = absurd (false≢true is)
 over-by slave first turns a Stopped b so over
-    (Err stop) is = record { log = so.log; asked = so.asked; took = went-stopped slave first so.log so.went (Err tt) refl }
+    (Err stop) is = record { log = so.log; asked = so.asked; took = went-stopped slave first so.log so.went (Err stop) refl }
 over-by slave first turns a (Forces more) b so over result is = absurd (omega arith)
 over-by slave first turns a (Frees more) b so over result is = absurd (omega arith)
 over-by slave first turns a (WaitsToClear more) b so over result is = absurd (omega arith)
 over-by slave first turns a (Clears more) b so over result is = absurd (omega arith)
+over-by slave first turns a (Waits more) b so over result is = absurd (omega arith)
 over-by slave first turns a (Commands word tries) b so over result is = absurd (omega arith)
 over-by slave first turns a (WaitsToFetch word tries more) b so over result is = absurd (omega arith)
 over-by slave first turns a (Fetches word tries) b so over result is = absurd (omega arith)
@@ -123,12 +138,12 @@ over-by slave first turns a (WaitsToSettle taken more) b so over result is = abs
 over-by slave first turns a Tidies b so over result is = absurd (omega arith)
 
 module _ {slave : ℕ} {first : Step} {turns : ℕ} {a : Seen} {step : Step} {b : Seen} (so : WentSo slave first turns a step b) where
-  pub drives-over : left step ≡ 0 → (result : Result End Stop) → IsEndOf step result → Drives slave first a result b
+  pub drives-over : left step ≡ 0 → (result : Result End Stop) → IsEndOf step result → Takes (Remains slave first) a result b
   drives-over over result is = over-by slave first turns a step b so over result is
 
   -- the site stopped at this datagram
   pub drives-cut : (order : Pdu) (came : Result Pdu DeviceFault) (c : Seen) (result : Result End Stop) → IsErr result → IsNext slave step order
-      → ExchangesFrame b slave (order ∷ []) (outcome_of came) (frame_after order came) c → came ≡ Err device.Stopped → Drives slave first a result c
+      → ExchangesFrame b slave (order ∷ []) (outcome_of came) (frame_after order came) c → came ≡ Err device.Stopped → Takes (Remains slave first) a result c
   drives-cut order came c result cut next sent is =
       over-by slave first (turns + 1) a Stopped c
       (went-more slave first turns a step b so order came Stopped c next sent

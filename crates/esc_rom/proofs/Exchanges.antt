@@ -16,7 +16,7 @@ use Rattle.site_core.proofs.Moments.{Leaves-less}
 use Rattle.site_core.proofs.Runs.{Passes-call, Passes-stays, last_of_all}
 use Rattle.site_core.proofs.DeviceCalls.{is_stopped_or, LeavesOnly-stopped}
 use Rattle.site_core.proofs.Times.{Calls-follows, Calls-clock}
-use Rattle.esc_rom.specs.declared.fault.Stop.{Stop}
+use Rattle.rom_steps.specs.declared.step.Stop.{Stop}
 use Rattle.esc_rom.specs.Sending.{Sends}
 use Rattle.esc_rom.specs.Runs.{Quiet, Ran, StopsQuietly, WasLost}
 use Rattle.esc_rom.proofs.States.{same_some, with_half-same}

@@ -16,17 +16,17 @@ use Rattle.site_core.specs.declared.answers.Settled.{Settled}
 use Rattle.site_core.specs.declared.answers.Settled.TheVariants as settled
 use Rattle.site_core.specs.State.{Seen}
 use Rattle.site_core.specs.Calls.{ExchangesFrame}
-use Rattle.esc_rom.specs.declared.fault.Stop.{Stop}
-use Rattle.esc_rom.specs.declared.poll.Rested.{Rested}
-use Rattle.esc_rom.specs.declared.poll.Rested.TheVariants.{Well, Failed}
-use Rattle.esc_rom.specs.declared.reading.WordPair.{WordPair}
-use Rattle.esc_rom.specs.Status.{found_in}
-use Rattle.esc_rom.specs.WordPairs.{Tried, pair_of, Fetched, TriesRead, ReadsPair}
-use Rattle.esc_rom.specs.WordPairs.Tried.{words_read, try_failed, not_seen_idle}
+use Rattle.rom_steps.specs.declared.step.Stop.{Stop}
+use Rattle.rom_steps.specs.declared.back.Rested.{Rested}
+use Rattle.rom_steps.specs.declared.back.Rested.TheVariants.{Well, Failed}
+use Rattle.rom_steps.specs.declared.back.WordPair.{WordPair}
+use Rattle.rom_steps.specs.Accesses.Tried.{words_read, try_failed, never_idle}
+use Rattle.rom_steps.specs.Accesses.{Tried, pair_of, found_in, is_counted, issued_by, WritesBy, PollsBy, FetchesBy, WaitsBy, InsistsBy, IssuesBy, SettlesAfter, SettlesBy, ClearsBy, FreesBy, OpensBy, tried_of, FetchesAfter, WaitsAfter, TriesBy, pair_tried, ReadsPairBy}
+use Rattle.rom_steps.specs.Courses.{Asked, IsHeard, Ends, Then, OnlyIf, Rounds, no_round, one_more, UpTo}
+use Rattle.esc_rom.specs.WordPairs.{Fetched, TriesRead, ReadsPair}
 use Rattle.esc_rom.specs.Runs.{Ran, StopsQuietly, Performs, Polled, Waited, Wrote, Insists}
 use Rattle.esc_rom.specs.Access.{IssuesWord, BecomesSettled, BecomesOpen}
-use Rattle.esc_rom.specs.Courses.{Asked, AskedInTurn, Takes, outcome_of, frame_after, IsHeard, Ends, Then, OnlyIf, Rounds, no_round, one_more, UpTo}
-use Rattle.esc_rom.specs.Sent.{is_counted, issued_by, WritesBy, PollsBy, FetchesBy, WaitsBy, InsistsBy, IssuesBy, SettlesAfter, SettlesBy, ClearsBy, FreesBy, OpensBy, tried_of, FetchesAfter, WaitsAfter, TriesBy, pair_in, ReadsPairBy}
+use Rattle.esc_rom.specs.Courses.{AskedInTurn, Takes, outcome_of, frame_after}
 use Rattle.esc_rom.proofs.Runs.{SoFar, none, some, so_then, so_cut, cut_as, Ran-weaker, Ran-cut, IsCut-more}
 use Rattle.esc_rom.proofs.Exchanges.{back, lost, cut}
 use Rattle.esc_rom.proofs.Polls.{poll_gentle, poll_back, poll_lost, InVain, vain_none, vain_more, vain_seen, vain_all}
@@ -128,7 +128,7 @@ module _ (slave : ℕ) (near : slave < 64) where
   waited-end a mid b times few (Ok None) ends so last = absurd (ends refl)
   waited-end a mid b times few (Err stop) ends so last = so_cut (omega arith) so last
 
-  pub waited : (a b : Seen) (log : List Asked) (result : Result (Option Rested) Stop) → AskedInTurn log a b → WaitsBy slave log result
+  waited : (a b : Seen) (log : List Asked) (result : Result (Option Rested) Stop) → AskedInTurn log a b → WaitsBy slave log result
       → Performs (Waited a slave b) a slave 10000 result b
   waited a b log result asked (inl all) =
       subst (λ (r : Result (Option Rested) Stop). Performs (Waited a slave b) a slave 10000 r b) (sym all.1)
@@ -137,6 +137,10 @@ module _ (slave : ℕ) (near : slave < 64) where
       let parts = parted log so.front so.after a b so.log_is asked in
       waited-end a parts.mid b so.times so.few result so.ends (polls-missed so.times so.front a parts.mid parts.first so.rounds)
       (polled parts.mid b so.after result parts.second so.last)
+
+  pub waits-runs : {a b : Seen} {result : Result (Option Rested) Stop} → Takes (WaitsBy slave) a result b
+      → Performs (Waited a slave b) a slave 10000 result b
+  waits-runs {a} {b} {result} takes = waited a b takes.log result takes.asked takes.took
 
   -- SETTLE
 
@@ -396,7 +400,7 @@ module _ (slave word : ℕ) (near : slave < 64) (fits : word < 2 ^ 16) where
   wait-found : (found : Option Rested) (a c d b : Seen) (log : List Asked) (result : Result Tried Stop) → Ran (HasAsked slave word) a slave 1 c
       → Ran (Waited c slave d found) c slave 10000 d
       → AskedInTurn log d b → FetchesAfter slave found log result → Performs (TriesRead a slave word b) a slave 10002 result b
-  wait-found None a c d b log result ran waits asked ends = try-ended not_seen_idle a d b log result (try_dead near fits ran waits) asked ends
+  wait-found None a c d b log result ran waits asked ends = try-ended never_idle a d b log result (try_dead near fits ran waits) asked ends
   wait-found (Some Failed) a c d b log result ran waits asked ends = try-ended try_failed a d b log result
       (error_fails near fits ran waits) asked ends
   wait-found (Some Well) a c d b log result ran waits asked so = fetch-so a d b log result (fetched near fits ran waits) asked so
@@ -448,23 +452,23 @@ module _ (slave word : ℕ) (near : slave < 64) (fits : word < 2 ^ 16) where
 
   last-try : (a mid b : Seen) (times : ℕ) → times < 3 → (last : Tried) → last ≢ try_failed
       → SoFar (FailedSo a slave word times mid) a slave (10002 * times) mid
-      → Ran (TriesRead mid slave word b last) mid slave 10002 b → Ran (ReadsPair a slave word b (pair_in last)) a slave 30006 b
+      → Ran (TriesRead mid slave word b last) mid slave 10002 b → Ran (ReadsPair a slave word b (pair_tried last)) a slave 30006 b
   last-try a mid b times few (words_read pair) ends so ran = pair_after few so ran
   last-try a mid b times few try_failed ends so ran = absurd (ends refl)
-  last-try a mid b times few not_seen_idle ends so ran = dead_after few so ran
+  last-try a mid b times few never_idle ends so ran = dead_after few so ran
 
   tries-ended : (a b : Seen) (log : List Asked) (last : Tried) → AskedInTurn log a b
-      → UpTo 3 (λ (try : ℕ). TriesBy slave word) try_failed log (Ok last)
-      → Ran (ReadsPair a slave word b (pair_in last)) a slave 30006 b
+      → UpTo 3 (TriesBy slave word) try_failed log (Ok last)
+      → Ran (ReadsPair a slave word b (pair_tried last)) a slave 30006 b
   tries-ended a b log last asks (inl all) =
-      subst (λ (t : Tried). Ran (ReadsPair a slave word b (pair_in t)) a slave 30006 b) (let same : try_failed ≡ last = cc in same)
+      subst (λ (t : Tried). Ran (ReadsPair a slave word b (pair_tried t)) a slave 30006 b) (let same : try_failed ≡ last = cc in same)
       (all_failed refl (tries-failed 3 log a b asks all.0))
   tries-ended a b log last asks (inr so) =
       let parts = parted log so.front so.after a b so.log_is asks in
       last-try a parts.mid b so.times so.few last (λ e. so.ends (ap Ok e)) (tries-failed so.times so.front a parts.mid parts.first so.rounds)
       (tried-so parts.mid b so.after (Ok last) parts.second so.last)
 
-  tries-cut : (a b : Seen) (log : List Asked) (stop : Stop) → AskedInTurn log a b → UpTo 3 (λ (try : ℕ). TriesBy slave word) try_failed log (Err stop)
+  tries-cut : (a b : Seen) (log : List Asked) (stop : Stop) → AskedInTurn log a b → UpTo 3 (TriesBy slave word) try_failed log (Err stop)
       → StopsQuietly a 30006 b
   tries-cut a b log stop asks (inl all) = absurd (let not = all.1 in cc)
   tries-cut a b log stop asks (inr so) =
@@ -477,7 +481,7 @@ module _ (slave word : ℕ) (near : slave < 64) (fits : word < 2 ^ 16) where
       → Performs (ReadsPair a slave word b) a slave 30006 result b
   reads-so a b log result asks (inl so) =
       let parts = parted log so.front so.after a b so.log_is asks in
-      read-ended (pair_in so.value) a parts.mid b so.after result
+      read-ended (pair_tried so.value) a parts.mid b so.after result
       (tries-ended a parts.mid so.front so.value parts.first so.came_to) parts.second so.goes_on
   reads-so a b log result asks (inr stops) = cut_as (ReadsPair a slave word b) slave result stops.2 (tries-cut a b log stops.0 asks stops.1)
 

@@ -21,7 +21,7 @@ use Rattle.site_core.proofs.Halves.{EachMayLeave-at, EachMayLeave-exchanged}
 use Rattle.site_core.proofs.Moments.{Leaves-less}
 use Rattle.site_core.proofs.Runs.{Passes-stays}
 use Rattle.site_core.proofs.Times.{Calls-follows, Calls-clock}
-use Rattle.esc_rom.specs.declared.fault.Stop.{Stop}
+use Rattle.rom_steps.specs.declared.step.Stop.{Stop}
 use Rattle.esc_rom.specs.Sending.{Sends}
 use Rattle.esc_rom.specs.Access.{DiffersAtWord, WordMayDiffer, BecomesIssued, IssuesWord}
 use Rattle.esc_rom.proofs.States.{slice_set-same, slice_get-set, HalfGoes-weaker}

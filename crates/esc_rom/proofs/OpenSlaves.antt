@@ -11,10 +11,10 @@ use Rattle.esc_model.proofs.OnlyResting.{OnlyRests-same, OnlyRests-then, MayRest
 use Rattle.esc_model.proofs.Writing.{access_gentle, access_taken, access_refused, clear_refused}
 use Rattle.site_core.specs.State.{Seen, clock}
 use Rattle.site_core.proofs.Times.{Follows-clock}
-use Rattle.esc_rom.specs.declared.fault.Stop.{Stop}
+use Rattle.rom_steps.specs.declared.step.Stop.{Stop}
 use Rattle.esc_rom.specs.declared.fault.RomFault.{RomFault}
 use Rattle.esc_rom.specs.declared.fault.RomFault.TheVariants as rom
-use Rattle.esc_rom.specs.declared.poll.Rested.{Rested}
+use Rattle.rom_steps.specs.declared.back.Rested.{Rested}
 use Rattle.esc_rom.specs.Past.{HalfAt, AreLost, AreUncounted, IsNext}
 use Rattle.esc_rom.specs.Runs.{Ran, StopsQuietly, Performs, Waited, Tries, never, again, OnceRefused, Insists}
 use Rattle.esc_rom.specs.Access.{BecomesOpen, OpensSlave}

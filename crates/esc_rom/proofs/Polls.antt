@@ -1,5 +1,5 @@
 -- Polls, one and in a row.
-use Rattle.std.proofs.Common.{◌≡◌, ◌⊎◌, ℕ, ◌+◌, ◌<◌, length, Option, Some, None, slice_get, refl, sym, ap, subst, ◌∙◌, inl, inr, arith}
+use Rattle.std.proofs.Common.{◌≡◌, ◌⊎◌, ℕ, ◌+◌, ◌<◌, Option, Some, None, slice_get, refl, sym, ap, subst, ◌∙◌, inl, inr, arith}
 use Rattle.std.proofs.lemmas.Bool.Decides.{leb_tells}
 use Rattle.ecat_frame.specs.Frame.{Pdu}
 use Rattle.esc_model.specs.Registers.{status_byte}
@@ -13,8 +13,8 @@ use Rattle.esc_model.proofs.Status.{shows_idle, shows_well, shows_busy, shows_er
 use Rattle.esc_model.proofs.Addressing.{here_or_elsewhere, poll_here, poll_elsewhere, poll-same}
 use Rattle.site_core.specs.State.{Seen, clock}
 use Rattle.site_core.specs.Times.{FailsAt, Follows}
-use Rattle.esc_rom.specs.declared.poll.Rested.{Rested}
-use Rattle.esc_rom.specs.Status.{rest_shown, found_in}
+use Rattle.rom_steps.specs.declared.back.Rested.{Rested}
+use Rattle.rom_steps.specs.Accesses.{rest_shown, found_in}
 use Rattle.esc_rom.specs.Past.{PollsInVain}
 use Rattle.esc_rom.specs.Runs.{Ran, IsSeen, Polled, Waited, WasLost}
 use Rattle.esc_rom.proofs.Runs.{Ran-weaker, SoFar, so_over}
@@ -102,15 +102,6 @@ vain_more a b c slave times follows half mid later vain polled = record {
 
 pub vain_seen : (a b c : Seen) (slave times : ℕ) (rested : Rested) (half mid later : SlaveHalf) → InVain a slave times b half mid → Polled b slave c (Some rested) mid later → Waited a slave c (Some rested) half later
 vain_seen a b c slave times rested half mid later vain polled = (MayRest-twice half mid later vain.rests polled.0, polled.1)
-
--- an answer has the two bytes of a poll
-pub poll_length : (slave : ℕ) {datagram : Pdu} {old new : Seen} → slave < 64 → Ran (Answers (poll_order slave) datagram) old slave 1 new → length datagram.content ≡ 2
-poll_length slave near ran =
-    let answers = ran.half.goes in
-    sym (ap (λ (d : Pdu). length d.content) answers.reply) ∙ elim (here_or_elsewhere slave answers.rested) [
-      | inl here ↦ ap (λ (t : Outcome). length t.content) (poll_here answers.rested slave near here)
-      | inr elsewhere ↦ ap (λ (t : Outcome). length t.content) (poll_elsewhere answers.rested slave near elsewhere)
-    ]
 
 pub vain_all : (a : Seen) (slave times : ℕ) (b : Seen) → times ≡ 10000 → SoFar (InVain a slave times b) a slave times b → Ran (Waited a slave b None) a slave 10000 b
 vain_all a slave times b all so =

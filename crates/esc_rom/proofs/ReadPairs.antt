@@ -14,12 +14,13 @@ use Rattle.esc_model.proofs.Addressing.{here_or_elsewhere, fetch_here, fetch_els
 use Rattle.esc_model.proofs.WordReading.{IsAsked, read_gentle, read_taken, read_refused}
 use Rattle.site_core.specs.State.{Seen, clock}
 use Rattle.site_core.proofs.Times.{Follows-clock}
-use Rattle.esc_rom.specs.declared.poll.Rested.TheVariants.{Well, Failed}
-use Rattle.esc_rom.specs.declared.reading.WordPair.{WordPair}
+use Rattle.rom_steps.specs.declared.back.Rested.TheVariants.{Well, Failed}
+use Rattle.rom_steps.specs.declared.back.WordPair.{WordPair}
 use Rattle.esc_rom.specs.Past.{Refuses, HalfAt, EndsTry, still_busy, command_lost, in_error, words_lost, FailTries, no_try, one_more_try}
 use Rattle.esc_rom.specs.Runs.{Ran, Waited, WasLost, Wrote}
-use Rattle.esc_rom.specs.WordPairs.Tried.{words_read, try_failed, not_seen_idle}
-use Rattle.esc_rom.specs.WordPairs.{pair_of, Fetched, IsRead, TriesRead, ReadsPair}
+use Rattle.rom_steps.specs.Accesses.Tried.{words_read, try_failed, never_idle}
+use Rattle.rom_steps.specs.Accesses.{pair_of}
+use Rattle.esc_rom.specs.WordPairs.{Fetched, IsRead, TriesRead, ReadsPair}
 use Rattle.esc_rom.proofs.Runs.{Ran-then, Ran-weaker, SoFar, so_then, so_over, so_clock}
 use Rattle.esc_rom.proofs.Past.{HalfAt-now, HalfAt-then, never_idle, NeverIdle-after, FailTries-stays}
 use Rattle.esc_rom.proofs.Exchanges.{Answers}
@@ -150,7 +151,7 @@ module _ {a : Seen} {slave word : ℕ} (near : slave < 64) (word_fits : word < 2
             ];
           }
 
-  pub try_dead : {b d : Seen} → Ran (HasAsked slave word) a slave 1 b → Ran (Waited b slave d None) b slave 10000 d → Ran (TriesRead a slave word d not_seen_idle) a slave 10002 d
+  pub try_dead : {b d : Seen} → Ran (HasAsked slave word) a slave 1 b → Ran (Waited b slave d None) b slave 10000 d → Ran (TriesRead a slave word d never_idle) a slave 10002 d
   try_dead {b} {d} ran more =
       Ran-then (omega arith) (λ half mid later has waited. (OnlyRests-then half mid later has.only (MayRest-only mid later waited.0), never_idle a b d slave (Follows-clock a b ran.quiet.follows) waited.1)) ran more
 
@@ -239,7 +240,7 @@ pub pair_after : {a b c : Seen} {slave word times : ℕ} {pair : WordPair} → t
 pair_after few so ran =
     so_then (omega arith) (λ half mid later failed read. record { only = OnlyRests-then half mid later failed.only read.only; idle = read.idle; first = read.first; second = read.second }) so ran
 
-pub dead_after : {a b c : Seen} {slave word times : ℕ} → times < 3 → SoFar (FailedSo a slave word times b) a slave (10002 * times) b → Ran (TriesRead b slave word c not_seen_idle) b slave 10002 c
+pub dead_after : {a b c : Seen} {slave word times : ℕ} → times < 3 → SoFar (FailedSo a slave word times b) a slave (10002 * times) b → Ran (TriesRead b slave word c never_idle) b slave 10002 c
     → Ran (ReadsPair a slave word c None) a slave 30006 c
 dead_after {a} {b} {c} {slave} few so ran =
     so_then (omega arith) (λ half mid later failed dead. (OnlyRests-then half mid later failed.only dead.0, inl (NeverIdle-after a b c slave (so_clock so) dead.1))) so ran

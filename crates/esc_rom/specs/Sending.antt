@@ -4,7 +4,7 @@ use Rattle.ecat_frame.specs.Frame.{Pdu}
 use Rattle.site_core.specs.declared.fault.DeviceFault.TheVariants as device
 use Rattle.site_core.specs.State.{Seen}
 use Rattle.site_core.specs.Calls.{ExchangesFrame}
-use Rattle.esc_rom.specs.declared.fault.Stop.{Stop}
+use Rattle.rom_steps.specs.declared.step.Stop.{Stop}
 
 -- The frame comes back (`true`), or is lost (`false`), or the site stops.
 abbrev pub Sends : (old : Seen) (slave : ℕ) → Pdu → Result Bool Stop → (answer : List Pdu) → (new : Seen) → Type 0

@@ -4,13 +4,13 @@ ghost use Rattle.std.specs.Prelude.{◌≡◌, ◌≤◌, length, take, slice_in
 ghost use Rattle.ecat_frame.specs.Frame.{pdu};
 ghost use Rattle.site_core.specs.Line.{Owns};
 ghost use Rattle.rom_steps.specs.Back.{IsBack};
-ghost use Rattle.rom_steps.specs.Remaining.{left, pdu_to};
-ghost use Rattle.esc_rom.specs.Driving.{AsksOnce, Drives, IsEndOf};
+ghost use Rattle.rom_steps.specs.Remaining.{Remains, left, pdu_to};
+ghost use Rattle.esc_rom.specs.Courses.{Takes};
+ghost use Rattle.esc_rom.specs.Driving.{AsksOnce, IsEndOf};
 
-use crate::fault::Stop;
 use crate::send::send;
 use ecat_frame::{Command, Datagram, Frame};
-use rom_steps::{Back, End, Step, ToSend, next_of, take};
+use rom_steps::{Back, End, Step, Stop, ToSend, next_of, take};
 use site_core::Site;
 
 /// The number of datagrams of the longest access: opening takes up to 10,009, reading two words up to 30,006.
@@ -93,7 +93,7 @@ fn end_of(step: Step) -> Result<End, Stop>
 pub(crate) fn drive<S: Site>(site: &mut S, slave: u16, first: Step) -> Result<End, Stop>
     requires owned { Owns (S.line site.old) slave }
     requires short { left first ≤ 30006 }
-    ensures drives { Drives slave first (S.seen site.old) result (S.seen site.new) }
+    ensures drives { Takes (Remains slave first) (S.seen site.old) result (S.seen site.new) }
     ensures line { S.line site.new ≡ S.line site.old }
 {
     let mut frame = Frame::new();

@@ -6,9 +6,9 @@ ghost use Rattle.site_core.specs.Line.{Owns};
 ghost use Rattle.esc_model.specs.Orders.{address_of};
 ghost use Rattle.esc_rom.specs.Sending.{Sends};
 
-use crate::fault::Stop;
 use ecat_frame::{Command, Frame, fp};
 use esc_model::station_address;
+use rom_steps::Stop;
 use site_core::{DeviceFault, Site};
 
 /// Makes it a frame with one datagram for a register of a slave.
