@@ -1,5 +1,5 @@
 -- Courses that a call takes: one after another, rounds, and the end of an access.
-use Rattle.std.proofs.Common.{◌≡◌, ◌≢◌, ℕ, ◌+◌, ◌<◌, true, false, List, [], ◌∷◌, ◌++◌, Result, Ok, Err, IsErr, IsErrAnd, refl, sym, ap, subst, ◌∙◌, inl, inr}
+use Rattle.std.proofs.Common.{◌≡◌, ◌≢◌, ℕ, ◌+◌, ◌<◌, List, [], ◌∷◌, ◌++◌, Result, Ok, Err, IsErr, IsErrAnd, refl, sym, ap, subst, ◌∙◌, inl, inr}
 use Rattle.std.proofs.lemmas.Bool.{false≢true}
 use Rattle.std.proofs.lemmas.List.{append-nil}
 use Rattle.site_core.specs.State.{Seen}
@@ -123,14 +123,14 @@ module _ {T : Type 0} (wrap : T → End) (course : Course T) {a b : Seen} where
   ends-by {end} takes = ends end takes.log takes.asked takes.took
 
   -- what a driver sent from the first step of that access on
-  module _ {slave : ℕ} {first : Step}
+  module _ (slave : ℕ) (first : Step)
       (begins : (log : List Asked) → (result : Result End Stop) → Remains slave first log result → Then course (λ value. Ends (wrap value)) log result)
-      where
-    pub driven : {end : End} → Takes (Remains slave first) a (Ok end) b → EndsBy wrap course end a b
-    driven {end} takes = ends end takes.log takes.asked (begins takes.log (Ok end) takes.took)
+    where
+      pub driven : {end : End} → Takes (Remains slave first) a (Ok end) b → EndsBy wrap course end a b
+      driven {end} takes = ends end takes.log takes.asked (begins takes.log (Ok end) takes.took)
 
-    pub driven-cut : {stop : Stop} → Takes (Remains slave first) a (Err stop) b → Takes course a (Err stop) b
-    driven-cut {stop} takes = cuts stop takes.log takes.asked (begins takes.log (Err stop) takes.took)
+      pub driven-cut : {stop : Stop} → Takes (Remains slave first) a (Err stop) b → Takes course a (Err stop) b
+      driven-cut {stop} takes = cuts stop takes.log takes.asked (begins takes.log (Err stop) takes.took)
 
 -- the value at that end
 pub took : {T : Type 0} {wrap : T → End} {course : Course T} {end : End} {a b : Seen} (value : T) → ((other : T) → wrap other ≡ wrap value → other ≡ value)

@@ -1,35 +1,26 @@
 -- The datagrams of an access that were sent so far.
-use Rattle.std.proofs.Common.{◌≡◌, ℕ, ◌+◌, ◌<◌, Bool, true, false, List, [], ◌∷◌, ◌++◌, length, take, Option, Some, None, slice_get, Result, Ok, Err, IsErr, refl, sym, ap, subst, ◌∙◌, arith, length-append}
+use Rattle.std.proofs.Common.{◌≡◌, ℕ, ◌+◌, ◌<◌, Bool, true, false, List, [], ◌∷◌, ◌++◌, length, Option, Some, None, Result, Ok, Err, IsErr, refl, sym, subst, ◌∙◌, arith, length-append}
 use Rattle.std.proofs.lemmas.Bool.{false≢true}
-use Rattle.ecat_frame.specs.Frame.{Pdu, sent}
-use Rattle.ecat_frame.specs.Command.{command_of}
-use Rattle.ecat_frame.specs.declared.command.Command.{Command}
-use Rattle.ecat_frame.proofs.Front.{code_of-command_of}
-use Rattle.esc_model.specs.Orders.{address_of}
+use Rattle.ecat_frame.specs.Frame.{Pdu}
 use Rattle.site_core.specs.declared.fault.DeviceFault.{DeviceFault}
 use Rattle.site_core.specs.declared.fault.DeviceFault.TheVariants as device
 use Rattle.site_core.specs.State.{Seen}
 use Rattle.site_core.specs.Calls.{ExchangesFrame}
 use Rattle.rom_steps.specs.Courses.{Asked}
-use Rattle.rom_steps.specs.Back.{IsBack}
-use Rattle.rom_steps.specs.declared.back.Back.{Back}
 use Rattle.rom_steps.specs.declared.back.Back.TheVariants as backs
 use Rattle.rom_steps.specs.declared.back.Rested.{Rested}
 use Rattle.rom_steps.specs.declared.back.WordPair.{WordPair}
-use Rattle.rom_steps.specs.declared.datagram.ToSend.{ToSend}
 use Rattle.rom_steps.specs.declared.step.End.{End}
 use Rattle.rom_steps.specs.declared.step.Step.{Step}
 use Rattle.rom_steps.specs.declared.step.Step.TheVariants.{Forces, Frees, WaitsToClear, Clears, Waits, Commands, WaitsToFetch, Fetches, Issues, WaitsToSettle, Tidies, Ended, Stopped}
-use Rattle.rom_steps.specs.Remaining.{opening_end, waiting_end, reading_end, IsNext, Moves, Remains, left, pdu_to}
+use Rattle.rom_steps.specs.Remaining.{opening_end, waiting_end, reading_end, IsNext, Moves, Remains, left}
 use Rattle.rom_steps.specs.Complete.{Went, nothing_sent, one_more_sent}
 use Rattle.rom_steps.proofs.Stopping.{sends-some, stopped-moves}
 use Rattle.rom_steps.proofs.CompleteLaws.{went-ended, went-stopped, went-bounded}
 use Rattle.rom_steps.specs.declared.step.Stop.{Stop}
-use Rattle.esc_rom.specs.Sending.{Sends}
 use Rattle.esc_rom.specs.Courses.{AskedInTurn, Takes, outcome_of, frame_after}
 use Rattle.esc_rom.specs.Driving.{AsksOnce, IsEndOf, is_open, rest_at, words_at}
 use Rattle.esc_rom.proofs.Courses.{asked-then}
-use Rattle.esc_rom.proofs.Exchanges.{one_answer}
 
 -- WHAT AN END TELLS
 
@@ -47,44 +38,14 @@ words-are (Some pair) = refl
 
 -- ONE DATAGRAM
 
--- the datagram that is sent is that of the step
-pub order-is : (slave : ℕ) (datagram : ToSend) (command : Command) (content : List ℕ) → command ≡ command_of datagram.command
-    → content ≡ take datagram.length datagram.content
-    → sent command 0 (address_of slave datagram.register) content ≡ pdu_to slave datagram
-order-is slave datagram command content is bytes =
-    ap (λ (it : Command). sent it 0 (address_of slave datagram.register) content) is
-    ∙ ap (λ (it : List ℕ). sent (command_of datagram.command) 0 (address_of slave datagram.register) it) bytes
-    ∙ ap (λ (it : ℕ). coded it) (code_of-command_of datagram.command)
-  where
-    coded : ℕ → Pdu
-    coded code = record {
-      command = code;
-      index = 0;
-      address = address_of slave datagram.register;
-      content = take datagram.length datagram.content;
-      counter = 0;
-    }
-
-module _ {old : Seen} {slave : ℕ} {order wanted : Pdu} (answer : List Pdu) {new : Seen} (is : order ≡ wanted) where
-  pub once-lost : {came : Bool} → came ≡ false → Sends old slave order (Ok came) answer new → AsksOnce old slave wanted (Ok backs.Lost) new
-  once-lost lost sends =
-      subst (λ (o : Pdu). AsksOnce old slave o (Ok backs.Lost) new) is
-      (record { came = Err device.Lost; sent = subst (λ (b : Bool). Sends old slave order (Ok b) answer new) lost sends; is = refl })
-
-  pub once-cut : {stop : Stop} (result : Result Back Stop) → IsErr result → Sends old slave order (Err stop) answer new
-      → AsksOnce old slave wanted result new
-  once-cut (Ok back) cut sends = absurd (false≢true cut)
-  once-cut (Err other) cut sends = subst (λ (o : Pdu). AsksOnce old slave o (Err other) new) is
-      (record { came = Err device.Stopped; sent = sends; is = refl })
-
-  pub once-back : {came : Bool} {datagram : Pdu} (back : Back) → came ≡ true → slice_get answer 0 ≡ Some datagram → IsBack back (Ok datagram)
-      → Sends old slave order (Ok came) answer new
-      → AsksOnce old slave wanted (Ok back) new
-  once-back {datagram = datagram} back came first so sends =
-      let exchange = subst (λ (b : Bool). Sends old slave order (Ok b) answer new) came sends in
-      let only = one_answer old slave order answer new datagram first exchange in
-      subst (λ (o : Pdu). AsksOnce old slave o (Ok back) new) is
-      (record { came = Ok datagram; sent = subst (λ (l : List Pdu). ExchangesFrame old slave (order ∷ []) (Ok tt) l new) only exchange; is = so })
+pub once-lost : {old : Seen} {slave : ℕ} {order : Pdu} {sent answer : List Pdu} {fault : DeviceFault} {new : Seen} → sent ≡ order ∷ [] → fault ≡ device.Lost
+    → ExchangesFrame old slave sent (Err fault) answer new → AsksOnce old slave order (Ok backs.Lost) new
+once-lost {old} {slave} {order} {answer = answer} {fault = fault} {new = new} is lost sends = record {
+  came = Err fault;
+  sent = subst (λ (l : List Pdu). ExchangesFrame old slave (order ∷ []) (Err fault) l new) (sends.failed ∙ is)
+      (subst (λ (l : List Pdu). ExchangesFrame old slave l (Err fault) answer new) is sends);
+  is = lost;
+}
 
 -- DATAGRAMS IN A ROW
 

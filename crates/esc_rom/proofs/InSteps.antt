@@ -1,10 +1,9 @@
 -- Word access in steps, and the calls of this crate.
-use Rattle.std.proofs.Common.{◌≡◌, ◌⊎◌, ℕ, ◌^◌, ◌<◌, Bool, true, false, Option, Ok, Err, refl, inl, inr}
+use Rattle.std.proofs.Common.{◌≡◌, ◌⊎◌, ℕ, ◌^◌, ◌<◌, Bool, true, false, Ok, Err, inl, inr}
 use Rattle.site_core.specs.declared.answers.Issued.{Issued}
 use Rattle.site_core.specs.declared.answers.Settled.{Settled}
 use Rattle.site_core.specs.State.{Seen}
 use Rattle.rom_steps.specs.Accesses.{IssuesBy, SettlesBy, OpensBy, ReadsPairBy}
-use Rattle.rom_steps.specs.declared.back.WordPair.{WordPair}
 use Rattle.rom_steps.specs.declared.step.End.{End}
 use Rattle.rom_steps.specs.declared.step.End.TheVariants as ends
 use Rattle.rom_steps.specs.Remaining.{opening_end, reading_end, IssueCourse, OpenCourse, ReadCourse, SettleCourse}

@@ -22,7 +22,7 @@ use Rattle.rom_steps.specs.Accesses.Tried.{words_read, try_failed, never_idle}
 use Rattle.rom_steps.specs.Accesses.{pair_of}
 use Rattle.esc_rom.specs.WordPairs.{Fetched, IsRead, TriesRead, ReadsPair}
 use Rattle.esc_rom.proofs.Runs.{Ran-then, Ran-weaker, SoFar, so_then, so_over, so_clock}
-use Rattle.esc_rom.proofs.Past.{HalfAt-now, HalfAt-then, never_idle, NeverIdle-after, FailTries-stays}
+use Rattle.esc_rom.proofs.Past.{HalfAt-now, HalfAt-then, NeverIdle-waited, NeverIdle-after, FailTries-stays}
 use Rattle.esc_rom.proofs.Exchanges.{Answers}
 use Rattle.esc_rom.proofs.Writes.{wrote_receives}
 
@@ -153,7 +153,7 @@ module _ {a : Seen} {slave word : ℕ} (near : slave < 64) (word_fits : word < 2
 
   pub try_dead : {b d : Seen} → Ran (HasAsked slave word) a slave 1 b → Ran (Waited b slave d None) b slave 10000 d → Ran (TriesRead a slave word d never_idle) a slave 10002 d
   try_dead {b} {d} ran more =
-      Ran-then (omega arith) (λ half mid later has waited. (OnlyRests-then half mid later has.only (MayRest-only mid later waited.0), never_idle a b d slave (Follows-clock a b ran.quiet.follows) waited.1)) ran more
+      Ran-then (omega arith) (λ half mid later has waited. (OnlyRests-then half mid later has.only (MayRest-only mid later waited.0), NeverIdle-waited a b d slave (Follows-clock a b ran.quiet.follows) waited.1)) ran more
 
   pub error_fails : {b d : Seen} → Ran (HasAsked slave word) a slave 1 b → Ran (Waited b slave d (Some Failed)) b slave 10000 d → Ran (TriesRead a slave word d try_failed) a slave 10002 d
   error_fails {b} {d} ran more =

@@ -1,5 +1,5 @@
 -- What a call sends: a course of `rom_steps`, each datagram alone in a frame to the EEPROM half of its slave.
-use Rattle.std.specs.Prelude.{◌≡◌, ℕ, List, [], ◌∷◌, Result, Ok, Err}
+use Rattle.std.specs.Prelude.{◌≡◌, List, [], ◌∷◌, Result, Ok, Err}
 use Rattle.ecat_frame.specs.Frame.{Pdu}
 use Rattle.site_core.specs.declared.fault.DeviceFault.{DeviceFault}
 use Rattle.site_core.specs.State.{Seen}

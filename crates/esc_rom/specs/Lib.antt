@@ -1,4 +1,3 @@
-pub mod Sending
 pub mod Past
 pub mod Runs
 pub mod WordPairs

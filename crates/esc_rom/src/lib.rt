@@ -9,7 +9,6 @@ mod line_reading;
 mod opening;
 mod owned;
 mod reading;
-mod send;
 mod settling;
 
 pub use fault::RomFault;

@@ -61,11 +61,7 @@ fn read_pair<S: Site>(site: &mut S, slave: u16, word: u16) -> Result<Option<Word
 }
 
 /// Waits until a slave is idle, and replaces `words` by the slave's words, read two by two. Returns whether all were read.
-fn wait_and_fill<S: Site>(
-    site: &mut S,
-    slave: u16,
-    words: &mut Words,
-) -> Result<bool, Stop>
+fn wait_and_fill<S: Site>(site: &mut S, slave: u16, words: &mut Words) -> Result<bool, Stop>
     requires { Owns (S.line site.old) slave }
     ensures runs { Performs (ReadsAll (S.seen site.old) slave (S.seen site.new) words.new) (S.seen site.old) slave
         (10000 + 30006 * (length words.old / 2)) result (S.seen site.new) }

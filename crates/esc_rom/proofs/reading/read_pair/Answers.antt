@@ -17,7 +17,7 @@ pub returns-in_err-end-clause-frames : goal.returns-in_err-end-clause-frames
 returns-in_err-end-clause-frames g c =
     subst (λ (r : Result (Option WordPair) Stop). Takes (ReadsPairBy c.args.slave c.args.word) (g.S.Site.seen c.args.site.now) r (g.S.Site.seen c.drive.new.site))
     (sym (same-stop c.from_residual.result c.in_err-end.field-0.0 c.from_residual.ensures.1))
-    (driven-cut reading_end (ReadsPairBy c.args.slave c.args.word) (c.begin_reading.ensures.course c.args.slave) c.in_err-end.ensures.drives)
+    (driven-cut reading_end (ReadsPairBy c.args.slave c.args.word) c.args.slave c.begin_reading.result (c.begin_reading.ensures.course c.args.slave) c.in_err-end.ensures.drives)
 
 pub returns-in_err-end-clause-runs : goal.returns-in_err-end-clause-runs
 returns-in_err-end-clause-runs g c =
@@ -28,7 +28,7 @@ pub returns-clause-frames : goal.returns-clause-frames
 returns-clause-frames g c =
     takes-value (ReadsPairBy c.args.slave c.args.word) (sym c.words_at.ensures)
     (told words_at words-are
-    (driven reading_end (ReadsPairBy c.args.slave c.args.word) (c.begin_reading.ensures.course c.args.slave) c.in_ok-end.ensures.drives))
+    (driven reading_end (ReadsPairBy c.args.slave c.args.word) c.args.slave c.begin_reading.result (c.begin_reading.ensures.course c.args.slave) c.in_ok-end.ensures.drives))
 
 pub returns-clause-runs : goal.returns-clause-runs
 returns-clause-runs g c =

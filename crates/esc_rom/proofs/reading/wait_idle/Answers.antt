@@ -17,7 +17,7 @@ pub returns-in_err-end-clause-frames : goal.returns-in_err-end-clause-frames
 returns-in_err-end-clause-frames g c =
     subst (λ (r : Result (Option Rested) Stop). Takes (WaitsBy c.args.slave) (g.S.Site.seen c.args.site.now) r (g.S.Site.seen c.drive.new.site))
     (sym (same-stop c.from_residual.result c.in_err-end.field-0.0 c.from_residual.ensures.1))
-    (driven-cut waiting_end (WaitsBy c.args.slave) (c.begin_waiting.ensures.course c.args.slave) c.in_err-end.ensures.drives)
+    (driven-cut waiting_end (WaitsBy c.args.slave) c.args.slave c.begin_waiting.result (c.begin_waiting.ensures.course c.args.slave) c.in_err-end.ensures.drives)
 
 pub returns-in_err-end-clause-runs : goal.returns-in_err-end-clause-runs
 returns-in_err-end-clause-runs g c = waits-runs c.args.slave c.requires.1 (returns-in_err-end-clause-frames g c)
@@ -25,7 +25,7 @@ returns-in_err-end-clause-runs g c = waits-runs c.args.slave c.requires.1 (retur
 pub returns-clause-frames : goal.returns-clause-frames
 returns-clause-frames g c =
     takes-value (WaitsBy c.args.slave) (sym c.rest_at.ensures)
-    (told rest_at rest-is (driven waiting_end (WaitsBy c.args.slave) (c.begin_waiting.ensures.course c.args.slave) c.in_ok-end.ensures.drives))
+    (told rest_at rest-is (driven waiting_end (WaitsBy c.args.slave) c.args.slave c.begin_waiting.result (c.begin_waiting.ensures.course c.args.slave) c.in_ok-end.ensures.drives))
 
 pub returns-clause-runs : goal.returns-clause-runs
 returns-clause-runs g c = waits-runs c.args.slave c.requires.1 (returns-clause-frames g c)
