@@ -17,7 +17,7 @@ use Rattle.site_core.proofs.Runs.{Passes-call, Passes-stays, last_of_all}
 use Rattle.site_core.proofs.DeviceCalls.{is_stopped_or, LeavesOnly-stopped}
 use Rattle.site_core.proofs.Times.{Calls-follows, Calls-clock}
 use Rattle.esc_rom.specs.Runs.{Quiet, Ran, StopsQuietly, WasLost}
-use Rattle.esc_rom.proofs.States.{same_some, with_half-same}
+use Rattle.esc_rom.proofs.States.{with_half-same}
 use Rattle.esc_rom.proofs.Past.{FailsAt-last}
 
 -- the half took the one datagram
@@ -174,15 +174,3 @@ module _ (old : Seen) (slave : ℕ) (order : Pdu) (new : Seen) (gentle : IsGentl
 
   pub cut : ExchangesFrame old slave (order ∷ []) (Err device.Stopped) (order ∷ []) new → StopsQuietly old 1 new
   cut sends = record { quiet = exchange_quiet old slave order (Err device.Stopped) (order ∷ []) new gentle sends; stopped = sends.call.stopped.1 refl }
-
--- what came back is this one datagram
-pub one_answer : (old : Seen) (slave : ℕ) (order : Pdu) (answer : List Pdu) (new : Seen) (datagram : Pdu) → slice_get answer 0 ≡ Some datagram
-    → ExchangesFrame old slave (order ∷ []) (Ok tt) answer new → answer ≡ datagram ∷ []
-one_answer old slave order answer new datagram first sends =
-    elim (took_none_or_one order sends.half sends.passed sends.left sends.laters sends.replies sends.split sends.through) [
-      | inl none ↦ absurd (let e : order ∷ [] ≡ [] = sends.split ∙ ap (λ (p : List Pdu). p ++ sends.left) none.0 ∙ sends.ok.0 in absurd cc)
-      | inr t ↦
-          let reply = reply_of order (served_datagram t.rested order) in
-          let is : answer ≡ reply ∷ [] = sends.ok.1 ∙ t.replies_are in
-          is ∙ ap (λ (d : Pdu). d ∷ []) (same_some reply datagram (sym (ap (λ (ds : List Pdu). slice_get ds 0) is) ∙ first))
-    ]

@@ -1,11 +1,9 @@
 -- Reading two words: one try, and tries in a row.
-use Rattle.std.proofs.Common.{◌≡◌, ◌⊎◌, ℕ, ◌+◌, ◌*◌, ◌/◌, ◌%◌, ◌^◌, ◌<◌, Bool, true, false, List, ◌++◌, length, Option, Some, None, slice_index, refl, sym, ap, subst, ◌∙◌, inl, inr, arith}
-use Rattle.std.specs.Int.{w16, w32, to_le_bytes}
-use Rattle.ecat_frame.specs.Frame.{Pdu, sent}
-use Rattle.ecat_frame.specs.declared.command.Command.TheVariants.{Fpwr}
+use Rattle.std.proofs.Common.{◌≡◌, ◌⊎◌, ℕ, ◌+◌, ◌*◌, ◌/◌, ◌%◌, ◌^◌, ◌<◌, true, false, List, Option, Some, None, slice_index, refl, sym, ap, subst, ◌∙◌, inl, inr, arith}
+use Rattle.ecat_frame.specs.Frame.{Pdu}
 use Rattle.esc_model.specs.SlaveHalf.{SlaveHalf, Activity, Idle, Reading, Outcome, is_busy, MayEnd, MayRest}
 use Rattle.esc_model.specs.Datagrams.{served_datagram, reply_of, CountsDatagram, Receives}
-use Rattle.esc_model.specs.Orders.{address_of, fetch_order, read_order}
+use Rattle.esc_model.specs.Orders.{fetch_order, read_order}
 use Rattle.esc_model.specs.WordAccess.{IsAt, IsIdle, HasError, IsWell, OnlyRests, IsGentle}
 use Rattle.esc_model.proofs.Resting.{MayRest-idle, MayEnd-is_idle, MayRest-station}
 use Rattle.esc_model.proofs.OnlyResting.{OnlyRests-same, OnlyRests-then, MayRest-only, Receives-only}
@@ -30,15 +28,6 @@ use Rattle.esc_rom.proofs.Writes.{wrote_receives}
 
 pub fetch_gentle : (slave : ℕ) → slave < 64 → IsGentle (fetch_order slave)
 fetch_gentle slave near half = subst (λ (h : SlaveHalf). OnlyRests half h) (sym (fetch-same half slave near)) (OnlyRests-same half)
-
--- an answer has the four bytes of the two words
-pub fetch_length : (slave : ℕ) {datagram : Pdu} {old new : Seen} → slave < 64 → Ran (Answers (fetch_order slave) datagram) old slave 1 new → length datagram.content ≡ 4
-fetch_length slave near ran =
-    let answers = ran.half.goes in
-    sym (ap (λ (d : Pdu). length d.content) answers.reply) ∙ elim (here_or_elsewhere slave answers.rested) [
-      | inl here ↦ ap (λ (t : Outcome). length t.content) (fetch_here answers.rested slave near here)
-      | inr elsewhere ↦ ap (λ (t : Outcome). length t.content) (fetch_elsewhere answers.rested slave near elsewhere)
-    ]
 
 bytes_back : (word : ℕ) → word % 256 + 256 * (word / 256) ≡ word
 bytes_back word = omega arith
@@ -198,16 +187,6 @@ module _ {a : Seen} {slave word : ℕ} (near : slave < 64) (word_fits : word < 2
     first = so.1 ∙ ap (λ (h : SlaveHalf). h.registers.first) (MayRest-idle mid later has.well.idle so.0) ∙ has.first;
     second = so.2 ∙ ap (λ (h : SlaveHalf). h.registers.second) (MayRest-idle mid later has.well.idle so.0) ∙ has.second;
   })) ran more
-
--- the datagram's content spells the word's number
-pub read_bytes : {a b : Seen} {slave : ℕ} (word : ℕ) {content : List ℕ} (counted : Bool) → content ≡ to_le_bytes w16 0x0100 ++ to_le_bytes w32 word
-    → Ran (Wrote (sent Fpwr 0 (address_of slave 0x0502) content) a b counted) a slave 1 b → Ran (Wrote (read_order slave word) a b counted) a slave 1 b
-read_bytes {a} {b} {slave} word counted is ran = subst (λ (bytes : List ℕ). Ran (Wrote (sent Fpwr 0 (address_of slave 0x0502) bytes) a b counted) a slave 1 b) is ran
-
-pub read_bytes_gentle : (slave word : ℕ) (content : List ℕ) → slave < 64 → word < 2 ^ 16 → content ≡ to_le_bytes w16 0x0100 ++ to_le_bytes w32 word
-    → IsGentle (sent Fpwr 0 (address_of slave 0x0502) content)
-read_bytes_gentle slave word content near word_fits is =
-    subst (λ (bytes : List ℕ). IsGentle (sent Fpwr 0 (address_of slave 0x0502) bytes)) (sym is) (read_gentle slave word near word_fits)
 
 -- TRIES IN A ROW
 
