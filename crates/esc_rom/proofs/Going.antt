@@ -33,7 +33,6 @@ use Rattle.esc_rom.proofs.Exchanges.{Answers, back, lost, cut}
 use Rattle.esc_rom.proofs.Polls.{poll_gentle, poll_back, poll_lost, InVain, vain_none, vain_more, vain_seen, vain_all}
 use Rattle.esc_rom.proofs.Writes.{write_back, uncounted, TriedSo, tried_none, tried_more, insist_took, insist_failed}
 use Rattle.esc_rom.proofs.IssuedWords.{issue_cut, issue_lost, issue_taken, issue_not_taken}
-use Rattle.esc_rom.proofs.SentLaws.{taken-is, not-taken-is}
 use Rattle.esc_rom.proofs.OpenSlaves.{HasAccess, first_fails, forced, second_fails, freed, wait_fails, vacant, opens}
 use Rattle.esc_rom.proofs.ReadPairs.{fetch_gentle, fetch_back, fetch_lost, HasAsked, HasFetched, command_fails, asked, try_dead, error_fails, fetched, words_fail, pair_read, FailedSo, failed_none, failed_more, pair_after, dead_after, all_failed}
 use Rattle.esc_rom.proofs.SettledWords.{settled_well, settled_dead, settled_again}
@@ -92,7 +91,7 @@ wrote : (slave address : ℕ) (content : List ℕ) → IsGentle (sent Fpwr 0 add
     → Performs (Wrote (sent Fpwr 0 address content) a b) a slave 1 result b
 wrote slave address content gentle =
     asks-run is_counted false (Wrote (sent Fpwr 0 address content)) slave (sent Fpwr 0 address content) gentle
-    (λ a b reply ran. write_back a slave address content b (is_counted reply) refl ran)
+    (write_back slave address content)
     (λ a b ran. Ran-weaker (omega arith) (λ half later here there given. inl given) ran)
 
 -- POLLS
@@ -101,7 +100,7 @@ module _ (slave : ℕ) (near : slave < 64) where
   polled : (a b : Seen) (log : List Asked) (result : Result (Option Rested) Stop) → AskedInTurn log a b → PollsBy slave log result
       → Performs (Polled a slave b) a slave 1 result b
   polled = asks-run found_in None (λ a b. Polled a slave b) slave (poll_order slave) (poll_gentle slave near)
-      (λ a b reply ran. poll_back a slave b near {found = found_in reply} {datagram = reply} refl ran) (λ a b ran. poll_lost a slave b near ran)
+      (λ a b. poll_back a slave b near) (λ a b. poll_lost a slave b near)
 
   polls-missed : (times : ℕ) (log : List Asked) (a b : Seen) → AskedInTurn log a b → Rounds (λ (poll : ℕ). PollsBy slave) None times log
       → SoFar (InVain a slave times b) a slave times b
@@ -194,12 +193,8 @@ module _ (slave word value : ℕ) (near : slave < 64) (word_fits : word < 2 ^ 16
   issued-back : (reply : Pdu) (counted : Bool) → (reply.counter == 1) ≡ counted
       → ExchangesFrame a slave (write_order slave word value ∷ []) (Ok tt) (reply ∷ []) b
       → IssuesWord a slave word value (Ok (issued_by reply)) b
-  issued-back reply true is sends =
-      subst (λ (i : Issued). IssuesWord a slave word value (Ok i) b) (taken-is reply is)
-      (issue_taken a slave word value b near word_fits value_fits reply is sends)
-  issued-back reply false is sends =
-      subst (λ (i : Issued). IssuesWord a slave word value (Ok i) b) (not-taken-is reply is)
-      (issue_not_taken a slave word value b near word_fits value_fits reply is sends)
+  issued-back reply true is sends = rw is (issue_taken a slave word value b near word_fits value_fits reply is sends)
+  issued-back reply false is sends = rw is (issue_not_taken a slave word value b near word_fits value_fits reply is sends)
 
   issued-so : (came : Result Pdu DeviceFault) (answer : Issued)
       → ExchangesFrame a slave (write_order slave word value ∷ []) (outcome_of came) (frame_after (write_order slave word value) came) b
@@ -350,7 +345,7 @@ module _ (slave : ℕ) (near : slave < 64) where
   fetched-one : (a b : Seen) (log : List Asked) (result : Result (Option WordPair) Stop) → AskedInTurn log a b → FetchesBy slave log result
       → Performs (Fetched a slave b) a slave 1 result b
   fetched-one = asks-run pair_of None (λ a b. Fetched a slave b) slave (fetch_order slave) (fetch_gentle slave near)
-      (λ a b reply ran. fetch_back a slave b near {found = pair_of reply} {datagram = reply} refl ran) (λ a b ran. fetch_lost a slave b near ran)
+      (λ a b. fetch_back a slave b near) (λ a b. fetch_lost a slave b near)
 
 module _ (slave word : ℕ) (near : slave < 64) (fits : word < 2 ^ 16) where
   try-ended : (end : Tried) (a mid b : Seen) (log : List Asked) (result : Result Tried Stop) → Ran (TriesRead a slave word mid end) a slave 10002 mid

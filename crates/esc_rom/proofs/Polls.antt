@@ -64,17 +64,19 @@ module _ (old : Seen) (slave : ℕ) (new : Seen) (near : slave < 64) where
       missed follows one half later here there rests (inr (inr (λ at. elsewhere (MayRest-station half later rests ∙ at))))
   said follows one (Some rested) half later here there rests seen = (rests, seen)
 
-  pub poll_back : {found : Option Rested} {datagram : Pdu} → found ≡ found_in datagram → Ran (Answers (poll_order slave) datagram) old slave 1 new → Ran (Polled old slave new found) old slave 1 new
-  poll_back {found = found} {datagram = datagram} is ran = Ran-weaker (omega arith) goes ran
+  pub poll_back : (reply : Pdu) → Ran (Answers (poll_order slave) reply) old slave 1 new → Ran (Polled old slave new (found_in reply)) old slave 1 new
+  poll_back reply ran = Ran-weaker (omega arith) goes ran
     where
       one : clock new ≡ clock old + 1
       one = let more = ran.some in let most = ran.quiet.within in omega arith
 
-      goes : (half later : SlaveHalf) → slice_get old.state.halves slave ≡ Some half → slice_get new.state.halves slave ≡ Some later → Answers (poll_order slave) datagram half later → Polled old slave new found half later
+      goes : (half later : SlaveHalf) → slice_get old.state.halves slave ≡ Some half → slice_get new.state.halves slave ≡ Some later → Answers (poll_order slave) reply half later
+          → Polled old slave new (found_in reply) half later
       goes half later here there answers =
           let same : later ≡ answers.rested = answers.is ∙ poll-same answers.rested slave near in
-          let says = subst (λ (f : Option Rested). Says slave f answers.rested) (ap found_in answers.reply ∙ sym is) (poll_says slave answers.rested near) in
-          said ran.quiet.follows one found half later here there (subst (λ (h : SlaveHalf). MayRest half h) (sym same) answers.rests) (subst (λ (h : SlaveHalf). Says slave found h) (sym same) says)
+          let says = subst (λ (f : Option Rested). Says slave f answers.rested) (ap found_in answers.reply) (poll_says slave answers.rested near) in
+          said ran.quiet.follows one (found_in reply) half later here there (subst (λ (h : SlaveHalf). MayRest half h) (sym same) answers.rests)
+          (subst (λ (h : SlaveHalf). Says slave (found_in reply) h) (sym same) says)
 
   pub poll_lost : Ran (WasLost (poll_order slave) old new) old slave 1 new → Ran (Polled old slave new None) old slave 1 new
   poll_lost ran = Ran-weaker (omega arith) (λ half later here there lost. missed ran.quiet.follows lost.0 half later here there (elim lost.2 [

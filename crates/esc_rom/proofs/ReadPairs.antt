@@ -48,14 +48,15 @@ module _ (old : Seen) (slave : ℕ) (new : Seen) (near : slave < 64) where
   said None half later rests elsewhere = (rests, inr (λ at. elsewhere (MayRest-station half later rests ∙ at)))
   said (Some pair) half later rests words = (rests, words.0, words.1)
 
-  pub fetch_back : {found : Option WordPair} {datagram : Pdu} → found ≡ pair_of datagram → Ran (Answers (fetch_order slave) datagram) old slave 1 new → Ran (Fetched old slave new found) old slave 1 new
-  fetch_back {found} {datagram} is ran = Ran-weaker (omega arith) (λ half later here there answers. goes half later answers) ran
+  pub fetch_back : (reply : Pdu) → Ran (Answers (fetch_order slave) reply) old slave 1 new → Ran (Fetched old slave new (pair_of reply)) old slave 1 new
+  fetch_back reply ran = Ran-weaker (omega arith) (λ half later here there answers. goes half later answers) ran
     where
-      goes : (half later : SlaveHalf) → Answers (fetch_order slave) datagram half later → Fetched old slave new found half later
+      goes : (half later : SlaveHalf) → Answers (fetch_order slave) reply half later → Fetched old slave new (pair_of reply) half later
       goes half later answers =
           let same : later ≡ answers.rested = answers.is ∙ fetch-same answers.rested slave near in
-          let says = subst (λ (f : Option WordPair). Says slave f answers.rested) (ap pair_of answers.reply ∙ sym is) (fetch_says slave answers.rested near) in
-          said found half later (subst (λ (h : SlaveHalf). MayRest half h) (sym same) answers.rests) (subst (λ (h : SlaveHalf). Says slave found h) (sym same) says)
+          let says = subst (λ (f : Option WordPair). Says slave f answers.rested) (ap pair_of answers.reply) (fetch_says slave answers.rested near) in
+          said (pair_of reply) half later (subst (λ (h : SlaveHalf). MayRest half h) (sym same) answers.rests)
+          (subst (λ (h : SlaveHalf). Says slave (pair_of reply) h) (sym same) says)
 
   pub fetch_lost : Ran (WasLost (fetch_order slave) old new) old slave 1 new → Ran (Fetched old slave new None) old slave 1 new
   fetch_lost ran = Ran-weaker (omega arith) (λ half later here there lost. (

@@ -1,12 +1,10 @@
 -- The courses of word access, by how they end.
-use Rattle.std.proofs.Common.{◌≡◌, ℕ, ◌+◌, ◌==◌, ◌<◌, true, false, List, [], ◌++◌, length, slice_index, Some, Result, Ok, Err, IfErr, refl, sym, subst, inl, inr}
-use Rattle.ecat_frame.specs.Frame.{Pdu}
+use Rattle.std.proofs.Common.{◌≡◌, ℕ, ◌+◌, ◌<◌, true, false, List, [], ◌++◌, length, slice_index, Some, Result, Ok, Err, IfErr, refl, sym, subst, inl, inr}
 use Rattle.site_core.specs.State.{Seen}
-use Rattle.site_core.specs.declared.answers.Issued.TheVariants as issued
 use Rattle.rom_steps.specs.declared.step.Stop.{Stop}
 use Rattle.rom_steps.specs.declared.back.Rested.{Rested}
 use Rattle.rom_steps.specs.Courses.{Asked}
-use Rattle.rom_steps.specs.Accesses.{WaitsBy, issued_by, OpensBy}
+use Rattle.rom_steps.specs.Accesses.{WaitsBy, OpensBy}
 use Rattle.esc_rom.specs.declared.fault.RomFault.{RomFault}
 use Rattle.esc_rom.specs.declared.fault.RomFault.TheVariants as rom
 use Rattle.esc_rom.specs.Access.{OpensSlave, ReadsWords}
@@ -14,14 +12,6 @@ use Rattle.esc_rom.specs.Reading.{ReadsInParts, KeepsFirst}
 use Rattle.esc_rom.specs.Courses.{AskedInTurn, Takes}
 use Rattle.esc_rom.specs.Sent.{ReadsNext, FillsBy, OpensSlaveBy, ReadsAllBy, ReadsSlaveBy, FirstReadBy, no_slave, one_more_slave, ReadsLineBy}
 use Rattle.esc_rom.proofs.Courses.{asked-then, RoundsSo}
-
--- ISSUE
-
-pub taken-is : (reply : Pdu) → (reply.counter == 1) ≡ true → issued.Taken ≡ issued_by reply
-taken-is reply is = rw is refl
-
-pub not-taken-is : (reply : Pdu) → (reply.counter == 1) ≡ false → issued.NotTaken ≡ issued_by reply
-not-taken-is reply is = rw is refl
 
 -- READ
 

@@ -1,15 +1,10 @@
 -- The frames that each call of word access sends: which, in what order, and when it ends. Each has one datagram, with index 0.
 use Rattle.std.specs.Prelude.{◌≡◌, ◌⊎◌, ℕ, ◌+◌, ◌*◌, ◌/◌, ◌<◌, Bool, true, false, List, [], ◌++◌, length, is_some, slice_index, Result, Ok, Err}
-use Rattle.site_core.specs.State.{Seen}
-use Rattle.site_core.specs.declared.fault.DeviceFault.{DeviceFault}
-use Rattle.site_core.specs.declared.answers.Issued.{Issued}
-use Rattle.site_core.specs.declared.answers.Settled.{Settled}
 use Rattle.rom_steps.specs.declared.step.Stop.{Stop}
 use Rattle.rom_steps.specs.Courses.{Asked, Course, Ends, Then, OnlyIf, InTurn}
-use Rattle.rom_steps.specs.Accesses.{WaitsBy, IssuesBy, SettlesBy, OpensBy, ReadsPairBy}
+use Rattle.rom_steps.specs.Accesses.{WaitsBy, OpensBy, ReadsPairBy}
 use Rattle.esc_rom.specs.declared.fault.RomFault.{RomFault}
 use Rattle.esc_rom.specs.declared.fault.RomFault.TheVariants as rom
-use Rattle.esc_rom.specs.Courses.{Takes, AsCourse}
 
 -- ALL WORDS
 
@@ -79,20 +74,3 @@ pub record EndsForMemory (sizes : List ℕ) (log : List Asked) (fault : RomFault
 abbrev pub ReadsLineBy : {T : Type 0} → List ℕ → List Asked → Result T RomFault → Type 0
 ReadsLineBy sizes log (Ok plant) = FirstReadBy sizes (length sizes) log
 ReadsLineBy sizes log (Err fault) = EndsAtSlave sizes log fault ⊎ EndsForMemory sizes log fault
-
--- WHAT EACH CALL SENDS
-
-pub record IssueSends (slave word value : ℕ) (old : Seen) (result : Result Issued DeviceFault) (new : Seen) : Type 0 where
-  pub takes : Takes (AsCourse (IssuesBy slave word value)) old result new
-
-pub record SettleSends (slave : ℕ) (taken : Bool) (old : Seen) (result : Result Settled DeviceFault) (new : Seen) : Type 0 where
-  pub takes : Takes (AsCourse (SettlesBy slave taken)) old result new
-
-pub record OpeningSends (slave : ℕ) (old : Seen) (result : Result (Unit {0}) RomFault) (new : Seen) : Type 0 where
-  pub takes : Takes (OpensSlaveBy slave) old result new
-
-pub record ReadingSends {T : Type 0} (slave size : ℕ) (old : Seen) (result : Result T RomFault) (new : Seen) : Type 0 where
-  pub takes : Takes (ReadsAllBy slave size) old result new
-
-pub record LineSends {T : Type 0} (sizes : List ℕ) (old : Seen) (result : Result T RomFault) (new : Seen) : Type 0 where
-  pub takes : Takes (ReadsLineBy sizes) old result new

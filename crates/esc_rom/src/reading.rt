@@ -8,7 +8,7 @@ ghost use Rattle.esc_rom.specs.Runs.{Performs, Waited};
 ghost use Rattle.esc_rom.specs.WordPairs.{ReadsPair, ReadsAll};
 ghost use Rattle.esc_rom.specs.Access.{ReadsWords};
 ghost use Rattle.esc_rom.specs.Courses.{Takes};
-ghost use Rattle.esc_rom.specs.Sent.{FillsBy, ReadingSends};
+ghost use Rattle.esc_rom.specs.Sent.{FillsBy, ReadsAllBy};
 ghost use Rattle.esc_rom.specs.Driving.{rest_at, words_at};
 
 use crate::driving::drive;
@@ -108,7 +108,7 @@ fn blank(alloc: Global, count: u16) -> Result<Words, RomFault>
 pub fn read_all<S: Site>(alloc: Global, site: &mut S, slave: u16) -> Result<Words, RomFault>
     requires { Owns (S.line site.old) slave }
     ensures reads { ReadsWords (S.seen site.old) slave (slice_index (S.line site.old).sizes slave) result (S.seen site.new) }
-    ensures frames { ReadingSends slave (slice_index (S.line site.old).sizes slave) (S.seen site.old) result (S.seen site.new) }
+    ensures frames { Takes (ReadsAllBy slave (slice_index (S.line site.old).sizes slave)) (S.seen site.old) result (S.seen site.new) }
     ensures line { S.line site.new ≡ S.line site.old }
 {
     let mut words = blank(alloc, site.words_of(slave))?;

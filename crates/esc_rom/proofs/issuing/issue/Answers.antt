@@ -33,15 +33,13 @@ returns-clause-issues g c =
     c.issued_at.ensures)
 
 pub returns-in_err-end-clause-frames : goal.returns-in_err-end-clause-frames
-returns-in_err-end-clause-frames g c = record {
-  takes = as-cut (IssuesBy c.args.slave c.args.word c.args.value) c.from_residual.result c.from_residual.ensures.0
-      (driven-cut ends.Issued (IssuesBy c.args.slave c.args.word c.args.value) c.args.slave c.begin_issue.result (c.begin_issue.ensures.course c.args.slave) c.in_err-end.ensures.drives);
-}
+returns-in_err-end-clause-frames g c =
+    as-cut (IssuesBy c.args.slave c.args.word c.args.value) c.from_residual.result c.from_residual.ensures.0
+    (driven-cut ends.Issued (IssuesBy c.args.slave c.args.word c.args.value) c.args.slave c.begin_issue.result (c.begin_issue.ensures.course c.args.slave) c.in_err-end.ensures.drives)
 
 pub returns-clause-frames : goal.returns-clause-frames
-returns-clause-frames g c = record {
-  takes = as-value (IssuesBy c.args.slave c.args.word c.args.value)
-      (took c.issued_at.result (λ other same. cc)
-      (driven ends.Issued (IssuesBy c.args.slave c.args.word c.args.value) c.args.slave c.begin_issue.result (c.begin_issue.ensures.course c.args.slave) c.in_ok-end.ensures.drives)
-      c.issued_at.ensures);
-}
+returns-clause-frames g c =
+    as-value (IssuesBy c.args.slave c.args.word c.args.value)
+    (took c.issued_at.result (λ other same. cc)
+    (driven ends.Issued (IssuesBy c.args.slave c.args.word c.args.value) c.args.slave c.begin_issue.result (c.begin_issue.ensures.course c.args.slave) c.in_ok-end.ensures.drives)
+    c.issued_at.ensures)

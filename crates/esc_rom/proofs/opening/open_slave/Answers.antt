@@ -34,21 +34,18 @@ returns-clause-opens g c =
     (told is_open open-is (driven opening_end (OpensBy c.args.slave) c.args.slave c.begin_opening.result (c.begin_opening.ensures.course c.args.slave) c.in_ok-end.ensures.drives))))
 
 pub returns-in_err-end-clause-frames : goal.returns-in_err-end-clause-frames
-returns-in_err-end-clause-frames g c = record {
-  takes = open-cut-by c.args.slave c.from_residual.result (rom_stopped c.from_residual.result c.from_residual.ensures.1)
-      (driven-cut opening_end (OpensBy c.args.slave) c.args.slave c.begin_opening.result (c.begin_opening.ensures.course c.args.slave) c.in_err-end.ensures.drives);
-}
+returns-in_err-end-clause-frames g c =
+    open-cut-by c.args.slave c.from_residual.result (rom_stopped c.from_residual.result c.from_residual.ensures.1)
+    (driven-cut opening_end (OpensBy c.args.slave) c.args.slave c.begin_opening.result (c.begin_opening.ensures.course c.args.slave) c.in_err-end.ensures.drives)
 
 pub returns-then-is_open-clause-frames : goal.returns-then-is_open-clause-frames
-returns-then-is_open-clause-frames g c = record {
-  takes = opened-by c.args.slave
-      (takes-value (OpensBy c.args.slave) (sym c.is_open.ensures ∙ c.if-is_open.true)
-      (told is_open open-is (driven opening_end (OpensBy c.args.slave) c.args.slave c.begin_opening.result (c.begin_opening.ensures.course c.args.slave) c.in_ok-end.ensures.drives)));
-}
+returns-then-is_open-clause-frames g c =
+    opened-by c.args.slave
+    (takes-value (OpensBy c.args.slave) (sym c.is_open.ensures ∙ c.if-is_open.true)
+    (told is_open open-is (driven opening_end (OpensBy c.args.slave) c.args.slave c.begin_opening.result (c.begin_opening.ensures.course c.args.slave) c.in_ok-end.ensures.drives)))
 
 pub returns-clause-frames : goal.returns-clause-frames
-returns-clause-frames g c = record {
-  takes = unopened-by c.args.slave
-      (takes-value (OpensBy c.args.slave) (sym c.is_open.ensures ∙ c.if-is_open.false)
-      (told is_open open-is (driven opening_end (OpensBy c.args.slave) c.args.slave c.begin_opening.result (c.begin_opening.ensures.course c.args.slave) c.in_ok-end.ensures.drives)));
-}
+returns-clause-frames g c =
+    unopened-by c.args.slave
+    (takes-value (OpensBy c.args.slave) (sym c.is_open.ensures ∙ c.if-is_open.false)
+    (told is_open open-is (driven opening_end (OpensBy c.args.slave) c.args.slave c.begin_opening.result (c.begin_opening.ensures.course c.args.slave) c.in_ok-end.ensures.drives)))

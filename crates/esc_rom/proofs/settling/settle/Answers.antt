@@ -31,15 +31,13 @@ returns-clause-settles g c =
     c.settled_at.ensures))
 
 pub returns-in_err-end-clause-frames : goal.returns-in_err-end-clause-frames
-returns-in_err-end-clause-frames g c = record {
-  takes = as-cut (SettlesBy c.args.slave c.args.taken) c.from_residual.result c.from_residual.ensures.0
-      (driven-cut ends.Settled (SettlesBy c.args.slave c.args.taken) c.args.slave c.begin_settling.result (c.begin_settling.ensures.course c.args.slave) c.in_err-end.ensures.drives);
-}
+returns-in_err-end-clause-frames g c =
+    as-cut (SettlesBy c.args.slave c.args.taken) c.from_residual.result c.from_residual.ensures.0
+    (driven-cut ends.Settled (SettlesBy c.args.slave c.args.taken) c.args.slave c.begin_settling.result (c.begin_settling.ensures.course c.args.slave) c.in_err-end.ensures.drives)
 
 pub returns-clause-frames : goal.returns-clause-frames
-returns-clause-frames g c = record {
-  takes = as-value (SettlesBy c.args.slave c.args.taken)
-      (took c.settled_at.result (λ other same. cc)
-      (driven ends.Settled (SettlesBy c.args.slave c.args.taken) c.args.slave c.begin_settling.result (c.begin_settling.ensures.course c.args.slave) c.in_ok-end.ensures.drives)
-      c.settled_at.ensures);
-}
+returns-clause-frames g c =
+    as-value (SettlesBy c.args.slave c.args.taken)
+    (took c.settled_at.result (λ other same. cc)
+    (driven ends.Settled (SettlesBy c.args.slave c.args.taken) c.args.slave c.begin_settling.result (c.begin_settling.ensures.course c.args.slave) c.in_ok-end.ensures.drives)
+    c.settled_at.ensures)
