@@ -1,6 +1,7 @@
 mod AfterDesk
 mod Endings
 mod Interleaved
+mod Keeping
 mod Mirrored
 mod Recovering
 mod RunEnds

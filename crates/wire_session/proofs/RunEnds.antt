@@ -1,7 +1,7 @@
 -- What the files hold after a run on a wire.
-use Rattle.std.proofs.Common.{◌≡◌, ℕ, List, ◌++◌, length, map, None, Option, Some, Result, Ok, Err, inr, sym}
+use Rattle.std.proofs.Common.{◌≡◌, ◌∙◌, ℕ, true, false, List, [], ◌++◌, length, map, None, Option, Some, Result, Ok, Err, IsTrue, inl, inr, refl, sym}
 use Rattle.std.proofs.Common.{subst}
-use Rattle.std.specs.Prelude.{IfOk, IfSome, IsOkAnd, IsSomeAnd, OnOk, Vec}
+use Rattle.std.specs.Prelude.{IfOk, IfSome, IsErr, IsOk, IsOkAnd, IsSomeAnd, OnOk, Vec}
 use Rattle.std.specs.Global.{Global}
 use Rattle.sii_edit.specs.declared.command.Command.{Command}
 use Rattle.site_core.specs.State.{Seen}
@@ -29,7 +29,14 @@ use Rattle.wire_session.specs.Running.{BeginsWithMends, EndsFound, MendsLine, Ru
 use Rattle.site_wire.specs.declared.device.WireLog.{WireLog}
 use Rattle.script_session.specs.declared.logs.LineLog.{LineLog}
 use Rattle.script_session.specs.declared.running.LineRun.{LineRun}
-use Rattle.script_session.specs.Running.{HasEnded, SavesSite, whole_of}
+use Rattle.script_session.specs.Running.{HasEnded, OfDevices, RunGoes, SavesSite, whole_of}
+use Rattle.site_wire.specs.declared.device.WireDevice.{WireDevice}
+use Rattle.station_files.specs.declared.faults.Fault.{Fault}
+use Rattle.station_line.specs.Site.{switched_on}
+use Rattle.kept_wire.specs.Keeping.{CutLeavesKeptOnWire}
+use Rattle.wire_session.specs.Keeping.{GoesReported, KeepsFound, OfWire}
+use Rattle.wire_session.specs.Reporting.{IsExplained, IsReported}
+use Rattle.wire_session.proofs.Keeping.{follows, well, tells, run_on_wire}
 use Rattle.wire_session.specs.declared.logs.Worked.{Worked}
 use Rattle.wire_session.specs.Slaves.{SlavesHold}
 use Rattle.wire_session.proofs.Endings.{ends_after_open}
@@ -70,6 +77,97 @@ ends_found Way worked old mid new line plant bytes site commands opened made hol
       slaves = λ driven. let led = saves.so.followed driven in (led.s, led.recovered, led.held, hold led.s led.recovered led.way);
     }) others saved
 
+-- ---- what is kept
+
+-- a value is itself
+itself : {A : Type 0} (value : Option A) → IfSome value (λ a. value ≡ Some a)
+itself None = tt
+itself (Some a) = refl
+
+pub goes_reported : {D T : Type 0} (follows : D → Seen → Type 0) (well : D → Type 0) (tells : D → T → Type 0) (before : Seen) (commands : List Command)
+    (run : LineRun T) (whole : Option (LineLog T)) (Failed : Type 0) → IfSome whole (λ all. whole_of run.reported.desk run.reported.after ≡ Some all)
+    → (IsErr run.ended → Failed) → RunGoes (OfDevices follows well tells run.reported) before commands (IsErr run.ended)
+    → GoesReported follows well tells before commands Failed whole
+goes_reported follows well tells before commands run whole Failed is fails goes =
+    record { reported = run.reported; whole_is = is; ended = run.ended; fails = fails; goes = goes }
+
+-- the whole that is told
+pub whole_told : {T : Type 0} (run : LineRun T) (whole : Option (LineLog T)) → whole ≡ whole_of run.reported.desk run.reported.after
+    → IfSome whole (λ all. whole_of run.reported.desk run.reported.after ≡ Some all)
+whole_told run whole is = subst (λ told. IfSome told (λ all. whole_of run.reported.desk run.reported.after ≡ Some all)) (sym is) (itself (whole_of run.reported.desk run.reported.after))
+
+-- a run that failed is told so
+pub fails_so : (ended : Result Answered Fault) (answers : Answered) (result : Result ExitStatus WireFault)
+    → IfOk result (AnswersGive (λ answered. IsOkAnd ended (λ given. answered ≡ AllAccepted → (answers ≡ AllAccepted) × (given ≡ AllAccepted)))) → IsErr ended → IsErr result
+fails_so (Ok given) answers result ends failed = absurd failed
+fails_so (Err fault) answers (Ok status) ends failed = absurd ends.so
+fails_so (Err fault) answers (Err other) ends failed = tt
+
+still_fails : {T : Type 0} (ended explained result : Result T WireFault) → IsExplained ended explained → IsReported explained result → IsErr ended → IsErr result
+still_fails {T} ended explained result (inl same) reported failed =
+    reports explained result reported (subst (λ (r : Result T WireFault). IsErr r) (sym same) failed)
+  where
+    reports : (explained result : Result T WireFault) → IsReported explained result → IsErr explained → IsErr result
+    reports explained result (inl is) fails = subst (λ (r : Result T WireFault). IsErr r) (sym is) fails
+    reports (Ok value) result (inr both) fails = absurd fails
+    reports (Err fault) result (inr both) fails = absurd both.0
+still_fails (Ok value) explained result (inr both) reported failed = absurd failed
+still_fails (Err fault) (Ok value) result (inr both) reported failed = absurd both
+still_fails {T} (Err fault) (Err other) result (inr both) (inl is) failed = subst (λ (r : Result T WireFault). IsErr r) (sym is) tt
+still_fails (Err fault) (Err other) result (inr both) (inr later) failed = absurd later.0
+
+was_ok : {T : Type 0} (ended explained result : Result T WireFault) → IsExplained ended explained → IsReported explained result → IsOk result → IsOk ended
+was_ok (Ok value) explained result explains reports fine = tt
+was_ok (Err fault) explained result explains reports fine = never result (still_fails (Err fault) explained result explains reports tt) fine
+  where
+    never : (result : Result _ WireFault) → IsErr result → IsOk result → _
+    never (Ok value) fails fine = absurd fails
+    never (Err fault) fails fine = absurd fine
+
+-- what is told after the work changes nothing of it
+pub keeps_as_reported : (F : Type 0) (worked : Worked ExitStatus WireLog) (explained result : Result ExitStatus WireFault) (plant : List (List ℕ)) (bytes : List ℕ)
+    (commands : List Command) → IsExplained worked.ended explained → IsReported explained result → KeepsFound F worked plant bytes commands
+    → KeepsFound F (record worked { ended = result }) plant bytes commands
+keeps_as_reported F worked explained result plant bytes commands explains reports keeps = record {
+  begun = λ fine. keeps.begun (was_ok worked.ended explained result explains reports fine);
+  unbegun = keeps.unbegun;
+  kept = λ begun.
+      let kept = keeps.kept begun in
+      record {
+        reported = kept.reported;
+        whole_is = kept.whole_is;
+        ended = kept.ended;
+        fails = λ failed. still_fails worked.ended explained result explains reports (kept.fails failed);
+        kept = kept.kept;
+      };
+}
+
+-- nothing began
+pub keeps_unbegun : (F : Type 0) (worked : Worked ExitStatus WireLog) (fault : WireFault) (plant : List (List ℕ)) (bytes : List ℕ) (commands : List Command)
+    → worked.is_begun ≡ false → worked.ended ≡ Err fault → worked.reported ≡ None → KeepsFound F worked plant bytes commands
+keeps_unbegun F worked fault plant bytes commands unbegun failed none = record {
+  begun = λ fine. absurd (subst (λ (r : Result ExitStatus WireFault). IsOk r) failed fine);
+  unbegun = λ is. none;
+  kept = λ begun. absurd (let e : true ≡ false = sym begun ∙ unbegun in cc);
+}
+
+-- what devices on a wire keep of a run that began
+pub keeps_begun : {L F C D : Type 0} (within : D → WireDevice L F C) (worked : Worked ExitStatus WireLog) (before : Seen) (plant : List (List ℕ)) (bytes : List ℕ)
+    (commands : List Command) → CutLeavesKeptOnWire F SiteValue → before.past ≡ [] → before ≡ switched_on plant bytes → IsTrue worked.is_begun
+    → GoesReported (follows within) (well within) (tells within) before commands (IsErr worked.ended) worked.reported → KeepsFound F worked plant bytes commands
+keeps_begun {L} {F} {C} {D} within worked before plant bytes commands law new found begun goes = record {
+  begun = λ fine. begun;
+  unbegun = λ is. absurd (let e : true ≡ false = sym begun ∙ is in cc);
+  kept = λ is. record {
+    reported = goes.reported;
+    whole_is = goes.whole_is;
+    ended = goes.ended;
+    fails = goes.fails;
+    kept = subst (λ (seen : Seen). RunGoes (OfWire F goes.reported) seen commands (IsErr goes.ended)) found
+        (run_on_wire within law goes.reported (IsErr goes.ended) (IsErr goes.ended) (λ failed. failed) before commands new goes.goes);
+  };
+}
+
 -- ---- the whole
 
 -- nothing was written before the line was looked for
@@ -77,11 +175,12 @@ pub found_after : (old mid : Known) (name : List ℕ) (line : LineFile) (plant :
     → IsFound mid name line plant bytes → IsFound old name line plant bytes
 found_after old mid name line plant bytes same found = subst (λ (files : Known). IsFound files name line plant bytes) same found
 
-pub runs : (worked : Worked ExitStatus WireLog) (said : List Mend) (leads : Leads) (old found new : Known) (name script : List ℕ) (line : LineFile)
+pub runs : (F : Type 0) (worked : Worked ExitStatus WireLog) (said : List Mend) (leads : Leads) (old found new : Known) (name script : List ℕ) (line : LineFile)
     (plant : List (List ℕ)) (bytes : List ℕ) (commands : List Command) → IsFound old name line plant bytes
     → HasJournal (map length plant) bytes → AreOfImages old line said bytes plant → BeginsWithMends old line said bytes plant script commands → IsRunSeparate leads line name script
-    → found ≡ old → EndsFound worked found new line plant bytes commands → RunsScript worked said leads old new name script
-runs worked said leads old found new name script line plant bytes commands given validated kept spelt separate same ends =
+    → found ≡ old → EndsFound worked found new line plant bytes commands → KeepsFound F worked plant bytes commands
+    → RunsScript F worked said leads old new name script
+runs F worked said leads old found new name script line plant bytes commands given validated kept spelt separate same ends keeps =
     let P : Known → Type 0 = λ files. EndsFound worked files new line plant bytes commands in
     inr (record {
       line = line;
@@ -94,14 +193,16 @@ runs worked said leads old found new name script line plant bytes commands given
       spelt = spelt;
       separate = separate;
       ends = subst P same ends;
+      keeps = keeps;
     })
 
 -- the same where image files were to be written to their slaves
-pub mends : (worked : Worked ExitStatus WireLog) (said : List Mend) (leads : Leads) (old found new : Known) (name : List ℕ) (line : LineFile)
+pub mends : (F : Type 0) (worked : Worked ExitStatus WireLog) (said : List Mend) (leads : Leads) (old found new : Known) (name : List ℕ) (line : LineFile)
     (plant begun : List (List ℕ)) (bytes : List ℕ) (commands : List Command) → IsFound old name line plant bytes
     → HasJournal (map length plant) bytes → AreOfImages old line said bytes plant → AreMends said commands
-    → MendsFiles old line said bytes plant begun commands → IsLineSeparate leads line name → found ≡ old → EndsFound worked found new line plant bytes commands → MendsLine worked said leads old new name
-mends worked said leads old found new name line plant begun bytes commands given validated kept said_so mended separate same ends =
+    → MendsFiles old line said bytes plant begun commands → IsLineSeparate leads line name → found ≡ old → EndsFound worked found new line plant bytes commands → KeepsFound F worked plant bytes commands
+    → MendsLine F worked said leads old new name
+mends F worked said leads old found new name line plant begun bytes commands given validated kept said_so mended separate same ends keeps =
     let P : Known → Type 0 = λ files. EndsFound worked files new line plant bytes commands in
     inr (record {
       line = line;
@@ -116,6 +217,7 @@ mends worked said leads old found new name line plant begun bytes commands given
       mended = mended;
       separate = separate;
       ends = subst P same ends;
+      keeps = keeps;
     })
 
 -- the image files were loaded after the script

@@ -25,6 +25,7 @@ use Rattle.site_wire.specs.declared.device.WireDevice.{WireDevice}
 use Rattle.site_wire.proofs.AmendedLaws.{brought_up_is_after}
 use Rattle.site_wire.proofs.Behind.{slaves_are_behind}
 use Rattle.site_wire.proofs.Living.{lives_parts, lives_station}
+use Rattle.kept_wire.proofs.InJobs.{left_with}
 use Rattle.kept_files.proofs.Extending.{first_stays}
 use Rattle.kept_files.proofs.AtDeskOnFiles.{worked_follows}
 use Rattle.book_model.specs.Book.{base_of}
@@ -99,27 +100,6 @@ module _ {D T : Type 0} (follows : D → Seen → Type 0) (well : D → Type 0) 
   reported_of (one ∷ reported) (e ∷ ends) (suc k) part are sound here = reported_of reported ends k part are.1 sound.1 here
 
 -- WHAT A POWER CUT LEAVES
-
--- The words of all slaves, with those of one as a power cut may leave them.
-record LeftWith (halves : List SlaveHalf) (slave : ℕ) (left : List ℕ) : Type 0 where
-  words : List (List ℕ)
-  each : EachMayLeave halves words
-  here : slice_get words slave ≡ Some left
-
-left_same : (halves : List SlaveHalf) → (words : List (List ℕ)) × EachMayLeave halves words
-left_same [] = ([], tt)
-left_same (half ∷ halves) = let rest = left_same halves in (half.words ∷ rest.0, (MayLeave-same half, rest.1))
-
-left_with : (halves : List SlaveHalf) (slave : ℕ) (half : SlaveHalf) (left : List ℕ) → slice_get halves slave ≡ Some half → MayLeave half left
-    → LeftWith halves slave left
-left_with [] slave half left here may = absurd cc
-left_with (first ∷ halves) zero half left here may =
-    let same : first ≡ half = cc in
-    let rest = left_same halves in
-    record { words = left ∷ rest.0; each = (subst (λ (h : SlaveHalf). MayLeave h left) (sym same) may, rest.1); here = refl }
-left_with (first ∷ halves) (suc slave) half left here may =
-    let rest = left_with halves slave half left here may in
-    record { words = first.words ∷ rest.words; each = (MayLeave-same first, rest.each); here = rest.here }
 
 -- Of a station that has recovered each slave after its half has the contents.
 holds_contents : (s : Station) (slave : ℕ) (half later : SlaveHalf) → HasRecovered s → slice_get s.seen.state.halves slave ≡ Some half → IsAfter half later

@@ -1,5 +1,6 @@
 pub mod Ending
 pub mod Interleaving
+pub mod Keeping
 pub mod Planning
 pub mod Recovery
 pub mod Redoing

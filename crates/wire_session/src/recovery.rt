@@ -110,7 +110,8 @@ fn recover_found<
         images: &images,
         journal,
     };
-    let Worked { ended, reported } = recover_opened(rt, as_found, &locked, store, output);
+    let worked = recover_opened(rt, as_found, &locked, store, output);
+    let Worked { is_begun, ended, reported } = worked;
     let explained = tell_why(rt, &locked, ended);
     let mut wire = locked.into_line().into_wire();
     hand_back(&mut wire, &states);
@@ -118,6 +119,7 @@ fn recover_found<
     let words = Plant::of(slaves);
     let before = Before { line, words };
     Worked {
+        is_begun,
         ended: report_end(rt.alloc(), tells, &before, explained, store, output),
         reported,
     }
@@ -191,11 +193,12 @@ fn recover_site<R: Wait + Threads + AllocGlobal + Sync, D: TellsPart + Send, S: 
             drop(core);
             let (saved, after) = save_reported(rt.alloc(), line, left, store);
             Worked {
+                is_begun: true,
                 ended: print_saved(saved, recovered, output),
                 reported: Some(LineLog { desk, after }),
             }
         }
-        Err(fault) => Worked::of_fault(fault),
+        Err(fault) => Worked::broken_off(fault),
     }
 }
 

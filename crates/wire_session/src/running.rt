@@ -1,5 +1,5 @@
 //! The subcommand `run`.
-ghost use Rattle.std.specs.Prelude.{◌≡◌, ◌≤◌, ◌∷◌, ◌++◌, [], false, length, map, None, Ok, IfOk, IfSome, IsOkAnd, IsSomeAnd, IsTrue, OnOk};
+ghost use Rattle.std.specs.Prelude.{◌≡◌, ◌≤◌, ◌∷◌, ◌++◌, [], false, length, map, None, Ok, IfOk, IfSome, IsErr, IsOkAnd, IsSomeAnd, IsTrue, OnOk};
 ghost use Rattle.esc_rom.specs.Owned.{OwnsAll};
 ghost use Rattle.station_files.specs.Files.{ChangesAmong};
 ghost use Rattle.station_files.specs.FileNames.{files_with, written_of};
@@ -11,14 +11,17 @@ ghost use Rattle.station_line.specs.Site.{files_of};
 ghost use Rattle.script_session.specs.Running.{EndsReported, SavesSite};
 ghost use Rattle.wire_scan.specs.Opening.{IsFound};
 ghost use Rattle.wire_scan.specs.Keeping.{AreOfImages};
+ghost use Rattle.wire_mirror.specs.declared.journal_file.JournalFile.{JournalFile};
+ghost use Rattle.wire_session.specs.Keeping.{GoesReported, KeepsFound};
 ghost use Rattle.wire_session.specs.Running.{BeginsWithMends, EndsFound, RunsScript};
 ghost use Rattle.wire_session.specs.Slaves.{AreOfParts};
 
 use crate::as_found::AsFound;
 use crate::expecting::expect_words;
-use crate::followed::followed;
+use crate::followed::{Followed, followed};
 use crate::logs::{Worked, are_of_parts};
 use crate::reporting::{report_end, tell_handed, tell_why};
+use kept_wire::a_cut_leaves_kept_on_a_wire;
 use line_changes::Before;
 use line_watch::Watch;
 use script_session::{LineRun, Start, Task, Work, run_line};
@@ -38,7 +41,7 @@ use std::thread::Threads;
 use wire_bringup::hand_back;
 use wire_faults::WireFault;
 use wire_frames::{NumberedWire, Wire};
-use wire_mirror::Images;
+use wire_mirror::{Images, JournalFile};
 use wire_scan::{
     FoundWire, Named, ScanOptions, find_line, keep_script_separate, open_line, validate_commands,
     validate_images,
@@ -86,7 +89,7 @@ pub fn run_script<
     store: &mut S,
     output: &mut O,
 ) -> Worked<ExitStatus, WireLog>
-    ensures { RunsScript result order.entry.asked.mends S.leads (S.files store.old) (S.files store.new) order.entry.named.line.now order.entry.named.script.now }
+    ensures { RunsScript (JournalFile S.File) result order.entry.asked.mends S.leads (S.files store.old) (S.files store.new) order.entry.named.line.now order.entry.named.script.now }
 {
     let mut wire = wire;
     match find_all(watch.rt, &mut wire, order, store) {
@@ -213,7 +216,8 @@ pub(crate) fn run_found<
     requires most { length found.slaves.items ≤ 64 }
     requires count { length found.slaves.items ≡ length found.line.images.items }
     requires images { length found.images.items ≡ length found.line.images.items }
-    ensures { EndsFound result (S.files store.old) (S.files store.new) found.line found.slaves.items found.journal.items commands.items }
+    ensures ends { EndsFound result (S.files store.old) (S.files store.new) found.line found.slaves.items found.journal.items commands.items }
+    ensures keeps { KeepsFound (JournalFile S.File) result found.slaves.items found.journal.items commands.items }
 {
     let FoundWire {
         line,
@@ -241,10 +245,8 @@ pub(crate) fn run_found<
         images: &images,
         journal,
     };
-    let Worked {
-        ended,
-        reported: of_devices,
-    } = run_opened(watch.rt, as_found, &locked, task, store, output);
+    let worked = run_opened(watch.rt, as_found, &locked, task, store, output);
+    let Worked { is_begun, ended, reported: of_devices } = worked;
     let explained = tell_why(watch.rt, &locked, ended);
     let mut wire = locked.into_line().into_wire();
     hand_back(&mut wire, &states);
@@ -253,6 +255,7 @@ pub(crate) fn run_found<
     let words = Plant::of(slaves);
     let before = Before { line, words };
     Worked {
+        is_begun,
         ended: report_end(watch.rt.alloc(), tells, &before, reported, store, output),
         reported: of_devices,
     }
@@ -277,8 +280,9 @@ fn run_opened<
     requires count { length found.slaves.now ≡ length found.line.now.images.items }
     requires images { length found.images.now ≡ length found.line.now.images.items }
     requires still { task.turns ≡ false }
-    ensures { EndsFound result (S.files store.old) (S.files store.new)
+    ensures ends { EndsFound result (S.files store.old) (S.files store.new)
         found.entry.line.now found.entry.slaves.now found.entry.journal.items task.work.commands.items }
+    ensures keeps { KeepsFound (JournalFile S.File) result found.entry.slaves.now found.entry.journal.items task.work.commands.items }
 {
     let AsFound {
         line,
@@ -297,6 +301,10 @@ fn run_opened<
     let is_old = is_old(&journal);
     let images = Images::new(files.images);
     let device = followed(rt, locked, files.journal, &images);
+    a_cut_leaves_kept_on_a_wire::<
+        JournalFile<'_, S::File>,
+        ShadowSite<Followed<'_, R, W, S::File>>,
+    >();
     match site_of(rt.alloc(), slaves, journal, device) {
         Ok(site) => run_site(rt, line, Start { site, is_old }, task, store, output),
         Err(AllocError) => {
@@ -318,8 +326,10 @@ fn run_site<R: Wait + Threads + AllocGlobal + Sync, D: TellsPart + Send, S: Stor
     requires disk { IsTrue start.site.line.has_disk }
     requires owned { OwnsAll start.site.line }
     requires old { start.is_old ≡ is_old start.site.seen.state.disk.bytes }
+    ensures begun { IsTrue result.is_begun }
     ensures own { IfSome result.reported (λ reported. AreOfParts D.is_of reported.desk) }
     ensures others { ChangesAmong (S.files store.old) (S.files store.new) (files_of line.now) }
+    ensures goes { GoesReported D.follows D.well D.tells start.site.seen task.work.commands.items (IsErr result.ended) result.reported }
     ensures saved { IfOk result.ended (AnswersGive (SavesSite (λ last. IsSomeAnd result.reported (λ reported.
         EndsReported D.follows D.well D.tells task.turns start.site (length line.now.images.items) reported last)) (S.files store.new) line.now
         start.site task.work.commands.items)) }
@@ -335,14 +345,16 @@ fn run_site<R: Wait + Threads + AllocGlobal + Sync, D: TellsPart + Send, S: Stor
         Some(whole) => {
             if !are_of_parts::<D>(&whole.desk) {
                 drop(whole);
-                return Worked::of_fault(Fault::Unserved);
+                return Worked::broken_off(Fault::Unserved);
             }
             Worked {
+                is_begun: true,
                 ended,
                 reported: Some(whole),
             }
         }
         None => Worked {
+            is_begun: true,
             ended,
             reported: None,
         },

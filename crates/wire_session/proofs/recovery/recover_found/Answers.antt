@@ -9,8 +9,8 @@ use Rattle.wire_session.proofs.recovery.recover_found.Goals as goal
 pub returns : goal.returns
 returns g c =
     ends_as_reported
-    (λ (files : Known) (done : Unit {0}). SavesRecovered (λ s. IsSomeAnd c.recover_opened-ended.result.reported (SlavesHold c.args.found.slaves.items s)) files c.args.found.line (switched_on c.args.found.slaves.items c.args.found.journal.items))
-    c.recover_opened-ended.result.ended c.tell_why-explained.result c.report_end.result (g.S.Store.files c.args.store.now)
-    (g.S.Store.files c.recover_opened-ended.new.store) (g.S.Store.files c.report_end.new.store) c.args.found.line
+    (λ (files : Known) (done : Unit {0}). SavesRecovered (λ s. IsSomeAnd c.recover_opened-worked.result.reported (SlavesHold c.args.found.slaves.items s)) files c.args.found.line (switched_on c.args.found.slaves.items c.args.found.journal.items))
+    c.recover_opened-worked.result.ended c.tell_why-explained.result c.report_end.result (g.S.Store.files c.args.store.now)
+    (g.S.Store.files c.recover_opened-worked.new.store) (g.S.Store.files c.report_end.new.store) c.args.found.line
     c.report_end.ensures.same c.tell_why-explained.ensures c.report_end.ensures.reported
-    (rw c.deref.ensures.value at c.recover_opened-ended.ensures)
+    (rw c.deref.ensures.value at c.recover_opened-worked.ensures)

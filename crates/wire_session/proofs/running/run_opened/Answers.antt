@@ -14,7 +14,7 @@ use Rattle.wire_session.proofs.SlavesHeld.{slaves_hold}
 use Rattle.station_files.specs.declared.faults.Fault.TheVariants.{Memory}
 use Rattle.wire_faults.specs.declared.faults.WireFault.TheVariants as wire
 use Rattle.wire_session.proofs.Endings.{opened_refused}
-use Rattle.wire_session.proofs.RunEnds.{ends_found, reported_own}
+use Rattle.wire_session.proofs.RunEnds.{ends_found, keeps_begun, keeps_unbegun, reported_own}
 use Rattle.wire_session.proofs.running.run_opened.Goals as goal
 
 pub run_site-requires-send-D : goal.run_site-requires-send-D
@@ -25,8 +25,8 @@ run_site-requires-clause-old g c κs lives =
     old-by c.args.found.slaves.now c.args.found.journal.items c.in-Ok-site_of.site c.is_old-is_old.result
     c.in-Ok-site_of.ensures (rw c.deref-2.ensures.value at c.is_old-is_old.ensures)
 
-pub returns-in-Ok-site_of : goal.returns-in-Ok-site_of
-returns-in-Ok-site_of g c =
+pub returns-in-Ok-site_of-clause-ends : goal.returns-in-Ok-site_of-clause-ends
+returns-in-Ok-site_of-clause-ends g c =
     let count = length c.args.found.line.now.images.items in
     ends_found (λ last. IsSomeAnd c.run_site.result.reported (λ reported. EndsReported follows_in well_in tells_in c.args.task.turns c.in-Ok-site_of.site count reported last))
     c.run_site.result (g.S.Store.files c.args.store.now) (g.S.Store.files c.open_line.new.store) (g.S.Store.files c.run_site.new.store)
@@ -37,10 +37,21 @@ returns-in-Ok-site_of g c =
     c.in-Ok-site_of.ensures.seen c.in-Ok-site_of.ensures.sizes (sym c.requires.count) recovered) way)
     c.run_site.ensures.others c.run_site.ensures.saved
 
-pub returns : goal.returns
-returns g c =
+pub returns-clause-ends : goal.returns-clause-ends
+returns-clause-ends g c =
     let found = c.args.found in
     opened_refused
     (λ (status : ExitStatus). SavesFound (g.S.Store.files c.open_line.new.store) found.line.now found.slaves.now found.journal.items c.args.task.work.commands.items c.of_fault-in-Err-site_of.result.reported status)
     c.of_fault-in-Err-site_of.result.ended (wire.Station Memory) (g.S.Store.files c.args.store.now) (g.S.Store.files c.open_line.new.store) found.line.now
     c.open_line.ensures.others c.of_fault-in-Err-site_of.ensures.ended
+
+pub returns-in-Ok-site_of-clause-keeps : goal.returns-in-Ok-site_of-clause-keeps
+returns-in-Ok-site_of-clause-keeps g c =
+    keeps_begun device_in c.run_site.result c.in-Ok-site_of.site.seen c.args.found.slaves.now c.args.found.journal.items c.args.task.work.commands.items
+    c.a_cut_leaves_kept_on_a_wire.ensures (ap (λ (seen : Seen). seen.past) c.in-Ok-site_of.ensures.seen) c.in-Ok-site_of.ensures.seen
+    c.run_site.ensures.begun c.run_site.ensures.goes
+
+pub returns-clause-keeps : goal.returns-clause-keeps
+returns-clause-keeps g c =
+    keeps_unbegun _ c.of_fault-in-Err-site_of.result (wire.Station Memory) c.args.found.slaves.now c.args.found.journal.items c.args.task.work.commands.items
+    c.of_fault-in-Err-site_of.ensures.unbegun c.of_fault-in-Err-site_of.ensures.ended c.of_fault-in-Err-site_of.ensures.reported
