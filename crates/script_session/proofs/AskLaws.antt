@@ -17,9 +17,12 @@ use Rattle.station_line.specs.Rounds.{AreAmong}
 use Rattle.station_line.proofs.RoundSubmitting.{among-then}
 use Rattle.script_session.specs.Asking.{commands_of, no_counts, AreInOrder, Asks, AsksAll, ComesTo, GivesUp, Receives}
 
+one-more : {A : Type 0} {P : Type 0} (xs : List A) (x : A) → xs ++ x ∷ [] ≡ [] → P
+one-more xs x is = let none = ap length is in absurd (omega (arith, none, length-append xs (x ∷ [])))
+
 -- no command was submitted yet
 pub asks-none : (answered : Answered) (counts : ShareCounts) → AsksAll [] answered answered counts counts []
-asks-none answered counts = record { among = refl; all = λ done. (done, refl); counted = omega arith }
+asks-none answered counts = record { among = refl; all = λ done. (done, refl); counted = omega arith; none = λ is. refl }
 
 asks-accepted : (first : List Command) (command : Command) (before answered after : Answered) (had mid has : ShareCounts) (tickets : List Numbered) (ticket : Numbered) → AsksAll first before answered had mid tickets → Asks command answered after mid has (Some ticket)
     → AsksAll (first ++ command ∷ []) before after had has (tickets ++ ticket ∷ [])
@@ -29,6 +32,7 @@ asks-accepted first command before answered after had mid has tickets ticket all
       among = subst (λ (l : List Command). AreAmong l (first ++ command ∷ [])) (sym more) (among-then (commands_of tickets) (command ∷ []) first (command ∷ []) all.among (inl ([], refl, refl)));
       all = λ done. let x = all.all (sym one.1 ∙ done) in (x.0, more ∙ ap (λ (l : List Command). l ++ command ∷ []) x.1);
       counted = let a = one.2 in let b = all.counted in let c = length-append tickets (ticket ∷ []) in omega (arith, a, b, c);
+      none = one-more first command;
     }
 
 asks-refused : (first : List Command) (command : Command) (before answered after : Answered) (had mid has : ShareCounts) (tickets : List Numbered) → AsksAll first before answered had mid tickets → Asks command answered after mid has None
@@ -37,6 +41,7 @@ asks-refused first command before answered after had mid has tickets all one = r
   among = subst (λ (l : List Command). AreAmong l (first ++ command ∷ [])) (append-nil (commands_of tickets)) (among-then (commands_of tickets) [] first (command ∷ []) all.among (inr refl));
   all = λ done. absurd (one.0 done);
   counted = let a = one.1 in let b = all.counted in omega (arith, a, b);
+  none = one-more first command;
 }
 
 asks-one : (first : List Command) (command : Command) (before answered after : Answered) (had mid has : ShareCounts) (tickets : List Numbered) (asked : Option Numbered) → AsksAll first before answered had mid tickets → Asks command answered after mid has asked
@@ -93,5 +98,3 @@ pub all-received : (commands : List Command) (receipts : List Numbered) (durable
 all-received commands receipts durable many in_order each = same-commands commands receipts many (λ place one at.
     let stands : StandsAt commands durable one = subst (λ (n : Numbered). StandsAt commands durable n) (get_or_from_slice_get receipts place one one at) (each place one (slice_get_within receipts place one at)) in
     subst (λ (n : ℕ). slice_get commands n ≡ Some one.command) (in_order place one at) stands.command)
-
--- ---- the submitter

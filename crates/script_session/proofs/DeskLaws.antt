@@ -46,7 +46,7 @@ use Rattle.script_session.specs.Parts.{Sites, AreFollowed, AreSound, BeginsWith,
 use Rattle.script_session.specs.Parts.{IsServable, AreEndsOfParts}
 use Rattle.script_session.specs.AtDesk as at_desk
 use Rattle.script_session.specs.AtDesk.{seen_of, Closes, ClosesWith, DeskServes, IsUnservedReported, EndsSo, IsServedAtDesk, IsStopped}
-use Rattle.script_session.specs.Parts.{IsTogether, Telling}
+use Rattle.script_session.specs.Parts.{IsCount, IsTogether, Telling, issues_of}
 use Rattle.script_session.specs.AtDesk.{IsStoppedAtDesk, LeavesSo, ServesFollowed, TellsWhy}
 use Rattle.script_session.proofs.AskLaws.{all-received}
 use Rattle.script_session.proofs.SlaveLaws.{contents-together}
@@ -111,16 +111,17 @@ closed-driven opened commands answered counts receipts ends got closes =
       closed = closes.closed;
       acknowledged = sym same;
       accepts = (subst (λ (l : List Command). AreAmong l commands) (sym same) got.asked.among, λ done. same ∙ (got.asked.all done).1);
+      none = got.asked.none;
       tells = tt;
     }
 
-closed-undriven : (opened : Book) (commands : List Command) (answered : Answered) (counts : ShareCounts) (ends : Ends SiteValue) → (answered ≡ AllAccepted) × (counts.tickets ≡ 0) → Closes opened (counts ∷ []) [] ends
+closed-undriven : (opened : Book) (commands : List Command) (answered : Answered) (counts : ShareCounts) (ends : Ends SiteValue) → (answered ≡ AllAccepted) × (counts ≡ no_counts) → Closes opened (counts ∷ []) [] ends
     → ClosesWith opened commands false answered (Ok tt) ends
 closed-undriven opened commands answered counts ends none closes =
     let counted = closes.closed.handed_in.counted.tickets in
-    let without = none.1 in
+    let without = ap (λ (c : ShareCounts). c.tickets) none.1 in
     let nothing = none-of (replayed opened closes.calls).accepted (omega (arith, counted, without)) in
-    record { calls = closes.calls; counts = counts; receipts = []; closed = closes.closed; acknowledged = sym nothing; accepts = (nothing, none.0); tells = tt }
+    record { calls = closes.calls; counts = counts; receipts = []; closed = closes.closed; acknowledged = sym nothing; accepts = (nothing, none.0); none = λ is. none.1; tells = tt }
 
 -- the fault of a submitter
 gave-up : (commands : List Command) (answered : Answered) (counts : ShareCounts) (came : Option (Result (Vec Numbered) Fault)) (fault : Fault) → fault_of came ≡ Err fault → ComesTo commands answered counts came → GivesUp fault
@@ -166,6 +167,7 @@ module _ (opened : Book) (commands : List Command) (answered : Answered) (counts
         closed = one.closed;
         acknowledged = tt;
         accepts = tt;
+        none = tt;
         tells = elim tells [
           | inl stream ↦ inl stream
           | inr (inl same) ↦ inl (of-stream ended fault printed same)
@@ -268,16 +270,18 @@ module _ (opened : Station) (commands : List Command) (book : Book) (seen : Seen
         → IfOk result (λ (left : Left SiteValue T). (s : Seen) → IsFollowed (Telling follows well tells line) s
         → IsDeskReported follows well tells s left.reported at.ends)
         → IfOk result (λ (left : Left SiteValue T). OnOk left.sound (AreSound left.reported × EndsSynced at.ends.flusher.log))
+        → IfOk result (λ (left : Left SiteValue T). IsCount (issues_of at.ends.workers.items) left.words)
         → IsFollowed (Telling follows well tells line) seen → length opened.line.sizes ≡ length seen.state.halves → AreFollowed follows at.ends
         → IfOk result (λ (left : Left SiteValue T). ServesFollowed follows well tells turns opened commands left)
-    serves-parts well tells turns line (Ok left) turning is reported sound before count all = record {
+    serves-parts well tells turns line (Ok left) turning is reported sound words before count all = record {
       parts = record { desk = desk-serves left.ending is.1; together = is.0 };
       turning = turning;
       followed = followed_ends follows well tells opened seen sites at.ends left.reported left.sound of_seen separate of_sites (reported seen before) count sound all;
       reported = reported opened.seen (subst (IsFollowed (Telling follows well tells line)) of_seen before);
       sound = on_ok left.sound (λ (both : AreSound left.reported × EndsSynced at.ends.flusher.log). both.0) sound;
+      words = words;
     }
-    serves-parts well tells turns line (Err fault) turning is reported sound before count all = tt
+    serves-parts well tells turns line (Err fault) turning is reported sound words before count all = tt
 
     -- or not
     pub ends-separate : {T : Type 0} (well : D → Type 0) (tells : D → T → Type 0) (line : PartLog T) (result : Result (Left SiteValue T) (NotServed T))

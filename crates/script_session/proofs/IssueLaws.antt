@@ -36,7 +36,7 @@ use Rattle.desk_book.specs.Calls.{after, replayed, AreAnswered, IsAnswered}
 use Rattle.desk_book.specs.Closing.{AreWorkersOf}
 use Rattle.desk_book.specs.Logs.{RomEntry, rom_noted, with_job, with_rom_answer}
 use Rattle.desk_book.proofs.LogLaws.{asked-here, asked-other, reported-here, reported-other, same-or-not}
-use Rattle.script_session.specs.Redoing.{is_issue, issues_in, issues_of}
+use Rattle.script_session.specs.Parts.{is_issue, issues_in, issues_of}
 
 -- the numbers of issues, slave by slave
 abbrev counts : List Slave → List ℕ

@@ -1,7 +1,7 @@
 -- What a desk to which no command is submitted leaves, and the session that begins after it.
-use Rattle.std.proofs.Common.{◌≡◌, ℕ, ◌≤◌, true, List, [], ◌∷◌, ◌++◌, length, take, refl, sym, ◌∙◌, ap, subst, arith}
-use Rattle.std.proofs.Common.{Result, Ok, Err, inl}
-use Rattle.std.specs.Prelude.{cond, count_by, IfErr, IfOk, MatchResult, OnOk}
+use Rattle.std.proofs.Common.{◌≡◌, ℕ, ◌≤◌, Bool, true, false, List, [], ◌∷◌, ◌++◌, length, take, refl, sym, ◌∙◌, ap, subst, arith}
+use Rattle.std.proofs.Common.{Result, Ok, Err}
+use Rattle.std.specs.Prelude.{cond, count_by, MatchResult, OnOk}
 use Rattle.std.specs.List.{AllByRecursion}
 use Rattle.std.proofs.Math.Seq.{take-nil}
 use Rattle.std.proofs.lemmas.List.{append-nil, length-append}
@@ -35,18 +35,15 @@ use Rattle.desk_book.proofs.CountLaws.{each-slave}
 use Rattle.desk_book.proofs.KeptLaws.{keeps-disk_next, keeps-disk_done, keeps-rom_next, keeps-rom_done}
 use Rattle.desk_laws.specs.Joined.{CallFits, served_by}
 use Rattle.desk_laws.specs.Together.{IsLeft}
-use Rattle.desk_book.specs.Numbered.{Numbered}
 use Rattle.desk_book.specs.Serving.{ShareCounts}
 use Rattle.station_threads.specs.declared.closing.Ends.{Ends}
 use Rattle.station_threads.specs.declared.closing.CloseFault.{CloseFault}
-use Rattle.station_files.specs.Faults.{IsOfStream}
 use Rattle.station_files.specs.declared.faults.Fault.{Fault}
-use Rattle.station_line.specs.declared.answered.Answered.TheVariants.{AllAccepted}
-use Rattle.script_session.specs.Asking.{no_counts}
-use Rattle.script_session.specs.AtDesk.{AllLeftSo, BeginsAs, Closes, ClosesWith, IsStopped, TellsWhy}
-use Rattle.script_session.specs.Parts.{Sites, IsSeparate, AreEndsOfParts, IsTogether}
-use Rattle.script_session.specs.Redoing.{IsCount, IsOpenedHere, IsRedone, KeepsLine, StopsRedoing, issues_of}
-use Rattle.script_session.proofs.DeskLaws.{none-of}
+use Rattle.station_line.specs.declared.answered.Answered.{Answered}
+use Rattle.script_session.specs.declared.threads.Left.{Left}
+use Rattle.script_session.specs.AtDesk.{AcceptsOf, AllLeftSo, BeginsAs, ClosesWith, IsClosed, IsStopped, ServesFollowed}
+use Rattle.script_session.specs.Parts.{Sites, IsSeparate, AreEndsOfParts, IsCount, IsTogether, issues_of}
+use Rattle.script_session.specs.Redoing.{IsOpenedHere, IsRedone, KeepsLine}
 use Rattle.script_session.proofs.IssueLaws.{issued-by, opened-many}
 use Rattle.script_session.proofs.LeftLaws.{left-together}
 use Rattle.script_session.proofs.SlaveLaws.{contents-together}
@@ -141,60 +138,19 @@ module _ (opened : Station) (here : IsOpenedHere opened) (stands : Stands opened
 
 -- ---- the desk is closed
 
-module _ (opened : Book) (shares : List ShareCounts) (receipts : List Numbered) (ends : Ends SiteValue) where
-  -- how a desk was closed, or that it wasn't
-  abbrev ClosesOrNot : Result (Unit {0}) CloseFault → Result (Unit {0}) Fault → Type 0
-  ClosesOrNot closed reported = MatchResult closed (λ done. Closes opened shares receipts ends) (λ why. IsStopped opened why reported ends)
-
-  -- if no fault is told, it was closed
-  pub closes-quietly : (closed : Result (Unit {0}) CloseFault) (reported : Result (Unit {0}) Fault) → ClosesOrNot closed reported → OnOk reported (closed ≡ Ok tt) → reported ≡ Ok tt
-      → Closes opened shares receipts ends
-  closes-quietly (Ok done) reported closes good is = closes
-  closes-quietly (Err why) (Ok done) closes good is = absurd cc
-  closes-quietly (Err why) (Err fault) closes good is = absurd cc
-
-  -- otherwise the fault is that of a stream, or of the book
-  pub stops-redoing : (closed : Result (Unit {0}) CloseFault) (reported : Result (Unit {0}) Fault) (fault : Fault) → ClosesOrNot closed reported → OnOk closed (IfErr reported IsOfStream)
-      → reported ≡ Err fault → StopsRedoing opened fault
-  stops-redoing closed (Ok done) fault closes printed is = absurd cc
-  stops-redoing (Ok done) (Err why) fault closes printed is =
-      let same : why ≡ fault = cc in
-      (closes.calls, closes.closed.answered, inl (subst IsOfStream same printed))
-  stops-redoing (Err stopped) (Err why) fault closes printed is =
-      let same : why ≡ fault = cc in
-      (closes.calls, closes.answered, subst (λ (f : Fault). TellsWhy (replayed opened closes.calls) f) same closes.tells)
-
--- the ends are those of the sites, and the desk was closed with them
-pub ends-same : (result : Result (Ends SiteValue) Fault) (ends : Ends SiteValue) (sites : Sites) → IfOk result (λ same. same ≡ ends) → AreEndsOfParts sites ends
-    → IfOk result (λ same. AreEndsOfParts sites same)
-ends-same (Ok same) ends sites is of_sites = subst (λ (e : Ends SiteValue). AreEndsOfParts sites e) (sym is) of_sites
-ends-same (Err fault) ends sites is of_sites = tt
-
-pub closes-same : (opened : Book) (result : Result (Ends SiteValue) Fault) (shares : List ShareCounts) (ends : Ends SiteValue) → IfOk result (λ same. same ≡ ends)
-    → IfOk result (λ same. Closes opened shares [] ends) → shares ≡ no_counts ∷ [] → IfOk result (λ same. Closes opened (no_counts ∷ []) [] same)
-closes-same opened (Ok same) shares ends is closes one =
-    subst (λ (e : Ends SiteValue). Closes opened (no_counts ∷ []) [] e) (sym is) (subst (λ (l : List ShareCounts). Closes opened l [] ends) one closes)
-closes-same opened (Err fault) shares ends is closes one = tt
+none-accepted : (is_driven : Bool) (answered : Answered) (accepted : List Command) → AcceptsOf is_driven [] answered accepted → accepted ≡ []
+none-accepted true answered accepted accepts = accepts.0
+none-accepted false answered accepted accepts = accepts.0
 
 module _ (opened : Station) (sites : Sites) (ends : Ends SiteValue) (site : SiteValue) (words : ℕ) (here : IsOpenedHere opened) (stands : Stands opened) where
-  redone-here : IsSeparate opened.seen.state sites → AreEndsOfParts sites ends → Closes opened.book (no_counts ∷ []) [] ends → IsTogether ends site
-      → IsCount (issues_of ends.workers.items) words → IsRedone opened words site
-  redone-here separate of_sites closes together counts =
-      let counted = closes.closed.handed_in.counted in
-      let tickets = counted.tickets in
-      let refusals = counted.refusals in
-      let none : (replayed opened.book closes.calls).accepted ≡ [] = none-of (replayed opened.book closes.calls).accepted (omega (arith, tickets)) in
-      let sound : count_by is_refusal closes.calls ≡ 0 = omega (arith, refusals) in
-      let with_none : ClosesWith opened.book [] true AllAccepted (Ok tt) ends = record {
-        calls = closes.calls;
-        counts = no_counts;
-        receipts = [];
-        closed = closes.closed;
-        acknowledged = sym none;
-        accepts = (none, λ done. none);
-        tells = tt;
-      } in
+  redone-here : (is_driven : Bool) (answered : Answered) → IsSeparate opened.seen.state sites → AreEndsOfParts sites ends
+      → ClosesWith opened.book [] is_driven answered (Ok tt) ends → IsTogether ends site → IsCount (issues_of ends.workers.items) words → IsRedone opened words site
+  redone-here is_driven answered separate of_sites closes together counts =
       let calls = closes.calls in
+      let none : (replayed opened.book calls).accepted ≡ [] = none-accepted is_driven answered (replayed opened.book calls).accepted closes.accepts in
+      let uncounted = subst (λ (c : ShareCounts). IsClosed opened.book calls (c ∷ []) closes.receipts ends) (closes.none refl) closes.closed in
+      let refusals = uncounted.handed_in.counted.refusals in
+      let sound : count_by is_refusal calls ≡ 0 = omega (arith, refusals) in
       let workers = closes.closed.handed_in.ended.workers in
       let many : length ends.workers.items ≡ length opened.book.slaves =
       workers.count ∙ each-slave opened.book (replayed opened.book calls).accepted ∙ ap (λ (book : Book). length book.words) here.book
@@ -203,27 +159,46 @@ module _ (opened : Station) (sites : Sites) (ends : Ends SiteValue) (site : Site
       let zero_is : words_issued opened.book.slaves ≡ 0 =
       ap (λ (book : Book). words_issued book.slaves) here.book ∙ none-issued (words_in opened.seen.state.halves) (capacity_in opened.seen.state.disk.bytes) here.journal in
       let all : issues_of ends.workers.items ≡ words_issued (replayed opened.book calls).slaves = omega (arith, issued, zero_is) in
+      let left = left-together opened calls sites ends separate of_sites site together closes.closed.left in
       record {
         served = record {
           sites = sites;
           separate = separate;
           ends = ends;
           of_sites = of_sites;
-          closes = with_none;
+          closes = record {
+            calls = calls;
+            counts = closes.counts;
+            receipts = closes.receipts;
+            closed = closes.closed;
+            acknowledged = closes.acknowledged;
+            accepts = (none, λ done. none);
+            none = closes.none;
+            tells = tt;
+          };
           together = together;
           contents = λ just. contents-together opened.book (replayed opened.book calls) opened.seen.state sites ends site separate of_sites together (closes.closed.contents just);
-          left = left-together opened calls sites ends separate of_sites site together closes.closed.left;
+          left = left;
         };
         counts = subst (λ (n : ℕ). IsCount n words) all counts;
-        keeps = keeps-line opened here stands calls none sound site (left-together opened calls sites ends separate of_sites site together
-            closes.closed.left);
+        keeps = keeps-line opened here stands calls none sound site left;
       }
 
-  pub redone : (book : Book) (seen : Seen) → book ≡ opened.book → seen ≡ opened.seen → IsSeparate seen.state sites → AreEndsOfParts sites ends
-      → Closes book (no_counts ∷ []) [] ends → IsTogether ends site → IsCount (issues_of ends.workers.items) words → IsRedone opened words site
-  redone book seen of_book of_seen separate of_sites closes together counts =
-      redone-here (subst (λ (s : Seen). IsSeparate s.state sites) of_seen separate) of_sites
-      (subst (λ (b : Book). Closes b (no_counts ∷ []) [] ends) of_book closes) together counts
+-- a line that was served with no command, and of which no fault is told
+pub redone : {D T : Type 0} (follows : D → Seen → Type 0) (well : D → Type 0) (tells : D → T → Type 0) (opened : Station) (commands : List Command)
+    (left : Left SiteValue T) → IsOpenedHere opened → Stands opened → commands ≡ [] → left.ending.reported ≡ Ok tt
+    → ServesFollowed follows well tells false opened commands left → IsRedone opened left.words left.site
+redone follows well tells opened commands left here stands empty good serves =
+    let desk = serves.parts.desk in
+    let ending = left.ending in
+    let closed : ending.closed ≡ Ok tt = subst (λ (r : Result (Unit {0}) Fault). OnOk r (ending.closed ≡ Ok tt)) good desk.ended.reported in
+    let closes = subst (λ (r : Result (Unit {0}) CloseFault). MatchResult r
+    (λ done. ClosesWith opened.book commands ending.is_driven ending.answered ending.reported desk.ends) (λ why. IsStopped opened.book why ending.reported desk.ends))
+    closed desk.ended.ended in
+    redone-here opened desk.sites desk.ends left.site left.words here stands ending.is_driven ending.answered desk.separate desk.of_sites
+    (subst (λ (l : List Command). ClosesWith opened.book l ending.is_driven ending.answered (Ok tt) desk.ends) empty
+    (subst (λ (r : Result (Unit {0}) Fault). ClosesWith opened.book commands ending.is_driven ending.answered r desk.ends) good closes))
+    serves.parts.together serves.words
 
 -- ---- the session after it
 

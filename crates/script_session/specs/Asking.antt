@@ -24,11 +24,13 @@ abbrev pub Asks : Command → (before after : Answered) → (had has : ShareCoun
 Asks command before after had has (Some ticket) = (ticket.command ≡ command) × (after ≡ before) × (has.tickets ≡ had.tickets + 1)
 Asks command before after had has None = (after ≢ AllAccepted) × (has.tickets ≡ had.tickets)
 
--- These commands were submitted in order. Some were accepted with these tickets, which the share counts: all of them if none was refused.
+-- These commands were submitted in order. Some were accepted with these tickets, which the share counts: all of them if none was refused. Where there
+-- is none, the share counts nothing.
 pub record AsksAll (commands : List Command) (before after : Answered) (had has : ShareCounts) (tickets : List Numbered) : Type 0 where
   pub among : AreAmong (commands_of tickets) commands
   pub all : after ≡ AllAccepted → (before ≡ AllAccepted) × (commands_of tickets ≡ commands)
   pub counted : has.tickets ≡ had.tickets + length tickets
+  pub none : commands ≡ [] → has ≡ had
 
 -- They were submitted so, and all accepted ones are durable, with these receipts, each at the place of its number.
 pub record Receives (commands : List Command) (before after : Answered) (had has : ShareCounts) (receipts : List Numbered) : Type 0 where
@@ -51,7 +53,7 @@ GivesUp fault = IsOfStream fault ⊎ (fault ≡ Unserved)
 
 -- this is the result of a submitter of these commands, or it hasn't submitted any
 abbrev pub ComesTo : List Command → Answered → ShareCounts → Option (Result (Vec Numbered) Fault) → Type 0
-ComesTo commands answered counts None = (answered ≡ AllAccepted) × (counts.tickets ≡ 0)
+ComesTo commands answered counts None = (answered ≡ AllAccepted) × (counts ≡ no_counts)
 ComesTo commands answered counts (Some (Ok receipts)) = Receives commands AllAccepted answered no_counts counts receipts.items
 ComesTo commands answered counts (Some (Err fault)) = GivesUp fault
 

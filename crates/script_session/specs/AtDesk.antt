@@ -40,8 +40,9 @@ use Rattle.script_session.specs.declared.logs.DeskLog.{DeskLog}
 use Rattle.script_session.specs.declared.logs.PartLog.{PartLog}
 use Rattle.script_session.specs.declared.logs.UnservedLog.{UnservedLog}
 use Rattle.script_session.specs.declared.logs.UnservedLog.TheVariants as unserved
-use Rattle.script_session.specs.Asking.{commands_of, GivesUp}
-use Rattle.script_session.specs.Parts.{Sites, IsSeparate, AreEndsOfParts, AreFollowed, AreSound, AreUnserved, IsDeskReported, IsTogether, Soundly, Telling}
+use Rattle.script_session.specs.Asking.{commands_of, no_counts, GivesUp}
+use Rattle.script_session.specs.Parts.{Sites, IsSeparate, AreEndsOfParts, AreFollowed, AreSound, AreUnserved, IsCount, IsDeskReported, IsTogether}
+use Rattle.script_session.specs.Parts.{Soundly, Telling, issues_of}
 use Rattle.station_line.specs.Site.{IsFollowed}
 
 -- the state of a site and its past
@@ -70,7 +71,7 @@ pub record Closes (opened : Book) (shares : List ShareCounts) (receipts : List N
   pub closed : IsClosed opened calls shares receipts ends
 
 -- A desk of this book was closed with one share. If no fault is told to the user, it accepted of these commands those that it should, and
--- each of them was acknowledged.
+-- each of them was acknowledged; where there was none, none was refused either.
 pub record ClosesWith (opened : Book) (commands : List Command) (is_driven : Bool) (answered : Answered) (reported : Result (Unit {0}) Fault)
     (ends : Ends SiteValue) : Type 0 where
   pub calls : List Call
@@ -79,6 +80,7 @@ pub record ClosesWith (opened : Book) (commands : List Command) (is_driven : Boo
   pub closed : IsClosed opened calls (counts ∷ []) receipts ends
   pub acknowledged : OnOk reported (commands_of receipts ≡ (replayed opened calls).accepted)
   pub accepts : OnOk reported (AcceptsOf is_driven commands answered (replayed opened calls).accepted)
+  pub none : OnOk reported (commands ≡ [] → counts ≡ no_counts)
   pub tells : IfErr reported GivesUp
 
 -- the fault that the user is told of where a desk isn't closed: a stream failed, memory was refused, or it is the fault of the book
@@ -214,7 +216,7 @@ EndsFollowed follows well opened (Ok sound) ends = PartsFollowed (Soundly follow
 EndsFollowed follows well opened (Err fault) ends = AreFollowed follows ends
 
 -- The parts were served with this ending, one for process data among them exactly where `turns` says so, devices have followed them, and what is told
--- of the devices is told. No part is called sound that wasn't, and none is unsound where no fault is told.
+-- of the devices is told. No part is called sound that wasn't, and none is unsound where no fault is told. The words are the issues in their logs.
 pub record ServesFollowed {D T : Type 0} (follows : D → Seen → Type 0) (well : D → Type 0) (tells : D → T → Type 0) (turns : Bool)
     (opened : Station) (commands : List Command) (left : Left SiteValue T) : Type 0 where
   pub parts : ServesParts opened commands left.ending left.site
@@ -222,6 +224,7 @@ pub record ServesFollowed {D T : Type 0} (follows : D → Seen → Type 0) (well
   pub followed : EndsFollowed follows well opened left.sound parts.desk.ends
   pub reported : IsDeskReported follows well tells opened.seen left.reported parts.desk.ends
   pub sound : OnOk left.sound (AreSound left.reported)
+  pub words : IsCount (issues_of parts.desk.ends.workers.items) left.words
 
 -- A line was not served, or not put together again after that, and this is told: of the line's device, where no part had one yet; of the devices
 -- of the parts, where no desk has served them; or of the devices at a desk of this book, which served the parts with this ending.

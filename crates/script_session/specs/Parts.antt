@@ -1,6 +1,6 @@
 -- A line that is taken apart into sites, and put together again.
-use Rattle.std.specs.Prelude.{◌≡◌, ◌⊎◌, ◌≤◌, ◌+◌, ℕ, List, [], ◌∷◌, true, length, Ok, IfOk, Option, Some}
-use Rattle.std.specs.Prelude.{slice_get, IsTrue, None, false}
+use Rattle.std.specs.Prelude.{◌≡◌, ◌⊎◌, ◌<◌, ◌≤◌, ◌+◌, ◌^◌, ℕ, Bool, List, [], ◌∷◌, true, length, Ok, IfOk, Option, Some}
+use Rattle.std.specs.Prelude.{slice_get, IsTrue, None, count_by, false, sum_by}
 use Rattle.std.specs.List.{AllByRecursion}
 use Rattle.std.specs.Global.{Vec}
 use Rattle.esc_model.specs.SlaveHalf.{SlaveHalf}
@@ -12,7 +12,9 @@ use Rattle.site_shadow.specs.Site.{SiteValue}
 use Rattle.site_shadow.specs.Line.{halves_of}
 use Rattle.station_line.specs.Site.{IsFollowed}
 use Rattle.book_model.specs.declared.next.DiskNext.TheVariants as disk
-use Rattle.desk_book.specs.Logs.{DiskEntry}
+use Rattle.book_model.specs.declared.next.RomNext.{RomNext}
+use Rattle.book_model.specs.declared.next.RomNext.TheVariants as rom
+use Rattle.desk_book.specs.Logs.{DiskEntry, RomEntry}
 use Rattle.station_jobs.specs.declared.log.SlaveLog.{SlaveLog}
 use Rattle.station_jobs.specs.Ends.{Stay}
 use Rattle.station_jobs.specs.Flushing.{IsFlushed}
@@ -167,3 +169,22 @@ pub record IsLineOf (slaves : ℕ) (line : lines.Line) : Type 0 where
   pub disk : IsTrue line.has_disk
   pub owned : OwnsAll line
   pub count : length line.sizes ≡ slaves
+
+-- ---- how many words were issued
+
+-- the job is the issue of a word
+abbrev pub is_issue : RomNext → Bool
+is_issue (rom.Issue word value) = true
+is_issue job = false
+
+-- the number of issues among these jobs
+abbrev pub issues_in : List RomEntry → ℕ
+issues_in jobs = count_by (λ (entry : RomEntry). is_issue entry.job) jobs
+
+-- the number of issues in the logs of these workers
+abbrev pub issues_of : List (Stay SiteValue SlaveLog) → ℕ
+issues_of workers = sum_by (λ (end : Stay SiteValue SlaveLog). issues_in end.log.jobs) workers
+
+-- `words` is this count, if that fits 64 bits
+abbrev pub IsCount : (count words : ℕ) → Type 0
+IsCount count words = count < 2 ^ 64 → words ≡ count

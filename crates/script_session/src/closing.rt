@@ -124,14 +124,14 @@ fn first_of(fault: Fault, ended: Result<(), Fault>) -> Fault
 }
 
 /// What closing a desk returns: the ends, why the desk isn't closed, and the fault that is reported to the user.
-pub(crate) type Logged<D> = (
+type Logged<D> = (
     Ends<ShadowSite<D>>,
     Result<(), CloseFault>,
     Result<(), Fault>,
 );
 
 /// Closes the desk, and prints the totals if `has_totals`.
-pub(crate) fn close_desk<T: Tickets, R: Refusals, O: Write, D: Device + Drop>(
+fn close_desk<T: Tickets, R: Refusals, O: Write, D: Device + Drop>(
     desk: Desk<T, R>,
     shares: Vec<Share<T, R>>,
     receipts: Vec<Receipt>,

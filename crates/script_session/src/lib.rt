@@ -6,6 +6,7 @@ mod after;
 mod asked;
 mod closing;
 mod events;
+mod issues;
 mod logs;
 mod redoing;
 mod running;

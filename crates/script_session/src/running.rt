@@ -145,6 +145,7 @@ fn end_left<D: Lends, S: Store, O: Write>(
         unserved,
         ending,
         sound,
+        words: _,
         reported: desk,
     } = left;
     let Ending {

@@ -9,6 +9,7 @@ ghost use Rattle.script_session.specs.Parts.{
   AreFollowed,
   AreSound,
   EndsSynced,
+  IsCount,
   IsDeskLeft,
   IsDeskReported,
   IsLineOf,
@@ -18,11 +19,13 @@ ghost use Rattle.script_session.specs.Parts.{
   IsTogether,
   OwnUpTo,
   Telling,
+  issues_of,
 };
 ghost use Rattle.station_line.specs.Site.{IsFollowed};
 
 use crate::asked::NamesCommands;
 use crate::closing::{AtDesk, Ending, hand_in};
+use crate::issues::issues_of;
 use crate::logs::{DeskLog, PartLog, UnservedLog, reported_by};
 use crate::separate::{InMemory, lent_sites, servable_sites};
 use crate::soundness::{disk_is_synced, validate_ends};
@@ -57,6 +60,8 @@ pub struct Left<S, T> {
     /// failed that a device was asked, though the desk may have heard of nothing; `Memory` where the disk isn't synced, since jobs
     /// stopped for want of memory.
     pub sound: Result<(), Fault>,
+    /// Number of issues: words sent to slaves, each counted as often as it was sent. `u64::MAX` where there were more.
+    pub words: u64,
     /// What is reported of the devices of the line and its parts.
     pub reported: DeskLog<T>,
 }
@@ -119,9 +124,9 @@ pub fn serve_task<D: Lends + Send, O: Write, W: Wait + Threads + Sync>(
 
 /// What a line is taken apart into: the sites of its parts, and what is kept to put it together again.
 #[derive(Drop)]
-pub(crate) struct Prepared<D: Device, T> {
-    pub(crate) sites: Sites<ShadowSite<D>>,
-    pub(crate) entire: Complete<D, T>,
+struct Prepared<D: Device, T> {
+    sites: Sites<ShadowSite<D>>,
+    entire: Complete<D, T>,
 }
 
 /// A line taken apart in memory, whose device has lent no part one yet.
@@ -178,7 +183,7 @@ fn room_for<D: Device + Drop, T: Drop>(
 ///
 /// `Unserved` where the site isn't a whole line with a disk that reaches to the end of a journal's area of `capacity` bytes; `Memory`. The site is
 /// dropped, and the log of its device is given. It has lent none.
-pub(crate) fn prepare<D: Lends>(
+fn prepare<D: Lends>(
     alloc: Global,
     site: ShadowSite<D>,
     capacity: u32,
@@ -236,6 +241,7 @@ fn put_back<D: Lends>(
     ensures reported { IfOk result (λ left. (opened : Seen) → IsFollowed (Telling D.follows D.well D.tells entire.reported) opened
         → IsDeskReported D.follows D.well D.tells opened left.reported at.ends) }
     ensures sound { IfOk result (λ left. OnOk left.sound (AreSound left.reported × EndsSynced at.ends.flusher.log)) }
+    ensures words { IfOk result (λ left. IsCount (issues_of at.ends.workers.items) left.words) }
     ensures failed { IfErr result (λ why. IsDeskLeft D.follows D.well D.tells entire.reported at.ends why.reported) }
 {
     let AtDesk {
@@ -244,6 +250,7 @@ fn put_back<D: Lends>(
         unserved,
     } = at;
     let is_synced = disk_is_synced(&ends);
+    let words = issues_of(ends.workers.as_slice());
     let (put, reported) = put_together(alloc, entire, slaves, ends);
     match put {
         Ok(site) => {
@@ -253,6 +260,7 @@ fn put_back<D: Lends>(
                 unserved,
                 ending,
                 sound,
+                words,
                 reported,
             })
         }
@@ -344,14 +352,14 @@ impl Opening {
 
 /// A new desk, a share for the submitter, and an empty list with room for that share.
 #[derive(Drop)]
-pub(crate) struct Opened<T: Tickets, R: Refusals> {
-    pub(crate) desk: Desk<T, R>,
-    pub(crate) share: Share<T, R>,
-    pub(crate) room: Vec<Share<T, R>>,
+struct Opened<T: Tickets, R: Refusals> {
+    desk: Desk<T, R>,
+    share: Share<T, R>,
+    room: Vec<Share<T, R>>,
 }
 
 /// A new desk, with its first share for the submitter and room for that share.
-pub(crate) fn open_desk<T: Tickets, R: Refusals>(
+fn open_desk<T: Tickets, R: Refusals>(
     alloc: Global,
     opening: Opening,
 ) -> Result<Opened<T, R>, AllocError>

@@ -10,7 +10,8 @@ use Rattle.station_alone.specs.Opening.{Begins, OpensCounted}
 use Rattle.station_alone.specs.Recovery.{CountsRecovered}
 use Rattle.station_alone.specs.declared.opening.Found.{Found}
 use Rattle.station_alone.specs.declared.recovery.Recovered.{Recovered}
-use Rattle.script_session.specs.Redoing.{IsCount, IsRedone}
+use Rattle.script_session.specs.Parts.{IsCount}
+use Rattle.script_session.specs.Redoing.{IsRedone}
 
 -- Batches and commands are those that the open found. The words are those that were issued at the desk and those of the recovery after it.
 pub record CountsAll (found : Found) (sent : ℕ) (after all : Recovered) : Type 0 where

@@ -33,7 +33,7 @@ returns-in-Ok-serve_at_desk-clause-parts g c =
     let back = c.put_back in
     serves-parts c.args.alone c.args.task.work.commands.items c.of-opening.result.core parts.result.1.seen prepared.prepared.sites desk.at
     (c.of-opening.ensures.core ∙ parts.ensures.book) parts.ensures.seen prepared.ensures.sites.separate desk.ensures.served.of_sites desk.ensures.served.ending
-    g.D.Device.follows g.D.Device.well g.D.Lends.tells c.args.task.turns prepared.prepared.entire.reported back.result prepared.ensures.turning back.ensures.left back.ensures.reported back.ensures.sound
+    g.D.Device.follows g.D.Device.well g.D.Lends.tells c.args.task.turns prepared.prepared.entire.reported back.result prepared.ensures.turning back.ensures.left back.ensures.reported back.ensures.sound back.ensures.words
     prepared.ensures.reported (ap (λ (l : Line). length l.sizes) (sym parts.ensures.line) ∙ c.prepare.ensures.count) back.ensures.followed
 
 pub returns-in-Ok-serve_at_desk-clause-failed : goal.returns-in-Ok-serve_at_desk-clause-failed

@@ -3,8 +3,8 @@ use Rattle.std.proofs.lemmas.List.Sums.{sum_by_more}
 use Rattle.site_shadow.specs.Site.{SiteValue}
 use Rattle.station_jobs.specs.declared.log.SlaveLog.{SlaveLog}
 use Rattle.station_jobs.specs.Ends.{Stay}
-use Rattle.script_session.specs.Redoing.{issues_in, issues_of}
-use Rattle.script_session.proofs.redoing.issues_of.Goals as goal
+use Rattle.script_session.specs.Parts.{issues_in, issues_of}
+use Rattle.script_session.proofs.issues.issues_of.Goals as goal
 
 pub loop-place-preserved : goal.loop-place-preserved
 loop-place-preserved g c small =
