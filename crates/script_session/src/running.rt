@@ -70,9 +70,10 @@ pub fn run_line<D: Lends + Send, S: Store, O: Write, R: Wait + Threads + AllocGl
     ensures others { ChangesAmong (S.files store.old) (S.files store.new) (files_of line.now) }
     ensures failed { IfErr result.ended (MayFail (S.files store.old) (S.files store.new)) }
     ensures goes { RunGoes (OfDevices D.follows D.well D.tells result.reported) start.site.seen task.work.commands.items (IsErr result.ended) }
-    ensures saved { (answered : Answered) → HasEnded result answered → SavesSite (λ last. IsSomeAnd (whole_of result.reported.desk result.reported.after)
-        (λ whole. EndsReported D.follows D.well D.tells task.turns start.site (length line.now.images.items) whole last)) (S.files store.new) line.now
-        start.site task.work.commands.items answered }
+    ensures saved { (answered : Answered) → HasEnded result answered → SavesSite
+        (λ last. IsSomeAnd (whole_of result.reported.desk result.reported.after)
+        (λ whole. EndsReported D.follows D.well D.tells task.turns start.site (length line.now.images.items) whole last))
+        (S.files store.new) line.now start.site task.work.commands.items answered }
 {
     let Start { site, is_old } = start;
     match open_station(rt.alloc(), site, is_old) {
@@ -104,9 +105,10 @@ fn run_opened<D: Lends + Send, S: Store, O: Write, R: Wait + Threads + AllocGlob
     ensures failed { IfErr result.ended (MayFail (S.files store.old) (S.files store.new)) }
     ensures followed { IsFollowed (TellsOf D.follows D.tells (line_reported result.reported.desk result.reported.opening)) alone.seen }
     ensures goes { DeskGoes (OfDevices D.follows D.well D.tells result.reported) alone task.work.commands.items (IsErr result.ended) }
-    ensures saved { (answered : Answered) → HasEnded result answered → SavesDesk (λ last. IsSomeAnd (whole_of result.reported.desk result.reported.after)
-        (λ whole. LedAtDesk D.follows D.well D.tells task.turns (length line.now.images.items) alone whole last)) (S.files store.new) line.now alone
-        task.work.commands.items answered }
+    ensures saved { (answered : Answered) → HasEnded result answered → SavesDesk
+        (λ last. IsSomeAnd (whole_of result.reported.desk result.reported.after)
+        (λ whole. LedAtDesk D.follows D.well D.tells task.turns (length line.now.images.items) alone whole last))
+        (S.files store.new) line.now alone task.work.commands.items answered }
 {
     match serve_task(rt, rt.alloc(), alone, line.images.len(), task, output) {
         Ok(left) => end_left(rt.alloc(), line, left, store, output),
@@ -119,8 +121,8 @@ fn run_opened<D: Lends + Send, S: Store, O: Write, R: Wait + Threads + AllocGlob
     }
 }
 
-/// Recovers a line that a desk has left, and saves what it holds, if the desk was closed, and its parts ended soundly; also where an answer couldn't be
-/// printed. Otherwise nothing more is written.
+/// Recovers a line that a desk has left, and saves what it holds, if the desk was closed, and its parts ended soundly; also where an answer couldn't
+/// be printed. Otherwise nothing more is written.
 fn end_left<D: Lends, S: Store, O: Write>(
     alloc: Global,
     line: &LineFile,

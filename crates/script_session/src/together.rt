@@ -153,7 +153,8 @@ pub(crate) fn reported_unserved<D: Lends>(
     requires reserved { length sites.slaves.items ≤ vec_capacity entire.room.reported }
     ensures line { result.line ≡ entire.reported }
     ensures disk { IsFollowed (Telling D.follows D.well D.tells result.disk) sites.disk.seen }
-    ensures slaves { AllZip (λ site reported. IsFollowed (Telling D.follows D.well D.tells reported) site.seen) sites.slaves.items result.slaves.items }
+    ensures slaves { AllZip (λ site reported. IsFollowed (Telling D.follows D.well D.tells reported) site.seen) sites.slaves.items
+        result.slaves.items }
 {
     let Complete {
         mut device,
