@@ -8,7 +8,7 @@ pub mod ReportedLaws
 pub mod SoundLaws
 pub mod DeskLaws
 pub mod IssueLaws
-pub mod RedoLaws
+pub mod RecoveryLaws
 pub mod SavingLaws
 pub mod AfterLaws
 pub mod RunLaws

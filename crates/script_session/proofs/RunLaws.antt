@@ -1,6 +1,6 @@
 -- A run on a line: how far it comes, and what the files hold after it.
 use Rattle.std.proofs.Common.{◌≡◌, ◌∙◌, ℕ, Bool, true, false, IsTrue, List, Some, Result, Ok, Err, inl, inr, refl, sym, ap, subst}
-use Rattle.std.specs.Prelude.{IfOk, IsErr, IsOkAnd, IsSomeAnd, None, OnOk, Option}
+use Rattle.std.specs.Prelude.{IfOk, IfSome, IsErr, IsOkAnd, IsSomeAnd, None, OnOk, Option}
 use Rattle.sii_edit.specs.declared.command.Command.{Command}
 use Rattle.site_core.specs.Passes.{LeavesOnly}
 use Rattle.site_core.specs.State.{Pair, Seen}
@@ -14,6 +14,8 @@ use Rattle.kept_files.specs.KeptFiles.{KeptAfter}
 use Rattle.station_alone.specs.Station.{Station}
 use Rattle.station_alone.specs.Keeping.{KeptFor}
 use Rattle.station_alone.specs.Opening.{BeginsSession}
+use Rattle.station_alone.specs.Recovery.{BeginsRecovered, CountsRecovered}
+use Rattle.station_alone.specs.declared.recovery.Recovered.{Recovered}
 use Rattle.station_text.specs.declared.line_file.LineFile.{LineFile}
 use Rattle.station_files.specs.Files.{Known}
 use Rattle.station_line.specs.declared.answered.Answered.{Answered}
@@ -32,10 +34,10 @@ use Rattle.script_session.specs.declared.threads.Left.{Left}
 use Rattle.script_session.specs.After.{GoesAfterDesk, GoesFollowed, LedOn, SavesFollowed, ServesSome, Tells}
 use Rattle.script_session.specs.AtDesk.{IsServedReported, IsUnservedReported, LeavesSo, ServesFollowed}
 use Rattle.script_session.specs.AtDesk as at_desk
-use Rattle.script_session.specs.Parts.{IsDeskReported}
+use Rattle.script_session.specs.Parts.{AreSound, IsDeskReported}
 use Rattle.script_session.specs.Running.{DeskGoes, EndsReported, GoesAfter, GoesAlone, HasEnded, LedAtDesk, OfDevices, SavesDesk, SavesSite, Says, ServesOn}
 use Rattle.script_session.specs.Running.{TellsOf, desk_of, line_reported, opening_of, whole_of}
-use Rattle.script_session.specs.Running.{idle, recovered, separate, unbegun, unrecovered}
+use Rattle.script_session.specs.Running.{idle, recovered, separate, served, unbegun, unrecovered}
 use Rattle.script_session.specs.Saving.{SavesAfter, SavesLeft, Serves}
 use Rattle.script_session.proofs.DeskLaws.{served-reported}
 use Rattle.script_session.proofs.SavingLaws.{after-unserved, after-worse}
@@ -132,6 +134,28 @@ not_served follows well tells reported station commands (unserved.Desk devices) 
     separate ending served_by
     (subst (λ (d : Option (DeskLog _)). IsSomeAnd d (λ one. IsDeskReported follows well tells station.seen one served_by.ends)) (sym is) tellings) bad
 
+-- a desk served it
+module _ {D T : Type 0} (follows : D → Seen → Type 0) (well : D → Type 0) (tells : D → T → Type 0) (turns : Bool) (run : LineRun T) (opened : Station)
+    (commands : List Command) (left : Left SiteValue T) (serves : ServesFollowed follows well tells turns opened commands left)
+    (desk : run.reported.desk ≡ Some left.reported) where
+  pub served_line : IsFollowed (TellsOf follows tells (line_reported run.reported.desk run.reported.opening)) opened.seen
+  served_line =
+      let before = serves.reported.before in
+      subst (λ d. IsFollowed (TellsOf follows tells (line_reported d run.reported.opening)) opened.seen) (sym desk) (before.0, (before.1.0, before.1.1))
+
+  pub served_goes : (left.ending.is_driven ≡ false → left.unserved.items ≡ commands)
+      → (left.ending.closed ≡ Ok tt → GoesAfter (OfDevices follows well tells run.reported) left.ending.is_driven left.sound left.unserved.items left.site.seen (IsErr run.ended))
+      → DeskGoes (OfDevices follows well tells run.reported) opened commands (IsErr run.ended)
+  served_goes same goes =
+      let ends = serves.parts.desk.ends in
+      served left.ending left.site left.sound serves.parts (record {
+        followed = serves.followed;
+        tell = subst (λ d. IfSome d (λ reported. IsDeskReported follows well tells opened.seen reported ends × OnOk left.sound (AreSound reported)))
+            (sym desk) (serves.reported, serves.sound);
+      })
+      (λ closed. after_unserved (OfDevices follows well tells run.reported) left.ending.is_driven left.sound left.unserved.items commands left.site.seen
+      (IsErr run.ended) same (goes closed))
+
 pub unserved_line : {D T : Type 0} (follows : D → Seen → Type 0) (well : D → Type 0) (tells : D → T → Type 0) (reported : RunLog T) (station : Station)
     (commands : List Command) (why : UnservedLog T) → reported.desk ≡ desk_of why → reported.opening ≡ opening_of why
     → IsUnservedReported follows well tells station commands why → IsFollowed (TellsOf follows tells (line_reported reported.desk reported.opening)) station.seen
@@ -177,57 +201,64 @@ at_the_desk files line opened commands left answered leaves same saves = record 
   after = after-unserved left.ending.is_driven files line left.site.seen left.unserved.items commands answered same saves.after;
 }
 
+-- what is said of what is told, if anything is
+pub some_weaker : {A : Type 0} {P Q : A → Type 0} (option : Option A) → ((a : A) → P a → Q a) → IsSomeAnd option P → IsSomeAnd option Q
+some_weaker (Some a) says holds = says a holds
+some_weaker None says holds = absurd holds
+
 module _ {D T : Type 0} (follows : D → Seen → Type 0) (well : D → Type 0) (tells : D → T → Type 0) (turns : Bool) (slaves : ℕ) (files : Known) (line : LineFile) where
   -- what is told of the devices at the desk and after it is all that is told
-  led_whole : (desk : Option (DeskLog T)) (after : Option T) (opened : Station) (left : SiteValue) (reported : DeskLog T) → desk ≡ Some reported
-      → IsServedReported follows well tells turns opened reported left
-      → IsSomeAnd after (λ one. SavesFollowed (LedOn follows well tells one slaves left.seen) files line)
-      → SavesFollowed (λ last. IsSomeAnd (whole_of desk after) (λ whole. LedAtDesk follows well tells turns slaves opened whole last)) files line
-  led_whole desk None opened left reported is served led = absurd led
-  led_whole desk (Some after) opened left reported is served led = record {
+  -- and this is said of the recovery
+  pub led_whole : (Also : Station → Type 0) (desk : Option (DeskLog T)) (after : Option T) (opened : Station) (left : SiteValue) (counts : Option Recovered) (reported : DeskLog T)
+      → desk ≡ Some reported → IsServedReported follows well tells turns opened reported left
+      → ((s : Station) → BeginsRecovered left.seen s → IsSomeAnd counts (λ one. CountsRecovered left.line.sizes left.seen one s) → Also s)
+      → IsSomeAnd after (λ one. SavesFollowed (LedOn follows well tells one slaves counts left) files line)
+      → SavesFollowed (λ s. Also s × IsSomeAnd (whole_of desk after) (λ whole. LedAtDesk follows well tells turns slaves opened whole s.seen)) files line
+  led_whole Also desk None opened left counts reported is served also led = absurd led
+  led_whole Also desk (Some after) opened left counts reported is served also led = record {
     s = led.s;
     recovered = led.recovered;
     held = led.held;
-    way = subst (λ (d : Option (DeskLog T)). IsSomeAnd (whole_of d (Some after)) (λ whole. LedAtDesk follows well tells turns slaves opened whole led.s.seen)) (sym is)
-        (record { leads = record { left = left; served = served; after = led.way.leads }; ends = led.way.ends });
+    way = (
+      also led.s led.way.begins led.way.counted,
+      subst (λ (d : Option (DeskLog T)). IsSomeAnd (whole_of d (Some after)) (λ whole. LedAtDesk follows well tells turns slaves opened whole led.s.seen)) (sym is)
+          (record { leads = record { left = left; served = served; after = led.way.leads }; ends = led.way.ends }),
+    );
   }
 
   pub saves_desk : (run : LineRun T) (opened : Station) (commands : List Command) (left : Left SiteValue T) (answered : Answered)
       → LeavesSo opened commands left.ending left.site → (left.ending.is_driven ≡ false → left.unserved.items ≡ commands)
       → ServesFollowed follows well tells turns opened commands left → OnOk run.ended (left.sound ≡ Ok tt) → run.reported.desk ≡ Some left.reported
       → OnOk run.ended (IsTrue left.ending.is_driven
-      → IsSomeAnd run.reported.after (λ after. SavesFollowed (LedOn follows well tells after slaves left.site.seen) files line))
+      → IsSomeAnd run.reported.after (λ after. SavesFollowed (LedOn follows well tells after slaves run.recovered left.site) files line))
       → HasEnded run answered → SavesLeft files line left answered
-      → SavesDesk (λ last. IsSomeAnd (whole_of run.reported.desk run.reported.after) (λ whole. LedAtDesk follows well tells turns slaves opened whole last)) files line opened commands answered
+      → SavesDesk (λ last. IsSomeAnd (whole_of run.reported.desk run.reported.after) (λ whole. LedAtDesk follows well tells turns slaves opened whole last.seen)) files line opened commands answered
   unfolding at_the_desk
   saves_desk run opened commands left answered leaves same serves sound desk followed has saves =
       let Ends : Answered → Type 0 = λ given. answered ≡ AllAccepted → (run.answers ≡ AllAccepted) × (given ≡ AllAccepted) in
       record {
         serves = at_the_desk files line opened commands left answered leaves same saves;
         followed = λ driven.
-            led_whole run.reported.desk run.reported.after opened left.site left.reported desk
-            (served_soundly follows well tells turns opened commands left serves (of_ended Ends run.ended has.ended sound))
-            (of_ended Ends run.ended has.ended followed driven);
+            let led = led_whole (λ s. Unit {0}) run.reported.desk run.reported.after opened left.site run.recovered left.reported desk
+            (served_soundly follows well tells turns opened commands left serves (of_ended Ends run.ended has.ended sound)) (λ s begins counted. tt)
+            (of_ended Ends run.ended has.ended followed driven) in
+            record { s = led.s; recovered = led.recovered; held = led.held; way = led.way.1 };
       }
 
-  -- what is said of what is told, if anything is
-  reported_weaker : {A : Type 0} {P Q : A → Type 0} (reported : Option A) → ((a : A) → P a → Q a) → IsSomeAnd reported P → IsSomeAnd reported Q
-  reported_weaker (Some a) says holds = says a holds
-  reported_weaker None says holds = absurd holds
-
   -- the station was opened on this site
+  pub led_site : (reported : Option (LineLog T)) (site : SiteValue) (opened : Station) (last : Seen) → opened.line ≡ site.line → Follows site.seen opened.seen
+      → IsSomeAnd reported (λ whole. LedAtDesk follows well tells turns slaves opened whole last)
+      → IsSomeAnd reported (λ whole. EndsReported follows well tells turns site slaves whole last)
+  led_site reported site opened last same opens led =
+      some_weaker reported (λ whole way. record { leads = record { opened = opened; line = same; opens = opens; after = way.leads }; ends = way.ends }) led
+
   pub saves_site : (reported : Option (LineLog T)) (site : SiteValue) (was_old : Bool) (opened : Station) (commands : List Command) (answered : Answered)
       → was_old ≡ is_old site.seen.state.disk.bytes → StartsFrom was_old site opened → opened.line ≡ site.line → Follows site.seen opened.seen
-      → SavesDesk (λ last. IsSomeAnd reported (λ whole. LedAtDesk follows well tells turns slaves opened whole last)) files line opened commands answered
-      → SavesSite (λ last. IsSomeAnd reported (λ whole. EndsReported follows well tells turns site slaves whole last)) files line site commands answered
+      → SavesDesk (λ last. IsSomeAnd reported (λ whole. LedAtDesk follows well tells turns slaves opened whole last.seen)) files line opened commands answered
+      → SavesSite (λ last. IsSomeAnd reported (λ whole. EndsReported follows well tells turns site slaves whole last.seen)) files line site commands answered
   saves_site reported site was_old opened commands answered by_version starts same opens saves = record {
     saves = record { opened = opened; starts = subst (λ (b : Bool). StartsFrom b site opened) by_version starts; serves = saves.serves };
     followed = λ driven.
         let led = saves.followed driven in
-        record {
-          s = led.s;
-          recovered = led.recovered;
-          held = led.held;
-          way = reported_weaker reported (λ whole way. record { leads = record { opened = opened; line = same; opens = opens; after = way.leads }; ends = way.ends }) led.way;
-        };
+        record { s = led.s; recovered = led.recovered; held = led.held; way = led_site reported site opened led.s.seen same opens led.way };
   }

@@ -163,13 +163,13 @@ pub record HasEnded {T : Type 0} (run : LineRun T) (answered : Answered) : Type 
 
 -- The commands were served by threads, and the files hold the result. Where the commands were submitted at the desk, the line was recovered after
 -- it, with `Way` said of what led there.
-pub record SavesDesk (Way : Seen → Type 0) (files : Known) (line : LineFile) (opened : Station) (commands : List Command)
+pub record SavesDesk (Way : Station → Type 0) (files : Known) (line : LineFile) (opened : Station) (commands : List Command)
     (answered : Answered) : Type 0 where
   pub serves : Serves false files line opened commands answered
   pub followed : IsTrue serves.is_driven → SavesFollowed Way files line
 
 -- The same of a station that was opened on this site, after a recovery if the journal wasn't of version 2.
-pub record SavesSite (Way : Seen → Type 0) (files : Known) (line : LineFile) (site : SiteValue) (commands : List Command)
+pub record SavesSite (Way : Station → Type 0) (files : Known) (line : LineFile) (site : SiteValue) (commands : List Command)
     (answered : Answered) : Type 0 where
   pub saves : SavesRun false files line site commands answered
   pub followed : IsTrue saves.serves.is_driven → SavesFollowed Way files line

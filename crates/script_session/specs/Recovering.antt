@@ -1,5 +1,5 @@
--- What is live in a journal is redone at a desk to which no command is submitted.
-use Rattle.std.specs.Prelude.{◌≡◌, ℕ, [], true, Ok}
+-- A recovery by threads: what the open found, what was redone at a desk to which no command is submitted, and what a recovery after it did.
+use Rattle.std.specs.Prelude.{◌≡◌, ◌+◌, ℕ, [], true, Ok}
 use Rattle.jrn_format.specs.declared.journal.Journal.{Journal}
 use Rattle.site_core.specs.State.{State}
 use Rattle.site_core.specs.Passes.{LeavesOnly}
@@ -10,6 +10,10 @@ use Rattle.book_model.specs.Opening.{IsFound, book_on}
 use Rattle.site_journal.specs.Left.{words_issued}
 use Rattle.station_alone.specs.Station.{Station}
 use Rattle.station_alone.specs.Keeping.{KeptFor}
+use Rattle.station_alone.specs.Opening.{OpensCounted}
+use Rattle.station_alone.specs.Recovery.{BeginsRecovered, CountsRecovered}
+use Rattle.station_alone.specs.declared.opening.Found.{Found}
+use Rattle.station_alone.specs.declared.recovery.Recovered.{Recovered}
 use Rattle.desk_book.specs.Calls.{replayed}
 use Rattle.station_line.specs.declared.answered.Answered.TheVariants.{AllAccepted}
 use Rattle.script_session.specs.AtDesk.{IsServedAtDesk}
@@ -34,3 +38,29 @@ pub record IsRedone (opened : Station) (words : ℕ) (site : SiteValue) : Type 0
   pub served : IsServedAtDesk opened [] true AllAccepted (Ok tt) site
   pub counts : IsCount (words_issued (replayed opened.book served.closes.calls).slaves) words
   pub keeps : KeepsLine opened site.seen.state
+
+-- ---- the recovery after it
+
+-- Batches and commands are those that the open found. The words are those that were issued at the desk and those of the recovery after it.
+pub record CountsAll (found : Found) (sent : ℕ) (after all : Recovered) : Type 0 where
+  pub batches : all.batches ≡ found.batches
+  pub commands : all.commands ≡ found.commands
+  pub words : IsCount (sent + after.words) all.words
+
+-- The line of this station was redone at a desk, and recovered after it.
+pub record RedoesOpened (opened : Station) (found : Found) (all : Recovered) (s : Station) : Type 0 where
+  pub left : SiteValue
+  pub sent : ℕ
+  pub redone : IsRedone opened sent left
+  pub begins : BeginsRecovered left.seen s
+  pub after : Recovered
+  pub counts : CountsRecovered left.line.sizes left.seen after s
+  pub counts_all : CountsAll found sent after all
+
+-- A station was opened on this site, and then its line was redone and recovered. For each machine that was kept before, a session of it has begun.
+pub record RecoversByThreads (site : SiteValue) (all : Recovered) (s : Station) : Type 0 where
+  pub opened : Station
+  pub found : Found
+  pub opens : OpensCounted site.line site.seen opened found
+  pub redoes : RedoesOpened opened found all s
+  pub begins : BeginsRecovered site.seen s

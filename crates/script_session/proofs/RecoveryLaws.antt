@@ -1,7 +1,7 @@
 -- What a desk to which no command is submitted leaves, and the session that begins after it.
-use Rattle.std.proofs.Common.{◌≡◌, ℕ, ◌≤◌, Bool, true, false, List, [], ◌∷◌, ◌++◌, length, take, refl, sym, ◌∙◌, ap, subst, arith}
-use Rattle.std.proofs.Common.{Result, Ok, Err}
-use Rattle.std.specs.Prelude.{cond, count_by, MatchResult, OnOk}
+use Rattle.std.proofs.Common.{◌≡◌, ℕ, ◌≤◌, Bool, true, false, IsTrue, List, [], ◌∷◌, ◌++◌, length, take, refl, sym, ◌∙◌, ap, subst, arith}
+use Rattle.std.proofs.Common.{Option, None, Some, Result, Ok, Err}
+use Rattle.std.specs.Prelude.{cond, count_by, IfSome, IsOkAnd, IsSomeAnd, MatchResult, OnOk}
 use Rattle.std.specs.List.{AllByRecursion}
 use Rattle.std.proofs.Math.Seq.{take-nil}
 use Rattle.std.proofs.lemmas.List.{append-nil, length-append}
@@ -10,10 +10,12 @@ use Rattle.std.proofs.lemmas.List.Sums.{sum_by-cons}
 use Rattle.sii_edit.specs.declared.command.Command.{Command}
 use Rattle.sii_edit.specs.Fitting.{CommandFits, PlantFits}
 use Rattle.sii_edit.specs.Fold.{contents}
+use Rattle.site_core.specs.Disk.{Disk}
 use Rattle.site_core.specs.Line.{Line}
 use Rattle.site_core.specs.State.{Seen}
 use Rattle.site_core.specs.Passes.{LeavesOnly}
 use Rattle.site_shadow.specs.Site.{SiteValue}
+use Rattle.site_shadow.specs.Unsynced.{of_bytes}
 use Rattle.book_model.specs.Book.{Book, base_of}
 use Rattle.book_model.specs.Submit.{with_command}
 use Rattle.book_model.specs.Machine.{Machine, MayKeep, reopened}
@@ -26,7 +28,9 @@ use Rattle.site_journal.proofs.OpenLaws.{none-issued}
 use Rattle.world_law.specs.Law.{blank}
 use Rattle.station_alone.specs.Station.{Station, Stands}
 use Rattle.station_alone.specs.Keeping.{KeptFor}
-use Rattle.station_alone.specs.Opening.{Begins, OpensCounted}
+use Rattle.station_alone.specs.Opening.{Begins, BeginsSession, OpensCounted}
+use Rattle.station_alone.specs.Recovery.{BeginsRecovered, CountsRecovered}
+use Rattle.station_alone.specs.declared.recovery.Recovered.{Recovered}
 use Rattle.station_alone.specs.declared.opening.Found.{Found}
 use Rattle.desk_book.specs.declared.call.Call.{Call}
 use Rattle.desk_book.specs.declared.call.Call.TheVariants.{Submitted, DiskAsked, DiskReported, SlaveAsked, SlaveReported, PlanAsked, Finished}
@@ -38,21 +42,36 @@ use Rattle.desk_laws.specs.Together.{IsLeft}
 use Rattle.desk_book.specs.Serving.{ShareCounts}
 use Rattle.station_threads.specs.declared.closing.Ends.{Ends}
 use Rattle.station_threads.specs.declared.closing.CloseFault.{CloseFault}
+use Rattle.station_text.specs.declared.line_file.LineFile.{LineFile}
+use Rattle.station_files.specs.Files.{Known}
 use Rattle.station_files.specs.declared.faults.Fault.{Fault}
 use Rattle.station_line.specs.declared.answered.Answered.{Answered}
+use Rattle.station_line.specs.declared.answered.Answered.TheVariants.{AllAccepted, SomeRefused}
+use Rattle.script_session.specs.declared.logs.LineLog.{LineLog}
+use Rattle.script_session.specs.declared.running.LineRun.{LineRun}
 use Rattle.script_session.specs.declared.threads.Left.{Left}
-use Rattle.script_session.specs.AtDesk.{AcceptsOf, AllLeftSo, BeginsAs, ClosesWith, IsClosed, IsStopped, ServesFollowed}
+use Rattle.script_session.specs.After.{LedOn, SavesFollowed}
+use Rattle.script_session.specs.AtDesk.{AcceptsOf, AllLeftSo, BeginsAs, ClosesWith, EndsSo, IsClosed, IsStopped, ServesFollowed}
 use Rattle.script_session.specs.Parts.{Sites, IsSeparate, AreEndsOfParts, IsCount, IsTogether, issues_of}
-use Rattle.script_session.specs.Redoing.{IsOpenedHere, IsRedone, KeepsLine}
+use Rattle.script_session.specs.Recovering.{CountsAll, IsOpenedHere, IsRedone, KeepsLine, RecoversByThreads, RedoesOpened}
+use Rattle.script_session.specs.Running.{EndsReported, HasEnded, LedAtDesk, whole_of}
+use Rattle.script_session.specs.Saving.{SavesLeft}
 use Rattle.script_session.proofs.IssueLaws.{issued-by, opened-many}
 use Rattle.script_session.proofs.LeftLaws.{left-together}
+use Rattle.script_session.proofs.RunLaws.{led_site, led_whole, some_weaker}
 use Rattle.script_session.proofs.SlaveLaws.{contents-together}
+use Rattle.script_session.proofs.SoundLaws.{on_ok, served_soundly}
 
 -- ---- the station is opened
 
 -- a station that was opened stands on what its site holds
 pub opened-here : (line : Line) (old : Seen) (new : Station) (found : Found) → OpensCounted line old new found → IsOpenedHere new
 opened-here line old new found opens = record { journal = opens.0; found = opens.1.found; book = opens.1.book }
+
+-- and its disk is synced
+pub opened-synced : (line : Line) (old : Seen) (new : Station) (found : Found) → OpensCounted line old new found
+    → new.seen.state.disk ≡ of_bytes new.seen.state.disk.bytes
+opened-synced line old new found opens = opens.1.disk ∙ ap of_bytes (sym (ap (λ (d : Disk). d.bytes) opens.1.disk))
 
 -- ---- no command is submitted
 
@@ -138,16 +157,74 @@ module _ (opened : Station) (here : IsOpenedHere opened) (stands : Stands opened
 
 -- ---- the desk is closed
 
+-- what holds where neither is a fault
+on_both : {A E : Type 0} {P : Type 0} (closed : Result (Unit {0}) E) (ended : Result A E) → (closed ≡ Ok tt → (given : A) → ended ≡ Ok given → P) → OnOk closed (OnOk ended P)
+on_both (Ok done) (Ok given) holds = holds refl given refl
+on_both (Ok done) (Err fault) holds = tt
+on_both (Err fault) ended holds = tt
+
 none-accepted : (is_driven : Bool) (answered : Answered) (accepted : List Command) → AcceptsOf is_driven [] answered accepted → accepted ≡ []
 none-accepted true answered accepted accepts = accepts.0
 none-accepted false answered accepted accepts = accepts.0
 
-module _ (opened : Station) (sites : Sites) (ends : Ends SiteValue) (site : SiteValue) (words : ℕ) (here : IsOpenedHere opened) (stands : Stands opened) where
-  redone-here : (is_driven : Bool) (answered : Answered) → IsSeparate opened.seen.state sites → AreEndsOfParts sites ends
-      → ClosesWith opened.book [] is_driven answered (Ok tt) ends → IsTogether ends site → IsCount (issues_of ends.workers.items) words → IsRedone opened words site
-  redone-here is_driven answered separate of_sites closes together counts =
+-- none is left that would be served after the desk
+abbrev pub driven : {T : Type 0} → Left SiteValue T → Left SiteValue T
+driven left = record left { ending = record left.ending { is_driven = true } }
+
+closes-driven : (book : Book) (is_driven : Bool) (answered : Answered) (reported : Result (Unit {0}) Fault) (ends : Ends SiteValue)
+    → ClosesWith book [] is_driven answered reported ends → ClosesWith book [] true answered reported ends
+closes-driven book is_driven answered reported ends closes = record {
+  calls = closes.calls;
+  counts = closes.counts;
+  receipts = closes.receipts;
+  closed = closes.closed;
+  acknowledged = closes.acknowledged;
+  accepts = on_ok reported (λ (accepts : AcceptsOf is_driven [] answered (replayed book closes.calls).accepted).
+      let none = none-accepted is_driven answered (replayed book closes.calls).accepted accepts in (none, λ done. none)) closes.accepts;
+  none = closes.none;
+  tells = closes.tells;
+}
+
+ends-driven : (book : Book) (is_driven : Bool) (answered : Answered) (reported : Result (Unit {0}) Fault) (ends : Ends SiteValue) (closed : Result (Unit {0}) CloseFault)
+    → MatchResult closed (λ done. ClosesWith book [] is_driven answered reported ends) (λ why. IsStopped book why reported ends)
+    → MatchResult closed (λ done. ClosesWith book [] true answered reported ends) (λ why. IsStopped book why reported ends)
+ends-driven book is_driven answered reported ends (Ok done) closes = closes-driven book is_driven answered reported ends closes
+ends-driven book is_driven answered reported ends (Err why) stops = stops
+
+pub serves-driven : {D T : Type 0} (follows : D → Seen → Type 0) (well : D → Type 0) (tells : D → T → Type 0) (opened : Station) (commands : List Command)
+    (left : Left SiteValue T) → commands ≡ [] → ServesFollowed follows well tells false opened commands left
+    → ServesFollowed follows well tells false opened [] (driven left)
+serves-driven follows well tells opened commands left empty serves =
+    let desk = serves.parts.desk in
+    let ending = left.ending in
+    let ended = subst (λ (l : List Command). EndsSo opened.book l desk.ends ending) empty desk.ended in
+    record {
+      parts = record {
+        desk = record {
+          sites = desk.sites;
+          separate = desk.separate;
+          ends = desk.ends;
+          of_sites = desk.of_sites;
+          ended = record {
+            reported = ended.reported;
+            ended = ends-driven opened.book ending.is_driven ending.answered ending.reported desk.ends ending.closed ended.ended;
+          };
+        };
+        together = serves.parts.together;
+      };
+      turning = serves.turning;
+      followed = serves.followed;
+      reported = serves.reported;
+      sound = serves.sound;
+      words = serves.words;
+    }
+
+module _ (opened : Station) (here : IsOpenedHere opened) (stands : Stands opened) where
+  redone-here : (sites : Sites) (ends : Ends SiteValue) (site : SiteValue) (words : ℕ) (answered : Answered) → IsSeparate opened.seen.state sites → AreEndsOfParts sites ends
+      → ClosesWith opened.book [] true answered (Ok tt) ends → IsTogether ends site → IsCount (issues_of ends.workers.items) words → IsRedone opened words site
+  redone-here sites ends site words answered separate of_sites closes together counts =
       let calls = closes.calls in
-      let none : (replayed opened.book calls).accepted ≡ [] = none-accepted is_driven answered (replayed opened.book calls).accepted closes.accepts in
+      let none : (replayed opened.book calls).accepted ≡ [] = closes.accepts.0 in
       let uncounted = subst (λ (c : ShareCounts). IsClosed opened.book calls (c ∷ []) closes.receipts ends) (closes.none refl) closes.closed in
       let refusals = uncounted.handed_in.counted.refusals in
       let sound : count_by is_refusal calls ≡ 0 = omega (arith, refusals) in
@@ -184,21 +261,57 @@ module _ (opened : Station) (sites : Sites) (ends : Ends SiteValue) (site : Site
         keeps = keeps-line opened here stands calls none sound site left;
       }
 
--- a line that was served with no command, and of which no fault is told
-pub redone : {D T : Type 0} (follows : D → Seen → Type 0) (well : D → Type 0) (tells : D → T → Type 0) (opened : Station) (commands : List Command)
-    (left : Left SiteValue T) → IsOpenedHere opened → Stands opened → commands ≡ [] → left.ending.reported ≡ Ok tt
-    → ServesFollowed follows well tells false opened commands left → IsRedone opened left.words left.site
-redone follows well tells opened commands left here stands empty good serves =
-    let desk = serves.parts.desk in
-    let ending = left.ending in
-    let closed : ending.closed ≡ Ok tt = subst (λ (r : Result (Unit {0}) Fault). OnOk r (ending.closed ≡ Ok tt)) good desk.ended.reported in
-    let closes = subst (λ (r : Result (Unit {0}) CloseFault). MatchResult r
-    (λ done. ClosesWith opened.book commands ending.is_driven ending.answered ending.reported desk.ends) (λ why. IsStopped opened.book why ending.reported desk.ends))
-    closed desk.ended.ended in
-    redone-here opened desk.sites desk.ends left.site left.words here stands ending.is_driven ending.answered desk.separate desk.of_sites
-    (subst (λ (l : List Command). ClosesWith opened.book l ending.is_driven ending.answered (Ok tt) desk.ends) empty
-    (subst (λ (r : Result (Unit {0}) Fault). ClosesWith opened.book commands ending.is_driven ending.answered r desk.ends) good closes))
-    serves.parts.together serves.words
+  -- a line that was served with no command, and of which no fault is told
+  redone : {D T : Type 0} (follows : D → Seen → Type 0) (well : D → Type 0) (tells : D → T → Type 0) (left : Left SiteValue T) → left.ending.reported ≡ Ok tt
+      → ServesFollowed follows well tells false opened [] (driven left) → IsRedone opened left.words left.site
+  redone follows well tells left good serves =
+      let desk = serves.parts.desk in
+      let ending = left.ending in
+      let closed : ending.closed ≡ Ok tt = subst (λ (r : Result (Unit {0}) Fault). OnOk r (ending.closed ≡ Ok tt)) good desk.ended.reported in
+      let closes = subst (λ (r : Result (Unit {0}) CloseFault). MatchResult r
+      (λ done. ClosesWith opened.book [] true ending.answered ending.reported desk.ends) (λ why. IsStopped opened.book why ending.reported desk.ends))
+      closed desk.ended.ended in
+      redone-here desk.sites desk.ends left.site left.words ending.answered desk.separate desk.of_sites
+      (subst (λ (r : Result (Unit {0}) Fault). ClosesWith opened.book [] true ending.answered r desk.ends) good closes) serves.parts.together serves.words
+
+  -- what a run did on the line that a desk has left
+  module _ {D T : Type 0} (follows : D → Seen → Type 0) (well : D → Type 0) (tells : D → T → Type 0) (slaves : ℕ) (files : Known) (line : LineFile) (run : LineRun T)
+      (left : Left SiteValue T) (serves : ServesFollowed follows well tells false opened [] (driven left)) (found : Found) (all : Option Recovered) where
+    redoes : (good : left.ending.reported ≡ Ok tt) (counts : Option Recovered) (s : Station) → IfSome counts (λ one. IsSomeAnd all (CountsAll found left.words one))
+        → BeginsRecovered left.site.seen s → IsSomeAnd counts (λ one. CountsRecovered left.site.line.sizes left.site.seen one s)
+        → IsSomeAnd all (λ one. RedoesOpened opened found one s)
+    redoes good (Some after) s counts_all begins counted =
+        some_weaker all (λ one is. record {
+          left = left.site;
+          sent = left.words;
+          redone = redone follows well tells left good serves;
+          begins = begins;
+          after = after;
+          counts = counted;
+          counts_all = is;
+        }) counts_all
+    redoes good None s counts_all begins counted = absurd counted
+
+    pub saves_redone : ((answered : Answered) → HasEnded run answered → SavesLeft files line (driven left) answered) → OnOk run.ended (left.sound ≡ Ok tt)
+        → run.reported.desk ≡ Some left.reported
+        → OnOk run.ended (IsTrue true → IsSomeAnd run.reported.after (λ after. SavesFollowed (LedOn follows well tells after slaves run.recovered left.site) files line))
+        → IfSome run.recovered (λ one. IsSomeAnd all (CountsAll found left.words one))
+        → OnOk run.closed (OnOk run.ended (SavesFollowed (λ s. IsSomeAnd all (λ one. RedoesOpened opened found one s)
+        × IsSomeAnd (whole_of run.reported.desk run.reported.after) (λ whole. LedAtDesk follows well tells false slaves opened whole s.seen)) files line))
+    saves_redone saves sound desk followed counts_all =
+        on_both run.closed run.ended (λ closed given ended.
+        let has : HasEnded run SomeRefused = record {
+          closed = closed;
+          ended = subst (λ (r : Result Answered Fault). IsOkAnd r (λ one. SomeRefused ≡ AllAccepted → (run.answers ≡ AllAccepted) × (one ≡ AllAccepted)))
+              (sym ended) (λ never. absurd cc);
+        } in
+        let good = (saves SomeRefused has).reported in
+        led_whole follows well tells false slaves files line (λ s. IsSomeAnd all (λ one. RedoesOpened opened found one s)) run.reported.desk run.reported.after opened
+        left.site run.recovered left.reported desk
+        (served_soundly follows well tells false opened [] (driven left) serves (subst (λ (r : Result Answered Fault). OnOk r (left.sound ≡ Ok tt)) ended sound))
+        (λ s begins counted. redoes good run.recovered s counts_all begins counted)
+        (subst (λ (r : Result Answered Fault). OnOk r (IsTrue true → IsSomeAnd run.reported.after
+        (λ after. SavesFollowed (LedOn follows well tells after slaves run.recovered left.site) files line))) ended followed refl))
 
 -- ---- the session after it
 
@@ -214,3 +327,39 @@ begins-still m k s again may =
       of = subst (λ (one : Machine). IsOfBook s.book one) same again.of;
       kept = subst (λ (one : Machine). LeavesOnly (KeptFor one) s.seen.state) same again.kept;
     }
+
+-- the recovery after the desk begins a session of each machine that was kept before the open
+begins-before : (before : Seen) (opened s : Station) (left : Seen) → BeginsSession before opened → KeepsLine opened left.state → BeginsRecovered left s
+    → BeginsRecovered before s
+begins-before before opened s left begins keeps again machine kept =
+    let first = begins machine kept in
+    begins-still machine first.k s (again (reopened machine first.k) (keeps (reopened machine first.k) first.of first.kept)) first.may_keep
+
+module _ {D T : Type 0} (follows : D → Seen → Type 0) (well : D → Type 0) (tells : D → T → Type 0) (slaves : ℕ) (files : Known) (line : LineFile) (site : SiteValue)
+    (opened : Station) (found : Found) (opens : OpensCounted site.line site.seen opened found) (begins : BeginsSession site.seen opened) where
+  recovers : (all : Option Recovered) (s : Station) → IsSomeAnd all (λ one. RedoesOpened opened found one s) → IsSomeAnd all (λ one. RecoversByThreads site one s)
+  recovers all s redoes = some_weaker all (λ one is. record {
+    opened = opened;
+    found = found;
+    opens = opens;
+    redoes = is;
+    begins = begins-before site.seen opened s is.left.seen begins is.redone.keeps is.begins;
+  }) redoes
+
+  -- the station was opened on this site
+  pub saves_recovered : {A E : Type 0} (closed : Result (Unit {0}) E) (ended : Result A E) (all : Option Recovered) (reported : Option (LineLog T))
+      → OnOk closed (OnOk ended (SavesFollowed (λ s. IsSomeAnd all (λ one. RedoesOpened opened found one s)
+      × IsSomeAnd reported (λ whole. LedAtDesk follows well tells false slaves opened whole s.seen)) files line))
+      → OnOk closed (OnOk ended (SavesFollowed (λ s. IsSomeAnd all (λ one. RecoversByThreads site one s)
+      × IsSomeAnd reported (λ whole. EndsReported follows well tells false site slaves whole s.seen)) files line))
+  saves_recovered (Ok done) (Ok given) all reported saves = record {
+    s = saves.s;
+    recovered = saves.recovered;
+    held = saves.held;
+    way = (
+      recovers all saves.s saves.way.0,
+      led_site follows well tells false slaves files line reported site opened saves.s.seen opens.1.line opens.1.quiet.follows saves.way.1,
+    );
+  }
+  saves_recovered (Ok done) (Err fault) all reported saves = tt
+  saves_recovered (Err fault) ended all reported saves = tt
