@@ -10,5 +10,6 @@ pub mod DeskLaws
 pub mod IssueLaws
 pub mod RecoveryLaws
 pub mod SavingLaws
+pub mod ThreeDevices
 pub mod AfterLaws
 pub mod RunLaws

@@ -70,16 +70,17 @@ done_noted one other both old mid new first second which good =
     done_both (inl is) first second = is ∙ first
     done_both (inr is) first second = is ∙ second
 
--- the same status, or that of a fault that was noted after it
-pub then_noted : (status final : ExitStatus) (old mid new : Failures) → NotesWhy (IsOfAnswers status) status old mid → NotesWhy (final ≡ status) final mid new
-    → NotesWhy (IsOfAnswers final) final old new
-then_noted status final old mid new first (inl second) =
-    both_noted (IsOfAnswers status) (final ≡ status) (IsOfAnswers final) status final final old mid new first (inl second) (λ answers same. (answers.0, same ∙ answers.1))
-    (λ well. (subst IsFaultless second.0 well, well))
-then_noted status final old mid new (inl first) (inr second) = inr (second.0, subst (λ (at : Failures). Notes (met_by at) (met_by new)) first.1 second.1)
-then_noted status final old mid new (inr first) (inr second) = inr (second.0, further (met_by old) (met_by mid) (met_by new) first.1 second.1)
-
 -- the status stays, or a fault is told
 pub stays : (status final : ExitStatus) (old new : Failures) → NotesWhy (final ≡ status) final old new → (final ≡ status) ⊎ (¬ IsFaultless final)
 stays status final old new (inl same) = inl same.0
 stays status final old new (inr why) = inr why.0
+
+-- the same status, or that of a fault that was noted after it
+pub then_noted : (Well : ExitStatus → Type 0) (status final : ExitStatus) (old mid new : Failures) → NotesWhy (Well status) status old mid → NotesWhy (final ≡ status) final mid new
+    → NotesWhy (Well final) final old new
+then_noted Well status final old mid new first second =
+    both_noted (Well status) (final ≡ status) (Well final) status final final old mid new first second (λ well same. subst Well (sym same) well)
+    (λ good. elim stays status final mid new second [
+      | inl same ↦ (subst IsFaultless same good, good)
+      | inr never ↦ absurd (never good)
+    ])

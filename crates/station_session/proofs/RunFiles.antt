@@ -61,7 +61,7 @@ use Rattle.station_line.specs.Site.{IsFollowed}
 
 -- ---- on files
 
-same-half : (halves : List SlaveHalf) (slave : ℕ) (one other : SlaveHalf) → slice_get halves slave ≡ Some one → slice_get halves slave ≡ Some other → one ≡ other
+pub same-half : (halves : List SlaveHalf) (slave : ℕ) (one other : SlaveHalf) → slice_get halves slave ≡ Some one → slice_get halves slave ≡ Some other → one ≡ other
 same-half halves slave one other here there = let same : Some one ≡ Some other = sym here ∙ there in cc
 
 at-place : {A : Type 0} (P : A → Type 0) (xs : List A) (k : ℕ) (a : A) → AllByRecursion P xs → slice_get xs k ≡ Some a → P a

@@ -6,6 +6,7 @@ use Rattle.site_shadow.specs.Site.{SiteValue}
 use Rattle.site_file.proofs.Sent.{device-send}
 use Rattle.line_watch.proofs.Sent.{watched-send}
 use Rattle.station_files.specs.Faults.{IsFaultless}
+use Rattle.station_line.specs.Answers.{IsOfAnswers}
 use Rattle.station_line.specs.Opened.{is_old}
 use Rattle.station_session.specs.RunFiles.{RunKeepsFiles}
 use Rattle.station_session.specs.Session.{EndsRun}
@@ -59,7 +60,7 @@ returns-clause-noted g c =
     let closed = c.note_end in
     let ended = c.note_answered in
     let final = c.with_all_reported-status in
-    then_noted c.worse.result final.result old ended.new.failures final.new.failures
+    then_noted IsOfAnswers c.worse.result final.result old ended.new.failures final.new.failures
     (worse_noted c.status.result c.worse-noted.result c.worse.result old old ended.new.failures (answers_noted ran.answers c.status.result old c.status.ensures)
     (worse_noted closed.result ended.result c.worse-noted.result old closed.new.self ended.new.failures
     (end_answers ran.closed closed.result old closed.new.self closed.ensures.done closed.ensures.fault closed.ensures.noted closed.ensures.same)
