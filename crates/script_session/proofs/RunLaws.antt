@@ -185,7 +185,7 @@ saves_left files line left closed ready (Ok given) answered told is good saves h
 saves_left files line left closed ready (Err fault) answered told is good saves has = absurd has
 
 -- what holds where the run ended without a fault
-of_ended : {P : Type 0} (Q : Answered → Type 0) (ended : Result Answered Fault) → IsOkAnd ended Q → OnOk ended P → P
+pub of_ended : {P : Type 0} (Q : Answered → Type 0) (ended : Result Answered Fault) → IsOkAnd ended Q → OnOk ended P → P
 of_ended Q (Ok given) has holds = holds
 of_ended Q (Err fault) has holds = absurd has
 

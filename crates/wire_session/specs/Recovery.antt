@@ -19,7 +19,7 @@ use Rattle.wire_scan.specs.Opening.{IsFound}
 use Rattle.wire_scan.specs.declared.asked.Mend.{Mend}
 use Rattle.site_wire.specs.declared.device.WireLog.{WireLog}
 use Rattle.wire_session.specs.declared.logs.Worked.{Worked}
-use Rattle.wire_session.specs.Ending.{Ends, EndsOpened}
+use Rattle.wire_session.specs.Ending.{EndsOpened}
 use Rattle.wire_session.specs.Slaves.{SlavesHold}
 
 -- The files hold the state of a complete recovery of this site, and so do the slaves.
@@ -31,10 +31,6 @@ pub record SavesRecovered (Hold : Station → Type 0) (files : Known) (line : Li
   pub slaves : Hold s
 
 -- If the result is `Ok`, the files hold the state of a complete recovery of this site, and so do the slaves.
-abbrev pub EndsRecovery : (Station → Type 0) → Result (Unit {0}) WireFault → Known → Known → LineFile → Seen → Type 0
-EndsRecovery Hold result old new line before = Ends (λ done. SavesRecovered Hold new line before) result old new line
-
--- the same from before the files of the line were opened
 abbrev pub EndsOpenedRecovery : (Station → Type 0) → Result (Unit {0}) WireFault → Known → Known → LineFile → Seen → Type 0
 EndsOpenedRecovery Hold result old new line before = EndsOpened (λ done. SavesRecovered Hold new line before) result old new line
 

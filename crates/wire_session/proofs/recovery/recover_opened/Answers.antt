@@ -30,7 +30,7 @@ returns-in-Ok-site_of g c =
     (λ s recovered way. reported_own {Q = SlavesHold c.args.found.slaves.now s} c.recover_site.result.reported c.recover_site.ensures.own
     (λ reported own ends. slaves_hold device_in false c.in-Ok-site_of.site count s reported (ap (λ (seen : Seen). seen.past) c.in-Ok-site_of.ensures.seen) ends own c.args.found.slaves.now c.args.found.journal.items
     c.in-Ok-site_of.ensures.seen c.in-Ok-site_of.ensures.sizes (sym c.requires.count) recovered) way)
-    c.recover_site.ensures.recovers
+    c.recover_site.ensures.others c.recover_site.ensures.saved
 
 pub returns : goal.returns
 returns g c =
