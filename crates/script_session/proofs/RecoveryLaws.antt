@@ -1,7 +1,7 @@
 -- What a desk to which no command is submitted leaves, and the session that begins after it.
 use Rattle.std.proofs.Common.{◌≡◌, ℕ, ◌≤◌, Bool, true, false, IsTrue, List, [], ◌∷◌, ◌++◌, length, take, refl, sym, ◌∙◌, ap, subst, arith}
 use Rattle.std.proofs.Common.{Option, None, Some, Result, Ok, Err}
-use Rattle.std.specs.Prelude.{cond, count_by, IfSome, IsOkAnd, IsSomeAnd, MatchResult, OnOk}
+use Rattle.std.specs.Prelude.{cond, count_by, IfSome, IsSomeAnd, MatchResult, OnOk}
 use Rattle.std.specs.List.{AllByRecursion}
 use Rattle.std.proofs.Math.Seq.{take-nil}
 use Rattle.std.proofs.lemmas.List.{append-nil, length-append}
@@ -10,9 +10,10 @@ use Rattle.std.proofs.lemmas.List.Sums.{sum_by-cons}
 use Rattle.sii_edit.specs.declared.command.Command.{Command}
 use Rattle.sii_edit.specs.Fitting.{CommandFits, PlantFits}
 use Rattle.sii_edit.specs.Fold.{contents}
+use Rattle.sii_edit.proofs.FoldLaws.{contents-append, none-taken}
 use Rattle.site_core.specs.Disk.{Disk}
 use Rattle.site_core.specs.Line.{Line}
-use Rattle.site_core.specs.State.{Seen}
+use Rattle.site_core.specs.State.{Pair, Seen}
 use Rattle.site_core.specs.Passes.{LeavesOnly}
 use Rattle.site_shadow.specs.Site.{SiteValue}
 use Rattle.site_shadow.specs.Unsynced.{of_bytes}
@@ -39,6 +40,7 @@ use Rattle.desk_book.proofs.CountLaws.{each-slave}
 use Rattle.desk_book.proofs.KeptLaws.{keeps-disk_next, keeps-disk_done, keeps-rom_next, keeps-rom_done}
 use Rattle.desk_laws.specs.Joined.{CallFits, served_by}
 use Rattle.desk_laws.specs.Together.{IsLeft}
+use Rattle.kept_files.specs.Cuts.{IsKeptPair}
 use Rattle.desk_book.specs.Serving.{ShareCounts}
 use Rattle.station_threads.specs.declared.closing.Ends.{Ends}
 use Rattle.station_threads.specs.declared.closing.CloseFault.{CloseFault}
@@ -46,16 +48,14 @@ use Rattle.station_text.specs.declared.line_file.LineFile.{LineFile}
 use Rattle.station_files.specs.Files.{Known}
 use Rattle.station_files.specs.declared.faults.Fault.{Fault}
 use Rattle.station_line.specs.declared.answered.Answered.{Answered}
-use Rattle.station_line.specs.declared.answered.Answered.TheVariants.{AllAccepted, SomeRefused}
 use Rattle.script_session.specs.declared.logs.LineLog.{LineLog}
 use Rattle.script_session.specs.declared.running.LineRun.{LineRun}
 use Rattle.script_session.specs.declared.threads.Left.{Left}
 use Rattle.script_session.specs.After.{LedOn, SavesFollowed}
 use Rattle.script_session.specs.AtDesk.{AcceptsOf, AllLeftSo, BeginsAs, ClosesWith, EndsSo, IsClosed, IsStopped, ServesFollowed}
 use Rattle.script_session.specs.Parts.{Sites, IsSeparate, AreEndsOfParts, IsCount, IsTogether, issues_of}
-use Rattle.script_session.specs.Recovering.{CountsAll, IsOpenedHere, IsRedone, KeepsLine, RecoversByThreads, RedoesOpened}
-use Rattle.script_session.specs.Running.{EndsReported, HasEnded, LedAtDesk, whole_of}
-use Rattle.script_session.specs.Saving.{SavesLeft}
+use Rattle.script_session.specs.Recovering.{CountsAll, IsOpenedHere, IsRedone, KeepsLine, RecoversByThreads, RedoesOpened, StaysKept}
+use Rattle.script_session.specs.Running.{EndsReported, GoesAfter, LedAtDesk, OfRecovery, Says, whole_of}
 use Rattle.script_session.proofs.IssueLaws.{issued-by, opened-many}
 use Rattle.script_session.proofs.LeftLaws.{left-together}
 use Rattle.script_session.proofs.RunLaws.{led_site, led_whole, some_weaker}
@@ -119,6 +119,16 @@ kept-too bytes words one other none nothing zero_is base kept =
     ap (λ (l : List Command). contents (machines.base_of other) (take 0 l)) nothing in
     record { journal = kept.journal; live = kept.live; k = 0; may_keep = (few, omega arith); same = begun ∙ base ∙ sym ends }
 
+-- what is kept for a session is kept for the machine before it
+pub kept-opened : (m : Machine) (k : ℕ) (pair : Pair) → MayKeep m k → KeptFor (reopened m k) pair → KeptFor m pair
+kept-opened m k pair may kept = record {
+  journal = kept.journal;
+  live = kept.live;
+  k = k;
+  may_keep = may;
+  same = kept.same ∙ none-taken (machines.base_of (reopened m k)) [] kept.k refl ∙ contents-append m.origin m.kept (take k m.accepted);
+}
+
 -- the commands of a session that began without one
 none-afterwards : (kept : List Command) (k : ℕ) → kept ++ take k [] ≡ kept
 none-afterwards kept k = ap (λ (l : List Command). kept ++ l) (take-nil {A = Command} k) ∙ append-nil kept
@@ -143,6 +153,21 @@ module _ (opened : Station) (here : IsOpenedHere opened) (stands : Stands opened
       commands_fit = none-submitted opened.book calls (ap (λ (l : List Command). length l) none) sound;
     }
 
+    -- so for each machine that was kept before the station was opened, what a power cut leaves at the desk is kept
+    pub kept-each : (before : Seen) → BeginsSession before opened → (machine : Machine) → LeavesOnly (KeptFor machine) before.state
+        → BeginsAs (blank (base_of opened.book)) calls opened
+        × ((pair : Pair) → IsKeptPair (blank (base_of opened.book)) (replayed opened.book calls) pair → KeptFor machine pair)
+    kept-each before begins machine kept =
+        let base = base_of opened.book in
+        let first = begins machine kept in
+        let session = reopened machine first.k in (
+          as-blank session first.of first.kept,
+          λ pair is.
+              let same : machines.base_of (reopened (blank base) is.k) ≡ base = ap (λ (l : List Command). contents base l) (none-afterwards [] is.k) in
+              kept-opened machine first.k pair first.may_keep
+              (kept-too pair.disk pair.words (served_by (reopened (blank base) is.k) (replayed opened.book calls)) session none refl refl (same ∙ sym first.of.base) is.kept),
+        )
+
     -- a desk to which no command is submitted leaves what is kept
     pub keeps-line : (site : SiteValue) → AllLeftSo IsLeft opened calls site → KeepsLine opened site.seen.state
     keeps-line site left machine is kept =
@@ -156,12 +181,6 @@ module _ (opened : Station) (here : IsOpenedHere opened) (stands : Stands opened
         (same ∙ sym is.base) (afterwards.kept.kept pair leaves)
 
 -- ---- the desk is closed
-
--- what holds where neither is a fault
-on_both : {A E : Type 0} {P : Type 0} (closed : Result (Unit {0}) E) (ended : Result A E) → (closed ≡ Ok tt → (given : A) → ended ≡ Ok given → P) → OnOk closed (OnOk ended P)
-on_both (Ok done) (Ok given) holds = holds refl given refl
-on_both (Ok done) (Err fault) holds = tt
-on_both (Err fault) ended holds = tt
 
 none-accepted : (is_driven : Bool) (answered : Answered) (accepted : List Command) → AcceptsOf is_driven [] answered accepted → accepted ≡ []
 none-accepted true answered accepted accepts = accepts.0
@@ -277,41 +296,51 @@ module _ (opened : Station) (here : IsOpenedHere opened) (stands : Stands opened
   -- what a run did on the line that a desk has left
   module _ {D T : Type 0} (follows : D → Seen → Type 0) (well : D → Type 0) (tells : D → T → Type 0) (slaves : ℕ) (files : Known) (line : LineFile) (run : LineRun T)
       (left : Left SiteValue T) (serves : ServesFollowed follows well tells false opened [] (driven left)) (found : Found) (all : Option Recovered) where
-    redoes : (good : left.ending.reported ≡ Ok tt) (counts : Option Recovered) (s : Station) → IfSome counts (λ one. IsSomeAnd all (CountsAll found left.words one))
-        → BeginsRecovered left.site.seen s → IsSomeAnd counts (λ one. CountsRecovered left.site.line.sizes left.site.seen one s)
-        → IsSomeAnd all (λ one. RedoesOpened opened found one s)
-    redoes good (Some after) s counts_all begins counted =
-        some_weaker all (λ one is. record {
-          left = left.site;
-          sent = left.words;
-          redone = redone follows well tells left good serves;
-          begins = begins;
-          after = after;
-          counts = counted;
-          counts_all = is;
-        }) counts_all
-    redoes good None s counts_all begins counted = absurd counted
+    module _ (good : left.ending.reported ≡ Ok tt) where
+      redoes : (counts : Option Recovered) (s : Station) → IfSome counts (λ one. IsSomeAnd all (CountsAll found left.words one))
+          → BeginsRecovered left.site.seen s → IsSomeAnd counts (λ one. CountsRecovered left.site.line.sizes left.site.seen one s)
+          → IsSomeAnd all (λ one. RedoesOpened opened found one s)
+      redoes (Some after) s counts_all begins counted =
+          some_weaker all (λ one is. record {
+            left = left.site;
+            sent = left.words;
+            redone = redone follows well tells left good serves;
+            begins = begins;
+            after = after;
+            counts = counted;
+            counts_all = is;
+          }) counts_all
+      redoes None s counts_all begins counted = absurd counted
 
-    pub saves_redone : ((answered : Answered) → HasEnded run answered → SavesLeft files line (driven left) answered) → OnOk run.ended (left.sound ≡ Ok tt)
-        → run.reported.desk ≡ Some left.reported
-        → OnOk run.ended (IsTrue true → IsSomeAnd run.reported.after (λ after. SavesFollowed (LedOn follows well tells after slaves run.recovered left.site) files line))
-        → IfSome run.recovered (λ one. IsSomeAnd all (CountsAll found left.words one))
-        → OnOk run.closed (OnOk run.ended (SavesFollowed (λ s. IsSomeAnd all (λ one. RedoesOpened opened found one s)
-        × IsSomeAnd (whole_of run.reported.desk run.reported.after) (λ whole. LedAtDesk follows well tells false slaves opened whole s.seen)) files line))
-    saves_redone saves sound desk followed counts_all =
-        on_both run.closed run.ended (λ closed given ended.
-        let has : HasEnded run SomeRefused = record {
-          closed = closed;
-          ended = subst (λ (r : Result Answered Fault). IsOkAnd r (λ one. SomeRefused ≡ AllAccepted → (run.answers ≡ AllAccepted) × (one ≡ AllAccepted)))
-              (sym ended) (λ never. absurd cc);
-        } in
-        let good = (saves SomeRefused has).reported in
-        led_whole follows well tells false slaves files line (λ s. IsSomeAnd all (λ one. RedoesOpened opened found one s)) run.reported.desk run.reported.after opened
-        left.site run.recovered left.reported desk
-        (served_soundly follows well tells false opened [] (driven left) serves (subst (λ (r : Result Answered Fault). OnOk r (left.sound ≡ Ok tt)) ended sound))
-        (λ s begins counted. redoes good run.recovered s counts_all begins counted)
-        (subst (λ (r : Result Answered Fault). OnOk r (IsTrue true → IsSomeAnd run.reported.after
-        (λ after. SavesFollowed (LedOn follows well tells after slaves run.recovered left.site) files line))) ended followed refl))
+      pub saves_redone : OnOk run.ended (left.sound ≡ Ok tt) → run.reported.desk ≡ Some left.reported
+          → OnOk run.ended (IsTrue true → IsSomeAnd run.reported.after (λ after. SavesFollowed (LedOn follows well tells after slaves run.recovered left.site) files line))
+          → IfSome run.recovered (λ one. IsSomeAnd all (CountsAll found left.words one))
+          → OnOk run.ended (SavesFollowed (λ s. IsSomeAnd all (λ one. RedoesOpened opened found one s)
+          × IsSomeAnd (whole_of run.reported.desk run.reported.after) (λ whole. LedAtDesk follows well tells false slaves opened whole s.seen)) files line)
+      saves_redone sound desk followed counts_all = by run.ended sound followed
+        where
+          by : (ended : Result Answered Fault) → OnOk ended (left.sound ≡ Ok tt)
+              → OnOk ended (IsTrue true → IsSomeAnd run.reported.after (λ after. SavesFollowed (LedOn follows well tells after slaves run.recovered left.site) files line))
+              → OnOk ended (SavesFollowed (λ s. IsSomeAnd all (λ one. RedoesOpened opened found one s)
+              × IsSomeAnd (whole_of run.reported.desk run.reported.after) (λ whole. LedAtDesk follows well tells false slaves opened whole s.seen)) files line)
+          by (Ok given) ended held =
+              led_whole follows well tells false slaves files line (λ s. IsSomeAnd all (λ one. RedoesOpened opened found one s)) run.reported.desk run.reported.after opened
+              left.site run.recovered left.reported desk (served_soundly follows well tells false opened [] (driven left) serves ended)
+              (λ s begins counted. redoes run.recovered s counts_all begins counted) (held refl)
+          by (Err fault) ended held = tt
+
+      -- what was kept before the open is kept of the line that the desk has left
+      pub stays_kept : (before : Seen) → BeginsSession before opened → StaysKept before left.site.seen
+      stays_kept before begins machine kept =
+          let first = begins machine kept in
+          let session = (redone follows well tells left good serves).keeps (reopened machine first.k) first.of first.kept in
+          λ pair leaves. kept-opened machine first.k pair first.may_keep (session pair leaves)
+
+-- a recovery went after the desk
+pub after_recovers : (before : Seen) (says : Says) (sound : Result (Unit {0}) Fault) (commands : List Command) (left : Seen) (Failed : Type 0) → StaysKept before left
+    → GoesAfter says true sound commands left Failed → GoesAfter (OfRecovery before says) true sound commands left Failed
+after_recovers before says (Ok done) commands left Failed stays goes = (goes.0, (stays, goes.1))
+after_recovers before says (Err fault) commands left Failed stays failed = failed
 
 -- ---- the session after it
 
@@ -347,12 +376,12 @@ module _ {D T : Type 0} (follows : D → Seen → Type 0) (well : D → Type 0) 
   }) redoes
 
   -- the station was opened on this site
-  pub saves_recovered : {A E : Type 0} (closed : Result (Unit {0}) E) (ended : Result A E) (all : Option Recovered) (reported : Option (LineLog T))
-      → OnOk closed (OnOk ended (SavesFollowed (λ s. IsSomeAnd all (λ one. RedoesOpened opened found one s)
-      × IsSomeAnd reported (λ whole. LedAtDesk follows well tells false slaves opened whole s.seen)) files line))
-      → OnOk closed (OnOk ended (SavesFollowed (λ s. IsSomeAnd all (λ one. RecoversByThreads site one s)
-      × IsSomeAnd reported (λ whole. EndsReported follows well tells false site slaves whole s.seen)) files line))
-  saves_recovered (Ok done) (Ok given) all reported saves = record {
+  pub saves_recovered : {A E : Type 0} (ended : Result A E) (all : Option Recovered) (reported : Option (LineLog T))
+      → OnOk ended (SavesFollowed (λ s. IsSomeAnd all (λ one. RedoesOpened opened found one s)
+      × IsSomeAnd reported (λ whole. LedAtDesk follows well tells false slaves opened whole s.seen)) files line)
+      → OnOk ended (SavesFollowed (λ s. IsSomeAnd all (λ one. RecoversByThreads site one s)
+      × IsSomeAnd reported (λ whole. EndsReported follows well tells false site slaves whole s.seen)) files line)
+  saves_recovered (Ok given) all reported saves = record {
     s = saves.s;
     recovered = saves.recovered;
     held = saves.held;
@@ -361,5 +390,4 @@ module _ {D T : Type 0} (follows : D → Seen → Type 0) (well : D → Type 0) 
       led_site follows well tells false slaves files line reported site opened saves.s.seen opens.1.line opens.1.quiet.follows saves.way.1,
     );
   }
-  saves_recovered (Ok done) (Err fault) all reported saves = tt
-  saves_recovered (Err fault) ended all reported saves = tt
+  saves_recovered (Err fault) all reported saves = tt

@@ -16,6 +16,7 @@ use Rattle.station_alone.specs.Keeping.{KeptFor}
 use Rattle.station_alone.specs.Opening.{BeginsSession}
 use Rattle.station_alone.specs.Recovery.{BeginsRecovered, CountsRecovered}
 use Rattle.station_alone.specs.declared.recovery.Recovered.{Recovered}
+use Rattle.station_threads.specs.declared.closing.Ends.{Ends}
 use Rattle.station_text.specs.declared.line_file.LineFile.{LineFile}
 use Rattle.station_files.specs.Files.{Known}
 use Rattle.station_line.specs.declared.answered.Answered.{Answered}
@@ -35,7 +36,7 @@ use Rattle.script_session.specs.After.{GoesAfterDesk, GoesFollowed, LedOn, Saves
 use Rattle.script_session.specs.AtDesk.{IsServedReported, IsUnservedReported, LeavesSo, ServesFollowed}
 use Rattle.script_session.specs.AtDesk as at_desk
 use Rattle.script_session.specs.Parts.{AreSound, IsDeskReported}
-use Rattle.script_session.specs.Running.{DeskGoes, EndsReported, GoesAfter, GoesAlone, HasEnded, LedAtDesk, OfDevices, SavesDesk, SavesSite, Says, ServesOn}
+use Rattle.script_session.specs.Running.{DeskGoes, DeskTells, EndsReported, GoesAfter, GoesAlone, HasEnded, LedAtDesk, OfDevices, SavesDesk, SavesSite, Says, ServesOn}
 use Rattle.script_session.specs.Running.{TellsOf, desk_of, line_reported, opening_of, whole_of}
 use Rattle.script_session.specs.Running.{idle, recovered, separate, served, unbegun, unrecovered}
 use Rattle.script_session.specs.Saving.{SavesAfter, SavesLeft, Serves}
@@ -123,16 +124,17 @@ goes_after_desk {D} {T} follows well tells reported after false sound commands l
     (subst (λ (t : Option T). ServesSome (TellsOf follows tells t) commands serves.r) (sym tells_so) serves.serves))
 
 -- what a line was not served with, by what `serve_task` tells
-pub not_served : {D T : Type 0} (follows : D → Seen → Type 0) (well : D → Type 0) (tells : D → T → Type 0) (reported : RunLog T) (station : Station)
-    (commands : List Command) (why : UnservedLog T) (Failed : Type 0) → Failed → reported.desk ≡ desk_of why
-    → IsUnservedReported follows well tells station commands why → DeskGoes (OfDevices follows well tells reported) station commands Failed
-not_served follows well tells reported station commands (unserved.Line part) Failed bad is (at_desk.line _ followed) = unbegun bad
-not_served follows well tells reported station commands (unserved.Separate devices) Failed bad is (at_desk.separate _ parts none tellings) =
-    idle parts none
-    (subst (λ (d : Option (DeskLog _)). IsSomeAnd d (λ one. IsDeskReported follows well tells station.seen one parts.ends)) (sym is) tellings) bad
-not_served follows well tells reported station commands (unserved.Desk devices) Failed bad is (at_desk.desk _ ending served_by tellings) =
+pub not_served : {D T : Type 0} (follows : D → Seen → Type 0) (well : D → Type 0) (tells : D → T → Type 0) (reported : Option (DeskLog T)) (says : Says) (station : Station)
+    (commands : List Command) (why : UnservedLog T) (Failed : Type 0) → Failed → reported ≡ desk_of why
+    → ((ends : Ends SiteValue) → IsSomeAnd reported (λ one. IsDeskReported follows well tells station.seen one ends) → says.parts station ends)
+    → IsUnservedReported follows well tells station commands why → DeskGoes says station commands Failed
+not_served follows well tells reported says station commands (unserved.Line part) Failed bad is parts (at_desk.line _ followed) = unbegun bad
+not_served follows well tells reported says station commands (unserved.Separate devices) Failed bad is parts (at_desk.separate _ ends none tellings) =
+    idle ends none
+    (parts ends.ends (subst (λ (d : Option (DeskLog _)). IsSomeAnd d (λ one. IsDeskReported follows well tells station.seen one ends.ends)) (sym is) tellings)) bad
+not_served follows well tells reported says station commands (unserved.Desk devices) Failed bad is parts (at_desk.desk _ ending served_by tellings) =
     separate ending served_by
-    (subst (λ (d : Option (DeskLog _)). IsSomeAnd d (λ one. IsDeskReported follows well tells station.seen one served_by.ends)) (sym is) tellings) bad
+    (parts served_by.ends (subst (λ (d : Option (DeskLog _)). IsSomeAnd d (λ one. IsDeskReported follows well tells station.seen one served_by.ends)) (sym is) tellings)) bad
 
 -- a desk served it
 module _ {D T : Type 0} (follows : D → Seen → Type 0) (well : D → Type 0) (tells : D → T → Type 0) (turns : Bool) (run : LineRun T) (opened : Station)
@@ -143,18 +145,19 @@ module _ {D T : Type 0} (follows : D → Seen → Type 0) (well : D → Type 0) 
       let before = serves.reported.before in
       subst (λ d. IsFollowed (TellsOf follows tells (line_reported d run.reported.opening)) opened.seen) (sym desk) (before.0, (before.1.0, before.1.1))
 
-  pub served_goes : (left.ending.is_driven ≡ false → left.unserved.items ≡ commands)
-      → (left.ending.closed ≡ Ok tt → GoesAfter (OfDevices follows well tells run.reported) left.ending.is_driven left.sound left.unserved.items left.site.seen (IsErr run.ended))
-      → DeskGoes (OfDevices follows well tells run.reported) opened commands (IsErr run.ended)
-  served_goes same goes =
-      let ends = serves.parts.desk.ends in
-      served left.ending left.site left.sound serves.parts (record {
-        followed = serves.followed;
-        tell = subst (λ d. IfSome d (λ reported. IsDeskReported follows well tells opened.seen reported ends × OnOk left.sound (AreSound reported)))
-            (sym desk) (serves.reported, serves.sound);
-      })
-      (λ closed. after_unserved (OfDevices follows well tells run.reported) left.ending.is_driven left.sound left.unserved.items commands left.site.seen
-      (IsErr run.ended) same (goes closed))
+  pub desk_tells : DeskTells follows well tells run.reported.desk opened left.sound serves.parts.desk.ends
+  desk_tells = record {
+    followed = serves.followed;
+    tell = subst (λ d. IfSome d (λ reported. IsDeskReported follows well tells opened.seen reported serves.parts.desk.ends × OnOk left.sound (AreSound reported)))
+        (sym desk) (serves.reported, serves.sound);
+  }
+
+  pub served_goes : (says : Says) → says.desk opened left.sound serves.parts.desk.ends left.site → (left.ending.is_driven ≡ false → left.unserved.items ≡ commands)
+      → (left.ending.closed ≡ Ok tt → GoesAfter says left.ending.is_driven left.sound left.unserved.items left.site.seen (IsErr run.ended))
+      → DeskGoes says opened commands (IsErr run.ended)
+  served_goes says tells_so same goes =
+      served left.ending left.site left.sound serves.parts tells_so
+      (λ closed. after_unserved says left.ending.is_driven left.sound left.unserved.items commands left.site.seen (IsErr run.ended) same (goes closed))
 
 pub unserved_line : {D T : Type 0} (follows : D → Seen → Type 0) (well : D → Type 0) (tells : D → T → Type 0) (reported : RunLog T) (station : Station)
     (commands : List Command) (why : UnservedLog T) → reported.desk ≡ desk_of why → reported.opening ≡ opening_of why

@@ -1,16 +1,16 @@
 -- A recovery by threads: what the open found, what was redone at a desk to which no command is submitted, and what a recovery after it did.
 use Rattle.std.specs.Prelude.{◌≡◌, ◌+◌, ℕ, [], true, Ok}
 use Rattle.jrn_format.specs.declared.journal.Journal.{Journal}
-use Rattle.site_core.specs.State.{State}
+use Rattle.site_core.specs.State.{Seen, State}
 use Rattle.site_core.specs.Passes.{LeavesOnly}
 use Rattle.site_shadow.specs.Site.{SiteValue}
 use Rattle.book_model.specs.Machine.{Machine}
 use Rattle.book_model.specs.Keeping.{IsOfBook}
 use Rattle.book_model.specs.Opening.{IsFound, book_on}
 use Rattle.site_journal.specs.Left.{words_issued}
-use Rattle.station_alone.specs.Station.{Station}
+use Rattle.station_alone.specs.Station.{Station, Stands}
 use Rattle.station_alone.specs.Keeping.{KeptFor}
-use Rattle.station_alone.specs.Opening.{OpensCounted}
+use Rattle.station_alone.specs.Opening.{BeginsSession, OpensCounted}
 use Rattle.station_alone.specs.Recovery.{BeginsRecovered, CountsRecovered}
 use Rattle.station_alone.specs.declared.opening.Found.{Found}
 use Rattle.station_alone.specs.declared.recovery.Recovered.{Recovered}
@@ -29,6 +29,16 @@ pub record IsOpenedHere (opened : Station) : Type 0 where
 abbrev pub KeepsLine : Station → State → Type 0
 KeepsLine opened state = (machine : Machine) → IsOfBook opened.book machine → LeavesOnly (KeptFor machine) opened.seen.state
     → LeavesOnly (KeptFor machine) state
+
+-- The station stands as it was opened, and for each machine that was kept before, a session of it has begun.
+pub record BeginsSessions (before : Seen) (opened : Station) : Type 0 where
+  pub here : IsOpenedHere opened
+  pub stands : Stands opened
+  pub begins : BeginsSession before opened
+
+-- For each machine: if a power cut could leave only what is kept for it, so it can now.
+abbrev pub StaysKept : Seen → Seen → Type 0
+StaysKept before now = (machine : Machine) → LeavesOnly (KeptFor machine) before.state → LeavesOnly (KeptFor machine) now.state
 
 -- ---- how it ends
 

@@ -25,6 +25,7 @@ use Rattle.script_session.specs.declared.running.LineRun.{LineRun}
 use Rattle.script_session.specs.After.{GoesFollowed, SavesFollowed}
 use Rattle.script_session.specs.AtDesk.{DeskServes, EndsFollowed, IsServedReported, PartsEnd, ServesParts}
 use Rattle.script_session.specs.Parts.{AreSound, AreUnserved, IsDeskReported}
+use Rattle.script_session.specs.Recovering.{BeginsSessions, StaysKept}
 use Rattle.script_session.specs.Saving.{IsReportedLine, SavesRun, Serves}
 
 -- ---- how far a run comes
@@ -72,6 +73,16 @@ pub data RunGoes (says : Says) (before : Seen) (commands : List Command) (Failed
   unopened : (last : Seen) → says.opening before last → Failed → RunGoes says before commands Failed
   opened : (station : Station) → says.opening before station.seen → station.seen.state.disk ≡ of_bytes station.seen.state.disk.bytes
       → DeskGoes says station commands Failed → RunGoes says before commands Failed
+
+-- the same of a recovery: each machine that was kept before has a session at its desk, and is still kept after that
+abbrev pub OfRecovery : (before : Seen) → Says → Says
+OfRecovery before says = record {
+  opening = says.opening;
+  after = λ left last. StaysKept before left × says.after left last;
+  serving = says.serving;
+  parts = λ station ends. BeginsSessions before station × says.parts station ends;
+  desk = λ station sound ends site. BeginsSessions before station × says.desk station sound ends site;
+}
 
 -- ---- by devices
 

@@ -1,22 +1,25 @@
 //! Recovers a line by threads: has a desk serve it, to which no command is submitted, and recovers and saves the line after that.
 
-ghost use Rattle.std.specs.Prelude.{◌≡◌, [], false, length, IfErr, IfSome, IsErr, IsSomeAnd, IsTrue, OnOk};
+ghost use Rattle.std.specs.Prelude.{◌≡◌, [], false, length, Err, IfErr, IfSome, IsErr, IsSomeAnd, IsTrue, OnOk, Some};
 ghost use Rattle.esc_rom.specs.Owned.{OwnsAll};
+ghost use Rattle.site_core.specs.State.{Seen};
+ghost use Rattle.station_alone.specs.Opening.{BeginsSession};
 ghost use Rattle.station_files.specs.Files.{ChangesAmong};
 ghost use Rattle.station_line.specs.Site.{files_of, IsFollowed};
 ghost use Rattle.script_session.specs.After.{SavesFollowed};
 ghost use Rattle.script_session.specs.Recovering.{CountsAll, IsOpenedHere, RecoversByThreads, RedoesOpened};
-ghost use Rattle.script_session.specs.Running.{DeskGoes, EndsReported, LedAtDesk, OfDevices, RunGoes, TellsOf, line_reported, whole_of};
+ghost use Rattle.script_session.specs.Running.{DeskGoes, EndsReported, LedAtDesk, OfDevices, OfRecovery, RunGoes, TellsOf, line_reported};
+ghost use Rattle.script_session.specs.Running.{whole_of};
 ghost use Rattle.script_session.specs.Saving.{MayFail};
 
 use crate::after::reported_of;
 use crate::logs::RunLog;
 use crate::running::{LineRun, end_left};
-use crate::threads::serve_task;
+use crate::threads::{Left, serve_task};
 use crate::work::{Task, Work};
 use site_shadow::{Lends, ShadowSite};
 use station_alone::{Alone, Found, Recovered};
-use station_files::Store;
+use station_files::{Fault, Store};
 use station_line::{Answered, of_open};
 use station_text::LineFile;
 use std::io::sink;
@@ -41,10 +44,10 @@ pub fn recover_by_threads<D: Lends + Send, S: Store, R: Wait + Threads + AllocGl
     requires owned { OwnsAll site.line }
     ensures others { ChangesAmong (S.files store.old) (S.files store.new) (files_of line.now) }
     ensures failed { IfErr result.ended (MayFail (S.files store.old) (S.files store.new)) }
-    ensures goes { RunGoes (OfDevices D.follows D.well D.tells result.reported) site.seen [] (IsErr result.ended) }
-    ensures saved { OnOk result.closed (OnOk result.ended (SavesFollowed (λ s. IsSomeAnd result.recovered (λ all. RecoversByThreads site all s)
+    ensures goes { RunGoes (OfRecovery site.seen (OfDevices D.follows D.well D.tells result.reported)) site.seen [] (IsErr result.ended) }
+    ensures saved { OnOk result.ended (SavesFollowed (λ s. IsSomeAnd result.recovered (λ all. RecoversByThreads site all s)
         × IsSomeAnd (whole_of result.reported.desk result.reported.after)
-        (λ whole. EndsReported D.follows D.well D.tells false site (length line.now.images.items) whole s.seen)) (S.files store.new) line.now)) }
+        (λ whole. EndsReported D.follows D.well D.tells false site (length line.now.images.items) whole s.seen)) (S.files store.new) line.now) }
 {
     match Alone::open_counted(rt.alloc(), site) {
         Ok((alone, found)) => redo_opened(rt, line, alone, found, store),
@@ -71,10 +74,11 @@ fn redo_opened<D: Lends + Send, S: Store, R: Wait + Threads + AllocGlobal + Sync
     ensures others { ChangesAmong (S.files store.old) (S.files store.new) (files_of line.now) }
     ensures failed { IfErr result.ended (MayFail (S.files store.old) (S.files store.new)) }
     ensures followed { IsFollowed (TellsOf D.follows D.tells (line_reported result.reported.desk result.reported.opening)) alone.seen }
-    ensures goes { DeskGoes (OfDevices D.follows D.well D.tells result.reported) alone [] (IsErr result.ended) }
-    ensures saved { OnOk result.closed (OnOk result.ended (SavesFollowed (λ s. IsSomeAnd result.recovered (λ all. RedoesOpened alone found all s)
+    ensures goes { (before : Seen) → BeginsSession before alone
+        → DeskGoes (OfRecovery before (OfDevices D.follows D.well D.tells result.reported)) alone [] (IsErr result.ended) }
+    ensures saved { OnOk result.ended (SavesFollowed (λ s. IsSomeAnd result.recovered (λ all. RedoesOpened alone found all s)
         × IsSomeAnd (whole_of result.reported.desk result.reported.after)
-        (λ whole. LedAtDesk D.follows D.well D.tells false (length line.now.images.items) alone whole s.seen)) (S.files store.new) line.now)) }
+        (λ whole. LedAtDesk D.follows D.well D.tells false (length line.now.images.items) alone whole s.seen)) (S.files store.new) line.now) }
 {
     // Its contract says that the station stands.
     let _capacity = alone.core().capacity();
@@ -91,10 +95,15 @@ fn redo_opened<D: Lends + Send, S: Store, R: Wait + Threads + AllocGlobal + Sync
             let mut left = left;
             // No command is left that would be served after the recovery.
             left.ending.is_driven = true;
-            let sent = left.words;
-            let mut run = end_left(alloc, line, left, store, &mut sink());
-            run.recovered = count_all(found, sent, run.recovered);
-            run
+            match left.ending.reported {
+                Ok(()) => {
+                    let sent = left.words;
+                    let mut run = end_left(alloc, line, left, store, &mut sink());
+                    run.recovered = count_all(found, sent, run.recovered);
+                    run
+                }
+                Err(fault) => unrecovered(left, fault),
+            }
         }
         Err(why) => LineRun {
             answers: Answered::AllAccepted,
@@ -103,6 +112,30 @@ fn redo_opened<D: Lends + Send, S: Store, R: Wait + Threads + AllocGlobal + Sync
             recovered: None,
             reported: RunLog::of_unserved(why.reported),
         },
+    }
+}
+
+/// What has ended with this fault of a desk, before the line was recovered.
+fn unrecovered<S: Drop, T>(left: Left<S, T>, fault: Fault) -> LineRun<T>
+    ensures ended { result.ended ≡ Err fault }
+    ensures desk { result.reported.desk ≡ Some left.reported }
+{
+    let Left {
+        site,
+        unserved,
+        ending,
+        sound: _,
+        words: _,
+        reported,
+    } = left;
+    drop(site);
+    drop(unserved);
+    LineRun {
+        answers: ending.answered,
+        closed: Ok(()),
+        ended: Err(fault),
+        recovered: None,
+        reported: RunLog::of_desk(reported, None),
     }
 }
 

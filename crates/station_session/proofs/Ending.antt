@@ -24,7 +24,7 @@ use Rattle.station_line.specs.declared.answered.Answered.TheVariants.{AllAccepte
 use Rattle.station_line.specs.Answers.{AnswersGive, exit_status}
 use Rattle.station_line.proofs.Answering.{all_accepted}
 use Rattle.station_line.specs.Opened.{is_old, Loads, StartsFrom}
-use Rattle.station_session.specs.RunFiles.{IsAllReported, IsNoneReported, RunKeepsFiles}
+use Rattle.station_session.specs.RunFiles.{IsAllReported, IsNoneReported, RecoveryKeepsFiles}
 use Rattle.station_session.specs.Session.{EndsRecovery, EndsRun, RecoversFiles, RunsFiles}
 use Rattle.station_session.specs.Session.{SavesRecovered}
 use Rattle.script_session.specs.Saving.{SavesRun, SavesServed}
@@ -76,7 +76,7 @@ saves-by new line commands opened left (Ok done) (Err fault) state answered so i
 saves-by new line commands opened left (Err fault) saved state answered so is held = tt
 
 -- what holds where neither failed
-on_both : {A : Type 0} (P : Type 0) (served : Result (Unit {0}) Fault) (saved : Result A Fault) (one other : ExitStatus) → OnOk served (OnOk saved P) → OnErr served (¬ IsFaultless one) → OnErr saved (¬ IsFaultless other)
+on_both : (P : Type 0) (served saved : Result (Unit {0}) Fault) (one other : ExitStatus) → OnOk served (OnOk saved P) → OnErr served (¬ IsFaultless one) → OnErr saved (¬ IsFaultless other)
     → IsFaultless one × IsFaultless other → P
 on_both P (Ok done) (Ok kept) one other holds bad worse good = holds
 on_both P (Ok done) (Err fault) one other holds bad worse good = absurd (worse good.1)
@@ -190,15 +190,18 @@ pub ends-recovery-opened : (F : Type 0) (old mid new : Known) (line : LineFile) 
 ends-recovery-opened F old mid new line before status reported opened ends =
     record { others = λ other out. ends.others other out ∙ opened other out; keeps = ends.keeps; saved = ends.saved }
 
+-- what holds where there is no fault
+on-saved : {A : Type 0} (P : Type 0) (saved : Result A Fault) (one : ExitStatus) → OnOk saved P → OnErr saved (¬ IsFaultless one) → IsFaultless one → P
+on-saved P (Ok kept) one holds bad good = holds
+on-saved P (Err fault) one holds bad good = absurd (bad good)
+
 -- `Saved` is said of what was saved, and the work ended with these statuses, one after the other
-pub ends-recovered : (F : Type 0) (Saved : Type 0) (old new : Known) (line : LineFile) (before : Seen) (closed : Result (Unit {0}) Fault) (ended : Result Answered Fault)
-    (one other noted printed status final : ExitStatus) (reported : RunLog FileLog) → ChangesAmong old new (files_of line)
-    → RunKeepsFiles F before [] final reported → OnOk closed (OnOk ended Saved)
-    → (Saved → IsAllReported reported → IsSomeAnd (whole_of reported.desk reported.after) (SavesRecovered new line before))
-    → OnErr closed (¬ IsFaultless one) → OnErr ended (¬ IsFaultless other) → (IsFaultless noted → IsFaultless one × IsFaultless other)
-    → (IsFaultless status → IsFaultless noted × IsFaultless printed) → (final ≡ status) ⊎ (¬ IsFaultless final)
-    → (IsFaultless final → IsAllReported reported) → EndsRecovery F old new line before final reported
-ends-recovered F Saved old new line before closed ended one other noted printed status final reported others keeps saves says bad worse both all last told = record {
+pub ends-recovered : (F : Type 0) (Saved : Type 0) (old new : Known) (line : LineFile) (before : Seen) (ended : Result Answered Fault) (one other noted printed status final : ExitStatus)
+    (reported : RunLog FileLog) → ChangesAmong old new (files_of line) → RecoveryKeepsFiles F before final reported → OnOk ended Saved
+    → (Saved → IsAllReported reported → IsSomeAnd (whole_of reported.desk reported.after) (SavesRecovered new line before)) → OnErr ended (¬ IsFaultless other)
+    → (IsFaultless noted → IsFaultless one × IsFaultless other) → (IsFaultless status → IsFaultless noted × IsFaultless printed)
+    → (final ≡ status) ⊎ (¬ IsFaultless final) → (IsFaultless final → IsAllReported reported) → EndsRecovery F old new line before final reported
+ends-recovered F Saved old new line before ended one other noted printed status final reported others keeps saves says bad both all last told = record {
   others = others;
   keeps = inr keeps;
   saved = λ done.
@@ -207,7 +210,7 @@ ends-recovered F Saved old new line before closed ended one other noted printed 
         | inl same ↦ subst IsFaultless same good
         | inr never ↦ absurd (never good)
       ] in
-      (told good, says (on_both Saved closed ended one other saves bad worse (both (all same).0)) (told good));
+      (told good, says (on-saved Saved ended other saves bad (both (all same).0).1) (told good));
 }
 
 -- ---- the whole

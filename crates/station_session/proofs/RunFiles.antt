@@ -21,7 +21,7 @@ use Rattle.site_file.specs.Following as files
 use Rattle.site_file.specs.Held.{is_same}
 use Rattle.site_file.specs.Files.{File, image_of}
 use Rattle.site_file.specs.AllFiles.{Holds, HoldsDisk, HoldsWords, Shows}
-use Rattle.book_model.specs.Book.{Book}
+use Rattle.book_model.specs.Book.{Book, base_of}
 use Rattle.book_model.specs.Machine.{Machine}
 use Rattle.desk_book.specs.declared.call.Call.{Call}
 use Rattle.desk_book.specs.Calls.{AreAnswered, replayed}
@@ -30,6 +30,7 @@ use Rattle.station_jobs.specs.declared.log.SlaveLog.{SlaveLog}
 use Rattle.station_jobs.specs.Ends.{Stay}
 use Rattle.station_jobs.specs.Flushing.{IsFlushed}
 use Rattle.kept_files.specs.KeptFiles.{has_file}
+use Rattle.world_law.specs.Law.{blank}
 use Rattle.kept_files.specs.Cuts.{IsKeptPair}
 use Rattle.kept_files.specs.DeskFiles.{DeskOnFiles, PartOnFiles}
 use Rattle.kept_files.proofs.OnFiles.{device_kept, device_served, site_keeps_on, site_keeps_serving}
@@ -51,10 +52,12 @@ use Rattle.script_session.proofs.LeftLaws.{first, opened-on, placed-back}
 use Rattle.script_session.proofs.SlaveLaws.{placed-at}
 use Rattle.script_session.specs.After.{GoesFollowed}
 use Rattle.script_session.specs.declared.logs.RunLog.{RunLog}
-use Rattle.script_session.specs.Running.{DeskGoes, DeskTells, GoesAlone, GoesAfter, OfDevices, RunGoes, ServesOn, TellsOf, line_reported}
+use Rattle.script_session.specs.Recovering.{BeginsSessions}
+use Rattle.script_session.specs.Running.{DeskGoes, DeskTells, GoesAlone, GoesAfter, OfDevices, OfRecovery, RunGoes, Says, ServesOn, TellsOf, line_reported}
+use Rattle.script_session.proofs.RecoveryLaws.{kept-each}
 use Rattle.script_session.specs.Running.{unbegun, idle, separate, served, unopened, opened, unrecovered, recovered}
 use Rattle.station_session.specs.RunFiles.{BeginsPart, HoldTogether, IsLeftBy, KeepsAtDesk, KeepsParts}
-use Rattle.station_session.specs.RunFiles.{OfFiles, KeepsRunFiles, RunKeepsFiles}
+use Rattle.station_session.specs.RunFiles.{KeepsEach, KeepsRunFiles, OfFiles, OfRecovered, RunKeepsFiles}
 use Rattle.station_session.specs.RunFiles.{HaveAsked, IsReported, KeepsAsReported, KeepsDeskAsReported, KeepsPartsAsReported, ServesAsReported}
 use Rattle.station_line.specs.Opened.{Loads}
 use Rattle.station_line.specs.Site.{IsFollowed}
@@ -206,6 +209,49 @@ reported-calls F device kept calls None same log tells = tt
 reported-calls F device kept calls (Some asked) same log tells =
     append_cancel_left device.asking.calls.begun.value asked calls (sym tells ∙ subst (λ (d : FileDevice F). HasLog d.asking.calls calls) same log)
 
+-- what is said of a run by the one is said by the other, and if one failure is told, the other is
+module _ (says other : Says) (Failed Told : Type 0) (tells_it : Failed → Told)
+    (opening : (before now : Seen) → before.past ≡ [] → says.opening before now → other.opening before now)
+    (after : (before now : Seen) → before.past ≡ [] → says.after before now → other.after before now)
+    (serving : (commands : List Command) (before now : Seen) → before.past ≡ [] → says.serving commands before now → other.serving commands before now)
+    (parts : (station : Station) → station.seen.state.disk ≡ of_bytes station.seen.state.disk.bytes → (ended : PartsEnd station) → says.parts station ended.ends
+    → other.parts station ended.ends)
+    (desk : (station : Station) → station.seen.state.disk ≡ of_bytes station.seen.state.disk.bytes → (commands : List Command) (ending : Ending) (site : SiteValue)
+    (sound : Result (Unit {0}) Fault) (ended : ServesParts station commands ending site) → says.desk station sound ended.desk.ends site
+    → other.desk station sound ended.desk.ends site) where
+  alone_as : (commands : List Command) (left : Seen) → left.past ≡ [] → GoesAlone says commands left Failed → GoesAlone other commands left Told
+  alone_as commands left new (unrecovered last stage failed) = unrecovered last (after left last new stage) (tells_it failed)
+  alone_as commands left new (recovered accepted last among serves) = recovered accepted last among (serving accepted left last new serves)
+
+  after_as : (is_driven : Bool) (sound : Result (Unit {0}) Fault) (commands : List Command) (left : Seen) → left.past ≡ []
+      → GoesAfter says is_driven sound commands left Failed → GoesAfter other is_driven sound commands left Told
+  after_as true (Ok done) commands left new goes = (goes.0, after left goes.0 new goes.1)
+  after_as false (Ok done) commands left new goes = alone_as commands left new goes
+  after_as true (Err fault) commands left new failed = tells_it failed
+  after_as false (Err fault) commands left new failed = tells_it failed
+
+  desk_as : (station : Station) → station.seen.state.disk ≡ of_bytes station.seen.state.disk.bytes → (commands : List Command)
+      → DeskGoes says station commands Failed → DeskGoes other station commands Told
+  desk_as station synced commands (unbegun failed) = unbegun (tells_it failed)
+  desk_as station synced commands (idle ended none tell failed) = idle ended none (parts station synced ended tell) (tells_it failed)
+  desk_as station synced commands (separate ending ended tell failed) =
+      separate ending ended (parts station synced (parts_of station commands ending ended) tell) (tells_it failed)
+  desk_as station synced commands (served ending site sound ended tell closes) =
+      served ending site sound ended (desk station synced commands ending site sound ended tell)
+      (λ closed. after_as ending.is_driven sound commands site.seen ended.together.new (closes closed))
+
+  run_as : (before : Seen) (commands : List Command) → before.past ≡ [] → RunGoes says before commands Failed → RunGoes other before commands Told
+  run_as before commands new (unopened last stage failed) = unopened last (opening before last new stage) (tells_it failed)
+  run_as before commands new (opened station stage synced goes) = opened station (opening before station.seen new stage) synced (desk_as station synced commands goes)
+
+-- for each machine that was kept before
+keeps_each : (F : Type 0) (before : Seen) (station : Station) (ends : Ends SiteValue) → BeginsSessions before station → (keeps : KeepsParts F station ends)
+    → KeepsEach before station ends keeps.desk
+keeps_each F before station ends sessions keeps machine calls begun images kept answered none sound bytes cut =
+    let each = kept-each station sessions.here sessions.stands calls none sound before sessions.begins machine kept in
+    let left = keeps.kept (blank (base_of station.book)) calls begun images each.0 answered bytes cut in
+    (left.0, each.1 left.0 left.1, left.2)
+
 -- what a device tells of its log, its device of files has asked
 abbrev pub TellsFile : (F : Type 0) → {D : Type 0} → (follows : D → Seen → Type 0) → HasFileDevice F follows → (D → FileLog → Type 0) → Type 0
 TellsFile F {D} follows to_file tells =
@@ -334,42 +380,28 @@ module _ (F : Type 0) {D : Type 0} (follows : D → Seen → Type 0) (well : D �
   desk_as_reported (Some reported) station synced commands ending site sound parts tell =
       keeps_as_reported station synced (parts_of station commands ending parts.desk) reported tell.tell.0 site parts.together sound tell.tell.1 tell.followed
 
-  -- if one failure is told, the other is
   module _ (reported : RunLog FileLog) (Failed Told : Type 0) (tells_it : Failed → Told) where
-    alone_on_files : (commands : List Command) (left : Seen) → left.past ≡ []
-        → GoesAlone (OfDevices follows well tells reported) commands left Failed → GoesAlone (OfFiles F reported) commands left Told
-    alone_on_files commands left new (unrecovered last stage failed) = unrecovered last
-        (goes_on_files F follows to_file tells tells_file reported.after left last new stage) (tells_it failed)
-    alone_on_files commands left new (recovered accepted last among serves) = recovered accepted last among
-        (serves_on_files F follows to_file tells tells_file reported.after accepted left last new serves)
-
-    after_on_files : (is_driven : Bool) (sound : Result (Unit {0}) Fault) (commands : List Command) (left : Seen)
-        → left.past ≡ [] → GoesAfter (OfDevices follows well tells reported) is_driven sound commands left Failed
-        → GoesAfter (OfFiles F reported) is_driven sound commands left Told
-    after_on_files true (Ok done) commands left new goes = (goes.0, goes_on_files F follows to_file tells tells_file reported.after left goes.0 new goes.1)
-    after_on_files false (Ok done) commands left new goes = alone_on_files commands left new goes
-    after_on_files true (Err fault) commands left new failed = tells_it failed
-    after_on_files false (Err fault) commands left new failed = tells_it failed
-
-    desk_on_files : (station : Station) → station.seen.state.disk ≡ of_bytes station.seen.state.disk.bytes
-        → (commands : List Command) → DeskGoes (OfDevices follows well tells reported) station commands Failed
-        → DeskGoes (OfFiles F reported) station commands Told
-    desk_on_files station synced commands (unbegun failed) = unbegun (tells_it failed)
-    desk_on_files station synced commands (idle parts none tellings failed) =
-        idle parts none (parts_as_reported reported.desk station synced parts tellings) (tells_it failed)
-    desk_on_files station synced commands (separate ending desk tellings failed) =
-        separate ending desk (parts_as_reported reported.desk station synced (parts_of station commands ending desk) tellings) (tells_it failed)
-    desk_on_files station synced commands (served ending site sound parts tell closes) =
-        served ending site sound parts (desk_as_reported reported.desk station synced commands ending site sound parts tell)
-        (λ closed. after_on_files ending.is_driven sound commands site.seen parts.together.new (closes closed))
-
     pub run_on_files : (before : Seen) (commands : List Command) → before.past ≡ [] → RunGoes (OfDevices follows well tells reported) before commands Failed
         → RunGoes (OfFiles F reported) before commands Told
-    run_on_files before commands new (unopened last stage failed) =
-        unopened last (goes_on_files F follows to_file tells tells_file (line_reported reported.desk reported.opening) before last new stage) (tells_it failed)
-    run_on_files before commands new (opened station stage synced goes) =
-        opened station (goes_on_files F follows to_file tells tells_file (line_reported reported.desk reported.opening) before station.seen new stage) synced
-        (desk_on_files station synced commands goes)
+    run_on_files = run_as (OfDevices follows well tells reported) (OfFiles F reported) Failed Told tells_it
+        (goes_on_files F follows to_file tells tells_file (line_reported reported.desk reported.opening))
+        (goes_on_files F follows to_file tells tells_file reported.after) (serves_on_files F follows to_file tells tells_file reported.after)
+        (parts_as_reported reported.desk) (desk_as_reported reported.desk)
+
+    -- of a recovery
+    pub recovery_on_files : (before : Seen) → before.past ≡ [] → RunGoes (OfRecovery before (OfDevices follows well tells reported)) before [] Failed
+        → RunGoes (OfRecovered F before reported) before [] Told
+    recovery_on_files before = run_as (OfRecovery before (OfDevices follows well tells reported)) (OfRecovered F before reported) Failed Told tells_it
+        (goes_on_files F follows to_file tells tells_file (line_reported reported.desk reported.opening))
+        (λ left last new goes. (goes.0, goes_on_files F follows to_file tells tells_file reported.after left last new goes.1))
+        (serves_on_files F follows to_file tells tells_file reported.after)
+        (λ station synced parts tell.
+        let so = parts_as_reported reported.desk station synced parts tell.1 in
+        (so, keeps_each F before station parts.ends tell.0 so.keeps))
+        (λ station synced commands ending site sound parts tell.
+        let so = desk_as_reported reported.desk station synced commands ending site sound parts tell.1 in
+        (so, keeps_each F before station parts.desk.ends tell.0 so.keeps.parts))
+        before []
 
 -- ---- the run
 

@@ -29,7 +29,7 @@ use Rattle.script_session.specs.declared.logs.PartLog.{PartLog}
 use Rattle.script_session.specs.declared.logs.RunLog.{RunLog}
 use Rattle.script_session.specs.Running.{whole_of}
 use Rattle.script_session.specs.Saving.{SavesRun}
-use Rattle.station_session.specs.RunFiles.{IsAllReported, IsNoneReported, RunKeepsFiles}
+use Rattle.station_session.specs.RunFiles.{IsAllReported, IsNoneReported, RecoveryKeepsFiles}
 use Rattle.station_line.specs.Validating.{HasJournal, IsRunSeparate}
 use Rattle.station_line.specs.Site.{files_of, HoldsSite}
 
@@ -66,7 +66,7 @@ pub record SavesRecovered (files : Known) (line : LineFile) (before : Seen) (who
 -- has left in them is kept, as far as the recovery came. If the status is `Done`, they hold the recovered state.
 pub record EndsRecovery (F : Type 0) (old new : Known) (line : LineFile) (before : Seen) (status : ExitStatus) (reported : RunLog FileLog) : Type 0 where
   pub others : ChangesAmong old new (files_of line)
-  pub keeps : IsNoneReported reported ⊎ RunKeepsFiles F before [] status reported
+  pub keeps : IsNoneReported reported ⊎ RecoveryKeepsFiles F before status reported
   pub saved : status ≡ Done → IsAllReported reported × IsSomeAnd (whole_of reported.desk reported.after) (SavesRecovered new line before)
 
 -- The line was read, its files stand apart, its journal is one, and it was recovered as far as the status says.

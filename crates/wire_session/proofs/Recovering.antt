@@ -47,20 +47,18 @@ some_says None says holds = absurd holds
 
 -- all that is told is told, and what was recovered is printed, or a fault is told
 pub saves_recovery : {T : Type 0} (Way : Option (LineLog T) → Station → Type 0) (run : LineRun T) (told : Option (LineLog T)) (given ended : Result ExitStatus WireFault)
-    (result : Result (Unit {0}) WireFault) (new : Known) (line : LineFile) (site : SiteValue) → OnOk given (run.closed ≡ Ok tt) → IfOk given (EndsWith run)
+    (result : Result (Unit {0}) WireFault) (new : Known) (line : LineFile) (site : SiteValue) → IfOk given (EndsWith run)
     → IfOk ended (λ status. (given ≡ Ok status) × (told ≡ whole_of run.reported.desk run.reported.after)) → IsPrinted ended result
-    → OnOk run.closed (OnOk run.ended (SavesFollowed (λ s. IsSomeAnd run.recovered (λ all. RecoversByThreads site all s)
-    × Way (whole_of run.reported.desk run.reported.after) s) new line))
+    → OnOk run.ended (SavesFollowed (λ s. IsSomeAnd run.recovered (λ all. RecoversByThreads site all s)
+    × Way (whole_of run.reported.desk run.reported.after) s) new line)
     → IfOk result (λ done. SavesFollowed (λ s. BeginsRecovered site.seen s × Way told s) new line)
-saves_recovery {T} Way run told given (Ok status) (Ok done) new line site closed has is printed saves =
+saves_recovery {T} Way run told given (Ok status) (Ok done) new line site has is printed saves =
     let Way_told : Option (LineLog T) → Type 0 = λ one. SavesFollowed (λ s. IsSomeAnd run.recovered (λ all. RecoversByThreads site all s) × Way one s) new line in
-    let good = subst (λ (r : Result ExitStatus WireFault). OnOk r (run.closed ≡ Ok tt)) is.0 closed in
     let ends : EndsWith run status = subst (λ (r : Result ExitStatus WireFault). IfOk r (EndsWith run)) is.0 has in
-    let saved = subst Way_told (sym is.1) (of_ended _ run.ended ends.so
-    (subst (λ (r : Result (Unit {0}) Fault). OnOk r (OnOk run.ended (Way_told (whole_of run.reported.desk run.reported.after)))) good saves)) in
+    let saved = subst Way_told (sym is.1) (of_ended _ run.ended ends.so saves) in
     record { s = saved.s; recovered = saved.recovered; held = saved.held; way = (some_says run.recovered (λ all by. by.begins) saved.way.0, saved.way.1) }
-saves_recovery Way run told given (Ok status) (Err fault) new line site closed has is printed saves = tt
-saves_recovery Way run told given (Err fault) result new line site closed has is printed saves =
+saves_recovery Way run told given (Ok status) (Err fault) new line site has is printed saves = tt
+saves_recovery Way run told given (Err fault) result new line site has is printed saves =
     subst (λ (r : Result (Unit {0}) WireFault). IfOk r (λ done. SavesFollowed (λ s. BeginsRecovered site.seen s × Way told s) new line)) (sym printed) tt
 
 -- ---- the files of the line are opened

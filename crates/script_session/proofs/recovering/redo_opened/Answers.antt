@@ -1,8 +1,11 @@
-use Rattle.std.proofs.Common.{[], ap, arith, false, length, refl, subst}
+use Rattle.std.proofs.Common.{[], ap, arith, false, length, refl, subst, sym}
+use Rattle.std.specs.Prelude.{IsErr, IsSomeAnd}
 use Rattle.book_model.specs.Book.{Book}
 use Rattle.script_session.specs.AtDesk.{IsUnservedReported}
-use Rattle.script_session.proofs.RecoveryLaws.{driven, saves_redone, serves-driven}
-use Rattle.script_session.proofs.RunLaws.{not_served, served_goes, served_line, unserved_line}
+use Rattle.script_session.specs.Parts.{IsDeskReported}
+use Rattle.script_session.specs.Running.{OfDevices, OfRecovery, separate}
+use Rattle.script_session.proofs.RecoveryLaws.{after_recovers, driven, saves_redone, serves-driven, stays_kept}
+use Rattle.script_session.proofs.RunLaws.{desk_tells, not_served, served_goes, served_line, unserved_line}
 use Rattle.script_session.proofs.SavingLaws.{line-of}
 use Rattle.script_session.proofs.recovering.redo_opened.Goals as goal
 
@@ -17,22 +20,29 @@ end_left-run-requires-clause-line g c κs lives =
 pub end_left-run-requires-clause-reported : goal.end_left-run-requires-clause-reported
 end_left-run-requires-clause-reported g c κs lives = c.in-Ok.ensures.left.reported
 
-pub returns-in-Ok-clause-followed : goal.returns-in-Ok-clause-followed
-returns-in-Ok-clause-followed g c =
+pub returns-in-Ok-reported-clause-followed : goal.returns-in-Ok-reported-clause-followed
+returns-in-Ok-reported-clause-followed g c =
     served_line g.D.Device.follows g.D.Device.well g.D.Lends.tells false c.end_left-run.result c.args.alone c.new.result.items c.in-Ok.left
     c.in-Ok.ensures.parts c.end_left-run.ensures.desk
 
-pub returns-in-Ok-clause-goes : goal.returns-in-Ok-clause-goes
-returns-in-Ok-clause-goes g c =
+pub returns-in-Ok-reported-clause-goes : goal.returns-in-Ok-reported-clause-goes
+returns-in-Ok-reported-clause-goes g c before begins =
     let follows = g.D.Device.follows in
     let well = g.D.Device.well in
     let tells = g.D.Lends.tells in
-    served_goes follows well tells false c.end_left-run.result c.args.alone [] (driven c.in-Ok.left)
-    (serves-driven follows well tells c.args.alone c.new.result.items c.in-Ok.left c.new.ensures.items c.in-Ok.ensures.parts) c.end_left-run.ensures.desk
-    (λ never. absurd cc) c.end_left-run.ensures.goes
+    let left = c.in-Ok.left in
+    let run = c.end_left-run.result in
+    let says = OfDevices follows well tells run.reported in
+    let serves = serves-driven follows well tells c.args.alone c.new.result.items left c.new.ensures.items c.in-Ok.ensures.parts in
+    let stays = stays_kept c.args.alone c.requires.opened c.core.ensures.stands follows well tells 0 _ c.args.line.now run left serves c.args.found _ c.in-Ok-reported.is before begins in
+    served_goes follows well tells false run c.args.alone [] (driven left) serves c.end_left-run.ensures.desk (OfRecovery before says)
+    (record { here = c.requires.opened; stands = c.core.ensures.stands; begins = begins },
+    desk_tells follows well tells false run c.args.alone [] (driven left) serves c.end_left-run.ensures.desk)
+    (λ never. absurd cc)
+    (λ closed. after_recovers before says left.sound left.unserved.items left.site.seen (IsErr run.ended) stays (c.end_left-run.ensures.goes closed))
 
-pub returns-in-Ok-clause-saved : goal.returns-in-Ok-clause-saved
-returns-in-Ok-clause-saved g c =
+pub returns-in-Ok-reported-clause-saved : goal.returns-in-Ok-reported-clause-saved
+returns-in-Ok-reported-clause-saved g c =
     let follows = g.D.Device.follows in
     let well = g.D.Device.well in
     let tells = g.D.Lends.tells in
@@ -40,7 +50,23 @@ returns-in-Ok-clause-saved g c =
     saves_redone c.args.alone c.requires.opened c.core.ensures.stands follows well tells (length c.args.line.now.images.items) (g.S.Store.files ran.new.store)
     c.args.line.now ran.result c.in-Ok.left
     (serves-driven follows well tells c.args.alone c.new.result.items c.in-Ok.left c.new.ensures.items c.in-Ok.ensures.parts) c.args.found c.count_all.result
-    ran.ensures.saved ran.ensures.sound ran.ensures.desk ran.ensures.followed c.count_all.ensures
+    c.in-Ok-reported.is ran.ensures.sound ran.ensures.desk ran.ensures.followed c.count_all.ensures
+
+pub returns-in-Ok-in-Err-reported-clause-followed : goal.returns-in-Ok-in-Err-reported-clause-followed
+returns-in-Ok-in-Err-reported-clause-followed g c =
+    served_line g.D.Device.follows g.D.Device.well g.D.Lends.tells false c.unrecovered.result c.args.alone c.new.result.items c.in-Ok.left
+    c.in-Ok.ensures.parts c.unrecovered.ensures.desk
+
+pub returns-in-Ok-in-Err-reported-clause-goes : goal.returns-in-Ok-in-Err-reported-clause-goes
+returns-in-Ok-in-Err-reported-clause-goes g c before begins =
+    let follows = g.D.Device.follows in
+    let well = g.D.Device.well in
+    let tells = g.D.Lends.tells in
+    let serves = serves-driven follows well tells c.args.alone c.new.result.items c.in-Ok.left c.new.ensures.items c.in-Ok.ensures.parts in
+    separate (driven c.in-Ok.left).ending serves.parts.desk
+    (record { here = c.requires.opened; stands = c.core.ensures.stands; begins = begins },
+    subst (λ d. IsSomeAnd d (λ one. IsDeskReported follows well tells c.args.alone.seen one serves.parts.desk.ends)) (sym c.unrecovered.ensures.desk) serves.reported)
+    (subst (λ r. IsErr r) (sym c.unrecovered.ensures.ended) refl)
 
 pub returns-in-Err-clause-followed : goal.returns-in-Err-clause-followed
 returns-in-Err-clause-followed g c =
@@ -48,7 +74,12 @@ returns-in-Err-clause-followed g c =
     c.of_unserved.ensures.desk c.of_unserved.ensures.opening c.in-Err.ensures.failed
 
 pub returns-in-Err-clause-goes : goal.returns-in-Err-clause-goes
-returns-in-Err-clause-goes g c =
-    not_served g.D.Device.follows g.D.Device.well g.D.Lends.tells c.of_unserved.result c.args.alone [] c.in-Err.why.reported
-    _ refl c.of_unserved.ensures.desk (subst (λ l. IsUnservedReported g.D.Device.follows g.D.Device.well g.D.Lends.tells c.args.alone l c.in-Err.why.reported)
-    c.new.ensures.items c.in-Err.ensures.failed)
+returns-in-Err-clause-goes g c before begins =
+    let follows = g.D.Device.follows in
+    let well = g.D.Device.well in
+    let tells = g.D.Lends.tells in
+    let reported = c.of_unserved.result in
+    not_served follows well tells reported.desk (OfRecovery before (OfDevices follows well tells reported)) c.args.alone [] c.in-Err.why.reported
+    _ refl c.of_unserved.ensures.desk
+    (λ ends tellings. (record { here = c.requires.opened; stands = c.core.ensures.stands; begins = begins }, tellings))
+    (subst (λ l. IsUnservedReported follows well tells c.args.alone l c.in-Err.why.reported) c.new.ensures.items c.in-Err.ensures.failed)

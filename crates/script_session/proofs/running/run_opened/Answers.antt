@@ -1,5 +1,6 @@
 use Rattle.std.proofs.Common.{arith, length, refl}
-use Rattle.script_session.proofs.RunLaws.{not_served, saves_desk, served_goes, served_line, unserved_line}
+use Rattle.script_session.specs.Running.{OfDevices}
+use Rattle.script_session.proofs.RunLaws.{desk_tells, not_served, saves_desk, served_goes, served_line, unserved_line}
 use Rattle.script_session.proofs.SavingLaws.{line-of}
 use Rattle.script_session.proofs.running.run_opened.Goals as goal
 
@@ -18,8 +19,15 @@ returns-in-Ok-clause-followed g c =
 
 pub returns-in-Ok-clause-goes : goal.returns-in-Ok-clause-goes
 returns-in-Ok-clause-goes g c =
-    served_goes g.D.Device.follows g.D.Device.well g.D.Lends.tells c.args.task.turns c.end_left.result c.args.alone c.args.task.work.commands.items c.in-Ok.left
-    c.in-Ok.ensures.parts c.end_left.ensures.desk c.in-Ok.ensures.unserved c.end_left.ensures.goes
+    let follows = g.D.Device.follows in
+    let well = g.D.Device.well in
+    let tells = g.D.Lends.tells in
+    let turns = c.args.task.turns in
+    let commands = c.args.task.work.commands.items in
+    let run = c.end_left.result in
+    let parts = c.in-Ok.ensures.parts in
+    served_goes follows well tells turns run c.args.alone commands c.in-Ok.left parts c.end_left.ensures.desk (OfDevices follows well tells run.reported)
+    (desk_tells follows well tells turns run c.args.alone commands c.in-Ok.left parts c.end_left.ensures.desk) c.in-Ok.ensures.unserved c.end_left.ensures.goes
 
 pub returns-in-Ok-clause-saved : goal.returns-in-Ok-clause-saved
 returns-in-Ok-clause-saved g c answered has =
@@ -35,8 +43,9 @@ returns-in-Err-clause-followed g c =
 
 pub returns-in-Err-clause-goes : goal.returns-in-Err-clause-goes
 returns-in-Err-clause-goes g c =
-    not_served g.D.Device.follows g.D.Device.well g.D.Lends.tells c.of_unserved.result c.args.alone c.args.task.work.commands.items c.in-Err.why.reported
-    _ refl c.of_unserved.ensures.desk c.in-Err.ensures.failed
+    let reported = c.of_unserved.result in
+    not_served g.D.Device.follows g.D.Device.well g.D.Lends.tells reported.desk (OfDevices g.D.Device.follows g.D.Device.well g.D.Lends.tells reported) c.args.alone
+    c.args.task.work.commands.items c.in-Err.why.reported _ refl c.of_unserved.ensures.desk (λ ends tellings. tellings) c.in-Err.ensures.failed
 
 pub returns-in-Err-clause-saved : goal.returns-in-Err-clause-saved
 returns-in-Err-clause-saved g c answered has = absurd has.ended

@@ -12,7 +12,7 @@ use Rattle.station_session.specs.Session.{EndsRecovery}
 use Rattle.station_session.proofs.Ending.{ends-recovered, told}
 use Rattle.station_session.proofs.Noting.{done_noted, end_noted, stays, then_noted}
 use Rattle.station_session.proofs.Recovered.{saves_contents}
-use Rattle.station_session.proofs.RunFiles.{run_on_files}
+use Rattle.station_session.proofs.RunFiles.{recovery_on_files}
 use Rattle.station_session.proofs.recovery.recover_opened.Goals as goal
 
 pub recover_by_threads-answers-requires-send-D : goal.recover_by_threads-answers-requires-send-D
@@ -38,19 +38,19 @@ returns-clause-ends g c =
     let is : site ≡ c.args.session.site = c.with_device-site.ensures in
     let last = stays status.result final.result c.print_recovered-printed.new.failures final.new.failures final.ensures.noted in
     subst (λ (s : SiteValue). EndsRecovery _ (files c.args.store.now) (files ran.new.store) line s.seen final.result run.reported) is
-    (ends-recovered _ _ (files c.args.store.now) (files ran.new.store) line site.seen run.closed run.ended c.note_end.result c.note_ended.result
+    (ends-recovered _ _ (files c.args.store.now) (files ran.new.store) line site.seen run.ended c.note_end.result c.note_ended.result
     noted.result c.print_recovered-printed.result status.result final.result run.reported ran.ensures.others
-    (run_on_files _ _ _ _ (λ device seen follows. (device.device, follows)) (λ device seen follows reported tells. tells.calls) (λ device seen follows well. well) run.reported
+    (recovery_on_files _ _ _ _ (λ device seen follows. (device.device, follows)) (λ device seen follows reported tells. tells.calls) (λ device seen follows well. well) run.reported
     (IsErr run.ended) (¬ IsFaultless final.result)
     (told run.ended c.print_recovered-printed.result c.note_end.result c.note_ended.result noted.result status.result final.result c.note_ended.ensures.fault
     noted.ensures.faultless (λ good. let both = status.ensures.faultless good in (both.1, both.0)) last)
-    site.seen [] (ap (λ (s : SiteValue). s.seen.past) is ∙ c.requires.fresh.new) ran.ensures.goes)
+    site.seen (ap (λ (s : SiteValue). s.seen.past) is ∙ c.requires.fresh.new) ran.ensures.goes)
     ran.ensures.saved
     (λ saves told. saves_contents _ _ _ _ (λ device seen follows. (device.device, follows)) (λ device seen follows reported tells. tells.calls) (λ device seen follows well. well)
     (files ran.new.store) line site (length line.images.items) run.recovered run.reported (ap (λ (s : SiteValue). s.seen.past) is ∙ c.requires.fresh.new)
     (ap (λ (s : SiteValue). length s.line.sizes) is ∙ sym slaves.slaves ∙ slaves.halves ∙ ap (λ (s : SiteValue). length s.seen.state.halves) (sym is))
     (ap (λ (s : SiteValue). length s.line.sizes) is ∙ c.requires.fresh.count) saves told)
-    c.note_end.ensures.fault c.note_ended.ensures.fault noted.ensures.faultless status.ensures.faultless last final.ensures.all)
+    c.note_ended.ensures.fault noted.ensures.faultless status.ensures.faultless last final.ensures.all)
 
 pub returns-clause-noted : goal.returns-clause-noted
 returns-clause-noted g c =

@@ -11,4 +11,4 @@ returns-clause-saved g c =
     saves_recovery (λ told s. IsSomeAnd told (λ reported.
     EndsReported g.D.Device.follows g.D.Device.well g.D.Lends.tells false c.args.site (length c.args.line.now.images.items) reported s.seen))
     ran.result own.result.reported c.end_of.result own.result.ended c.print_recovered.result (g.S.Store.files ran.new.store) c.args.line.now c.args.site
-    c.end_of.ensures.closed c.end_of.ensures.ended own.ensures.ended c.print_recovered.ensures ran.ensures.saved
+    c.end_of.ensures.ended own.ensures.ended c.print_recovered.ensures ran.ensures.saved
