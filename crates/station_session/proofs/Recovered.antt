@@ -19,8 +19,7 @@ use Rattle.site_file.specs.AllFiles.{FilesFollow, Holds, HoldsWords, calls_of}
 use Rattle.site_file.specs.Files.{BecomesBy, File, image_of}
 use Rattle.site_file.specs.Held.{is_same, of_file}
 use Rattle.site_file.proofs.FollowingWords.{site_is_followed}
-use Rattle.book_model.specs.Book.{base_of}
-use Rattle.kept_files.specs.KeptFiles.{has_file, holding, words_or_none}
+use Rattle.kept_files.specs.KeptFiles.{holding, words_or_none}
 use Rattle.kept_files.proofs.Extending.{first_stays}
 use Rattle.station_alone.specs.Station.{Station}
 use Rattle.station_alone.specs.Recovery.{HasRecovered}

@@ -11,7 +11,7 @@ use Rattle.station_files.specs.FileNames.{IsLineSeparate}
 use Rattle.station_files.specs.LineFiles.{SpellsLine, SpellsSlaves}
 use Rattle.station_files.proofs.Loaded.{of_held}
 use Rattle.station_files.specs.Locations.{Leads}
-use Rattle.station_line.specs.Site.{IsSiteOf, files_of, switched_on, HoldsSite}
+use Rattle.station_line.specs.Site.{IsSiteOf, files_of, switched_on}
 use Rattle.wire_faults.specs.declared.faults.WireFault.{WireFault}
 use Rattle.wire_faults.specs.declared.faults.WireFault.TheVariants as wire
 use Rattle.station_line.specs.Init as bench
@@ -26,7 +26,6 @@ use Rattle.wire_scan.specs.declared.asked.Mend.{Mend}
 use Rattle.wire_session.specs.declared.logs.Worked.{Worked}
 use Rattle.wire_session.specs.Recovery.{BeginsJournal, IsBegun, RefusesInit, EndsOpenedRecovery, Recovers, SavesRecovered}
 use Rattle.wire_session.specs.Slaves.{SlavesHold}
-use Rattle.station_files.specs.declared.faults.Fault.{Fault}
 use Rattle.wire_session.specs.Reporting.{IsPrinted}
 use Rattle.station_files.specs.declared.faults.ExitStatus.{ExitStatus}
 use Rattle.script_session.specs.declared.logs.LineLog.{LineLog}

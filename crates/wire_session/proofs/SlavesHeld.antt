@@ -9,7 +9,6 @@ use Rattle.esc_model.specs.SlaveHalf.{SlaveHalf, powered_up, MayLeave}
 use Rattle.esc_model.specs.Orders.{station}
 use Rattle.esc_model.proofs.Resting.{MayLeave-same}
 use Rattle.site_core.specs.State.{Seen, Pair, EachMayLeave}
-use Rattle.site_core.specs.Times.{Follows}
 use Rattle.site_core.proofs.StopImages.{StopImage-same}
 use Rattle.site_shadow.specs.Site.{SiteValue}
 use Rattle.site_wire.specs.After.{IsAfter}

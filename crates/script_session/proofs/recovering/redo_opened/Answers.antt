@@ -9,8 +9,8 @@ use Rattle.script_session.proofs.RunLaws.{desk_tells, not_served, served_goes, s
 use Rattle.script_session.proofs.SavingLaws.{line-of}
 use Rattle.script_session.proofs.recovering.redo_opened.Goals as goal
 
-pub serve_task-requires : goal.serve_task-requires
-serve_task-requires g c κs lives = ap (λ (b : Book). b.accepted) c.requires.opened.book
+pub serve_task-requires-clause-none : goal.serve_task-requires-clause-none
+serve_task-requires-clause-none g c κs lives = ap (λ (b : Book). b.accepted) c.requires.opened.book
 
 pub end_left-run-requires-clause-line : goal.end_left-run-requires-clause-line
 end_left-run-requires-clause-line g c κs lives =

@@ -1,4 +1,4 @@
-use Rattle.std.proofs.Common.{◌∙◌, [], ap, length, subst, sym}
+use Rattle.std.proofs.Common.{◌∙◌, ap, length, subst, sym}
 use Rattle.std.specs.Prelude.{◌≡◌, IsErr, IsTrue}
 use denote.Param.Send.{sendable}
 use Rattle.esc_rom.specs.Owned.{OwnsAll}
