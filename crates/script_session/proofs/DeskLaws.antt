@@ -42,7 +42,7 @@ use Rattle.station_jobs.specs.declared.log.SlaveLog.{SlaveLog}
 use Rattle.station_jobs.specs.Ends.{Stay}
 use Rattle.station_threads.specs.Parts.{IsEndOfSlave}
 use Rattle.station_threads.proofs.PlaceLaws.{placed-long}
-use Rattle.script_session.specs.Parts.{Sites, AreFollowed, AreSound, BeginsWith, EndsSynced, HasDiskOf, IsSeparate, IsDeskLeft, IsDeskReported, IsLineReported}
+use Rattle.script_session.specs.Parts.{Sites, AreSound, BeginsWith, EndsSynced, HasDiskOf, IsSeparate, IsDeskLeft, IsDeskReported, IsLineReported}
 use Rattle.script_session.specs.Parts.{IsServable, AreEndsOfParts}
 use Rattle.script_session.specs.AtDesk as at_desk
 use Rattle.script_session.specs.AtDesk.{seen_of, Closes, ClosesWith, DeskServes, IsUnservedReported, EndsSo, IsServedAtDesk, IsStopped}
@@ -51,7 +51,7 @@ use Rattle.script_session.specs.AtDesk.{IsStoppedAtDesk, LeavesSo, ServesFollowe
 use Rattle.script_session.proofs.AskLaws.{all-received}
 use Rattle.script_session.proofs.SlaveLaws.{contents-together}
 use Rattle.station_line.specs.Site.{IsFollowed}
-use Rattle.script_session.proofs.SoundLaws.{followed_ends, on_ok}
+use Rattle.script_session.proofs.SoundLaws.{ends_synced, on_ok}
 use Rattle.script_session.proofs.LeftLaws.{kept-together, left-together}
 
 -- the result for a closed desk
@@ -271,17 +271,18 @@ module _ (opened : Station) (commands : List Command) (book : Book) (seen : Seen
         → IsDeskReported follows well tells s left.reported at.ends)
         → IfOk result (λ (left : Left SiteValue T). OnOk left.sound (AreSound left.reported × EndsSynced at.ends.flusher.log))
         → IfOk result (λ (left : Left SiteValue T). IsCount (issues_of at.ends.workers.items) left.words)
-        → IsFollowed (Telling follows well tells line) seen → length opened.line.sizes ≡ length seen.state.halves → AreFollowed follows at.ends
+        → IsFollowed (Telling follows well tells line) seen → length opened.line.sizes ≡ length seen.state.halves
         → IfOk result (λ (left : Left SiteValue T). ServesFollowed follows well tells turns opened commands left)
-    serves-parts well tells turns line (Ok left) turning is reported sound words before count all = record {
+    serves-parts well tells turns line (Ok left) turning is reported sound words before count = record {
       parts = record { desk = desk-serves left.ending is.1; together = is.0 };
       turning = turning;
-      followed = followed_ends follows well tells opened seen sites at.ends left.reported left.sound of_seen separate of_sites (reported seen before) count sound all;
+      count = count ∙ ap (λ (s : Seen). length s.state.halves) of_seen;
       reported = reported opened.seen (subst (IsFollowed (Telling follows well tells line)) of_seen before);
-      sound = on_ok left.sound (λ (both : AreSound left.reported × EndsSynced at.ends.flusher.log). both.0) sound;
+      sound = on_ok left.sound (λ (both : AreSound left.reported × EndsSynced at.ends.flusher.log).
+          (both.0, ends_synced seen.state sites at.ends separate of_sites (reported seen before).flushed both.1)) sound;
       words = words;
     }
-    serves-parts well tells turns line (Err fault) turning is reported sound words before count all = tt
+    serves-parts well tells turns line (Err fault) turning is reported sound words before count = tt
 
     -- or not
     pub ends-separate : {T : Type 0} (well : D → Type 0) (tells : D → T → Type 0) (line : PartLog T) (result : Result (Left SiteValue T) (NotServed T))

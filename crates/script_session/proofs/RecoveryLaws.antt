@@ -232,7 +232,7 @@ serves-driven follows well tells opened commands left empty serves =
         together = serves.parts.together;
       };
       turning = serves.turning;
-      followed = serves.followed;
+      count = serves.count;
       reported = serves.reported;
       sound = serves.sound;
       words = serves.words;

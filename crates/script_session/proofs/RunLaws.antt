@@ -1,6 +1,6 @@
 -- A run on a line: how far it comes, and what the files hold after it.
 use Rattle.std.proofs.Common.{◌≡◌, ◌∙◌, ℕ, Bool, true, false, IsTrue, List, Some, Result, Ok, Err, inl, inr, refl, sym, ap, subst}
-use Rattle.std.specs.Prelude.{IfOk, IfSome, IsErr, IsOkAnd, IsSomeAnd, None, OnOk, Option}
+use Rattle.std.specs.Prelude.{IfOk, IsErr, IsOkAnd, IsSomeAnd, None, OnOk, Option}
 use Rattle.sii_edit.specs.declared.command.Command.{Command}
 use Rattle.site_core.specs.Passes.{LeavesOnly}
 use Rattle.site_core.specs.State.{Pair, Seen}
@@ -35,7 +35,7 @@ use Rattle.script_session.specs.declared.threads.Left.{Left}
 use Rattle.script_session.specs.After.{GoesAfterDesk, GoesFollowed, LedOn, SavesFollowed, ServesSome, Tells}
 use Rattle.script_session.specs.AtDesk.{IsServedReported, IsUnservedReported, LeavesSo, ServesFollowed}
 use Rattle.script_session.specs.AtDesk as at_desk
-use Rattle.script_session.specs.Parts.{AreSound, IsDeskReported}
+use Rattle.script_session.specs.Parts.{AreSound, IsDeskReported, IsSynced}
 use Rattle.script_session.specs.Running.{DeskGoes, DeskTells, EndsReported, GoesAfter, GoesAlone, HasEnded, LedAtDesk, OfDevices, SavesDesk, SavesSite, Says, ServesOn}
 use Rattle.script_session.specs.Running.{TellsOf, desk_of, line_reported, opening_of, whole_of}
 use Rattle.script_session.specs.Running.{idle, recovered, separate, served, unbegun, unrecovered}
@@ -146,11 +146,9 @@ module _ {D T : Type 0} (follows : D → Seen → Type 0) (well : D → Type 0) 
       subst (λ d. IsFollowed (TellsOf follows tells (line_reported d run.reported.opening)) opened.seen) (sym desk) (before.0, (before.1.0, before.1.1))
 
   pub desk_tells : DeskTells follows well tells run.reported.desk opened left.sound serves.parts.desk.ends
-  desk_tells = record {
-    followed = serves.followed;
-    tell = subst (λ d. IfSome d (λ reported. IsDeskReported follows well tells opened.seen reported serves.parts.desk.ends × OnOk left.sound (AreSound reported)))
-        (sym desk) (serves.reported, serves.sound);
-  }
+  desk_tells =
+      subst (λ d. IsSomeAnd d (λ reported. IsDeskReported follows well tells opened.seen reported serves.parts.desk.ends
+      × OnOk left.sound (AreSound reported × IsSynced serves.parts.desk.ends))) (sym desk) (serves.reported, serves.sound)
 
   pub served_goes : (says : Says) → says.desk opened left.sound serves.parts.desk.ends left.site → (left.ending.is_driven ≡ false → left.unserved.items ≡ commands)
       → (left.ending.closed ≡ Ok tt → GoesAfter says left.ending.is_driven left.sound left.unserved.items left.site.seen (IsErr run.ended))

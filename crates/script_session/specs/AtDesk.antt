@@ -9,7 +9,6 @@ use Rattle.site_core.specs.Passes.{LeavesOnly}
 use Rattle.book_model.specs.Book.{Book}
 use Rattle.book_model.specs.Machine.{Machine}
 use Rattle.site_shadow.specs.Site.{SiteValue}
-use Rattle.site_shadow.specs.Unsynced.{of_bytes}
 use Rattle.station_alone.specs.Station.{Station}
 use Rattle.station_alone.specs.Keeping.{KeptFor}
 use Rattle.desk_book.specs.declared.call.Call.{Call}
@@ -41,8 +40,8 @@ use Rattle.script_session.specs.declared.logs.PartLog.{PartLog}
 use Rattle.script_session.specs.declared.logs.UnservedLog.{UnservedLog}
 use Rattle.script_session.specs.declared.logs.UnservedLog.TheVariants as unserved
 use Rattle.script_session.specs.Asking.{commands_of, no_counts, GivesUp}
-use Rattle.script_session.specs.Parts.{Sites, IsSeparate, AreEndsOfParts, AreFollowed, AreSound, AreUnserved, IsCount, IsDeskReported, IsTogether}
-use Rattle.script_session.specs.Parts.{Soundly, Telling, issues_of}
+use Rattle.script_session.specs.Parts.{Sites, IsSeparate, AreEndsOfParts, AreSound, AreUnserved, IsCount, IsDeskReported, IsSynced, IsTogether, Telling}
+use Rattle.script_session.specs.Parts.{issues_of}
 use Rattle.station_line.specs.Site.{IsFollowed}
 
 -- the state of a site and its past
@@ -190,40 +189,26 @@ pub record PartsAreServed (opened : Station) (site : SiteValue) : Type 0 where
   pub of_sites : AreEndsOfParts sites ends
   pub together : IsTogether ends site
 
--- A device has kept this of the station's site before the line was taken apart, and of each part of disk and slaves since. The site has a half for
--- each slave, and the disk's part ends with all bytes synced.
-pub record PartsFollowed {D : Type 0} (follows : D → Seen → Type 0) (opened : Station) (ends : Ends SiteValue) : Type 0 where
-  pub before : IsFollowed follows opened.seen
-  pub count : length opened.line.sizes ≡ length opened.seen.state.halves
-  pub parts : AreFollowed follows ends
-  pub synced : ends.flusher.site.seen.state.disk ≡ of_bytes ends.flusher.site.seen.state.disk.bytes
-
--- The parts were served so, one for process data among them exactly where `turns` says so, devices have kept this of them, and this is told of the
--- devices: each part ended soundly.
+-- The parts were served so, one for process data among them exactly where `turns` says so, and this is told of devices that have followed them: each
+-- part ended soundly. The site has a half for each slave, and the disk's part ends with all bytes synced.
 pub record IsServedReported {D T : Type 0} (follows : D → Seen → Type 0) (well : D → Type 0) (tells : D → T → Type 0) (turns : Bool)
     (opened : Station) (reported : DeskLog T) (site : SiteValue) : Type 0 where
   pub served : PartsAreServed opened site
   pub turning : is_some served.sites.cycle ≡ turns
-  pub followed : PartsFollowed (Soundly follows well) opened served.ends
+  pub count : length opened.line.sizes ≡ length opened.seen.state.halves
+  pub synced : IsSynced served.ends
   pub devices : IsDeskReported follows well tells opened.seen reported served.ends
   pub sound : AreSound reported
 
--- After each part a device keeps this of the part's site. Where the parts ended soundly, nothing has failed that these devices were asked, and no
--- site has stopped.
-abbrev pub EndsFollowed : {D : Type 0} → (D → Seen → Type 0) → (D → Type 0) → Station → Result (Unit {0}) Fault → Ends SiteValue
-    → Type 0
-EndsFollowed follows well opened (Ok sound) ends = PartsFollowed (Soundly follows well) opened ends
-EndsFollowed follows well opened (Err fault) ends = AreFollowed follows ends
-
--- The parts were served with this ending, one for process data among them exactly where `turns` says so, devices have followed them, and what is told
--- of the devices is told. No part is called sound that wasn't, and none is unsound where no fault is told. The words are the issues in their logs.
+-- The parts were served with this ending, one for process data among them exactly where `turns` says so, and this is told of devices that have followed
+-- them. Where no fault is told, each part ended soundly, with the disk synced. The words are the issues in their logs.
 pub record ServesFollowed {D T : Type 0} (follows : D → Seen → Type 0) (well : D → Type 0) (tells : D → T → Type 0) (turns : Bool)
     (opened : Station) (commands : List Command) (left : Left SiteValue T) : Type 0 where
   pub parts : ServesParts opened commands left.ending left.site
   pub turning : is_some parts.desk.sites.cycle ≡ turns
-  pub followed : EndsFollowed follows well opened left.sound parts.desk.ends
+  pub count : length opened.line.sizes ≡ length opened.seen.state.halves
   pub reported : IsDeskReported follows well tells opened.seen left.reported parts.desk.ends
-  pub sound : OnOk left.sound (AreSound left.reported)
+  pub sound : OnOk left.sound (AreSound left.reported × IsSynced parts.desk.ends)
   pub words : IsCount (issues_of parts.desk.ends.workers.items) left.words
 
 -- A line was not served, or not put together again after that, and this is told: of the line's device, where no part had one yet; of the devices

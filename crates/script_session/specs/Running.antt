@@ -23,8 +23,8 @@ use Rattle.script_session.specs.declared.logs.UnservedLog.{UnservedLog}
 use Rattle.script_session.specs.declared.logs.UnservedLog.TheVariants as unserved
 use Rattle.script_session.specs.declared.running.LineRun.{LineRun}
 use Rattle.script_session.specs.After.{GoesFollowed, SavesFollowed}
-use Rattle.script_session.specs.AtDesk.{DeskServes, EndsFollowed, IsServedReported, PartsEnd, ServesParts}
-use Rattle.script_session.specs.Parts.{AreSound, AreUnserved, IsDeskReported}
+use Rattle.script_session.specs.AtDesk.{DeskServes, IsServedReported, PartsEnd, ServesParts}
+use Rattle.script_session.specs.Parts.{AreSound, AreUnserved, IsDeskReported, IsSynced}
 use Rattle.script_session.specs.Recovering.{BeginsSessions, StaysKept}
 use Rattle.script_session.specs.Saving.{IsReportedLine, SavesRun, Serves}
 
@@ -113,11 +113,11 @@ desk_of (unserved.Desk desk) = Some desk
 abbrev pub TellsOf : {D T : Type 0} → (D → Seen → Type 0) → (D → T → Type 0) → Option T → D → Seen → Type 0
 TellsOf follows tells reported device seen = follows device seen × IfSome reported (tells device)
 
--- Devices have followed the parts of a line at a desk; and what is told of them, if something is, they tell.
-pub record DeskTells {D T : Type 0} (follows : D → Seen → Type 0) (well : D → Type 0) (tells : D → T → Type 0) (reported : Option (DeskLog T))
-    (station : Station) (sound : Result (Unit {0}) Fault) (ends : Ends SiteValue) : Type 0 where
-  pub followed : EndsFollowed follows well station sound ends
-  pub tell : IfSome reported (λ desk. IsDeskReported follows well tells station.seen desk ends × OnOk sound (AreSound desk))
+-- This is told of devices that have followed the parts of a line at a desk. Where these ended soundly, so is told of each, and the disk is synced.
+abbrev pub DeskTells : {D T : Type 0} → (D → Seen → Type 0) → (D → Type 0) → (D → T → Type 0) → Option (DeskLog T) → Station
+    → Result (Unit {0}) Fault → Ends SiteValue → Type 0
+DeskTells follows well tells reported station sound ends =
+    IsSomeAnd reported (λ desk. IsDeskReported follows well tells station.seen desk ends × OnOk sound (AreSound desk × IsSynced ends))
 
 -- what devices that keep this say of a run of which this is told
 abbrev pub OfDevices : {D T : Type 0} → (D → Seen → Type 0) → (D → Type 0) → (D → T → Type 0) → RunLog T → Says

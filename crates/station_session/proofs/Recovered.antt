@@ -82,7 +82,7 @@ module _ (F : Type 0) {D : Type 0} (follows : D → Seen → Type 0) (well : D �
         let first = some_half (slice_get site.seen.state.halves slave) there in
         let within : slave < length site.seen.state.halves = slice_get_within site.seen.state.halves slave first.0 first.1 in
         let at_open : length site.line.sizes ≡ length opened.seen.state.halves =
-        ap (λ (l : Line). length l.sizes) (sym followed.leads.line) ∙ followed.leads.after.served.followed.count in
+        ap (λ (l : Line). length l.sizes) (sym followed.leads.line) ∙ followed.leads.after.served.count in
         let last : slave < length s.seen.state.halves = omega (arith, within, halves, count, followed.ends.count) in
         let half = get_or s.seen.state.halves slave (powered_up [] 0) in
         let at_last = slice_get-get_or s.seen.state.halves slave (powered_up [] 0) last in

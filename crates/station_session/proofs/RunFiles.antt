@@ -43,11 +43,10 @@ use Rattle.station_files.specs.ScriptFiles.{SpellsCommands}
 use Rattle.station_files.specs.declared.faults.ExitStatus.{ExitStatus}
 use Rattle.station_files.specs.declared.faults.Fault.{Fault}
 use Rattle.script_session.specs.declared.closing.Ending.{Ending}
-use Rattle.script_session.specs.AtDesk.{DeskServes, EndsFollowed, PartsEnd, ServesParts, seen_of}
+use Rattle.script_session.specs.AtDesk.{DeskServes, PartsEnd, ServesParts, seen_of}
 use Rattle.script_session.specs.declared.logs.DeskLog.{DeskLog}
 use Rattle.script_session.specs.declared.logs.PartLog.{PartLog}
-use Rattle.script_session.specs.Parts.{AreFollowed, AreSound, AreReportedOf, BeginsWith, EndsWith, IsDeskReported, IsTogether, IsWorkFollowed, Soundly}
-use Rattle.script_session.specs.Parts.{Telling}
+use Rattle.script_session.specs.Parts.{AreSound, AreReportedOf, BeginsWith, EndsWith, IsDeskReported, IsSynced, IsTogether, IsWorkFollowed, Telling}
 use Rattle.script_session.proofs.LeftLaws.{first, opened-on, placed-back}
 use Rattle.script_session.proofs.SlaveLaws.{placed-at}
 use Rattle.script_session.specs.After.{GoesFollowed}
@@ -289,32 +288,6 @@ module _ (F : Type 0) {D : Type 0} (follows : D → Seen → Type 0) (to_file : 
 -- a device that keeps this, and of which nothing has failed on a site that goes on
 module _ (F : Type 0) {D : Type 0} (follows : D → Seen → Type 0) (well : D → Type 0) (tells : D → FileLog → Type 0) (to_file : HasFileDevice F follows) (tells_file : TellsFile F follows to_file tells)
     (well_file : (device : D) (seen : Seen) (f : follows device seen) → well device → (to_file device seen f).0.has_failed ≡ false) where
-  soundly_file : HasFileDevice F (Soundly follows well)
-  soundly_file device seen soundly = to_file device seen soundly.0
-
-  keeps_followed : (station : Station) → station.seen.state.disk ≡ of_bytes station.seen.state.disk.bytes → (parts : PartsEnd station)
-      → AreFollowed follows parts.ends → KeepsParts F station parts.ends
-  keeps_followed station synced parts followed =
-      keeps_parts F follows to_file station synced parts followed.flushed followed.followed
-      (λ slave end is. at-place (IsWorkFollowed follows) parts.ends.workers.items slave end followed.workers is)
-
-  -- where nothing is told
-  keeps_desk : (station : Station) → station.seen.state.disk ≡ of_bytes station.seen.state.disk.bytes → (commands : List Command) (ending : Ending) (site : SiteValue) (sound : Result (Unit {0}) Fault) (parts : ServesParts station commands ending site)
-      → EndsFollowed follows well station sound parts.desk.ends → KeepsAtDesk F station sound parts.desk.ends site
-  unfolding soundly_file keeps_parts
-  keeps_desk station synced commands ending site (Ok done) parts followed =
-      let ends = parts.desk.ends in
-      let works : (slave : ℕ) (end : Stay SiteValue SlaveLog) → slice_get ends.workers.items slave ≡ Some end → IsWorkFollowed (Soundly follows well) end =
-      λ slave end is. at-place (IsWorkFollowed (Soundly follows well)) ends.workers.items slave end followed.parts.workers is in
-      record {
-        parts = keeps_parts F (Soundly follows well) soundly_file station synced (parts_of station commands ending parts.desk) followed.parts.flushed followed.parts.followed works;
-        together =
-            hold_together F (Soundly follows well) soundly_file station synced (parts_of station commands ending parts.desk) followed.parts.flushed followed.parts.followed works site parts.together
-            (well_file followed.parts.followed.0 ends.flusher.site.seen followed.parts.followed.1.0 followed.parts.followed.1.1, followed.parts.followed.1.2)
-            (λ slave end is. let w = works slave end is in (well_file w.followed.0 end.site.seen w.followed.1.0 w.followed.1.1, w.followed.1.2)) followed.synced;
-      }
-  keeps_desk station synced commands ending site (Err fault) parts followed = record { parts = keeps_followed station synced (parts_of station commands ending parts.desk) followed; together = tt }
-
   -- where the devices are told of
   module _ (station : Station) (synced : station.seen.state.disk ≡ of_bytes station.seen.state.disk.bytes) (desk : PartsEnd station)
       (reported : DeskLog FileLog) (tellings : IsDeskReported follows well tells station.seen reported desk.ends) where
@@ -358,11 +331,11 @@ module _ (F : Type 0) {D : Type 0} (follows : D → Seen → Type 0) (well : D �
         let there = w.2.followed.1.2 (sound-at reported.slaves.items slave w.0 sound.slaves w.1) in
         (well_file w.2.followed.0 end.site.seen w.2.followed.1.0 there.0, there.1)) all_synced
 
-    keeps_as_reported : (site : SiteValue) → IsTogether desk.ends site → (sound : Result (Unit {0}) Fault) → OnOk sound (AreSound reported) → EndsFollowed follows well station sound desk.ends
+    keeps_as_reported : (site : SiteValue) → IsTogether desk.ends site → (sound : Result (Unit {0}) Fault) → OnOk sound (AreSound reported × IsSynced desk.ends)
         → KeepsDeskAsReported F (Some reported) station sound desk.ends site
-    keeps_as_reported site together (Ok done) are followed =
-        record { keeps = record { parts = keeps_reported; together = reported_together site together are followed.synced }; asked = have_asked }
-    keeps_as_reported site together (Err fault) are followed = record { keeps = record { parts = keeps_reported; together = tt }; asked = have_asked }
+    keeps_as_reported site together (Ok done) are =
+        record { keeps = record { parts = keeps_reported; together = reported_together site together are.0 are.1 }; asked = have_asked }
+    keeps_as_reported site together (Err fault) are = record { keeps = record { parts = keeps_reported; together = tt }; asked = have_asked }
 
   -- where the line wasn't put together
   parts_as_reported : (reported : Option (DeskLog FileLog)) (station : Station) → station.seen.state.disk ≡ of_bytes station.seen.state.disk.bytes
@@ -375,10 +348,9 @@ module _ (F : Type 0) {D : Type 0} (follows : D → Seen → Type 0) (well : D �
   desk_as_reported : (reported : Option (DeskLog FileLog)) (station : Station) → station.seen.state.disk ≡ of_bytes station.seen.state.disk.bytes → (commands : List Command) (ending : Ending) (site : SiteValue)
       (sound : Result (Unit {0}) Fault) (parts : ServesParts station commands ending site) → DeskTells follows well tells reported station sound parts.desk.ends
       → KeepsDeskAsReported F reported station sound parts.desk.ends site
-  desk_as_reported None station synced commands ending site sound parts tell =
-      record { keeps = keeps_desk station synced commands ending site sound parts tell.followed; asked = tt }
+  desk_as_reported None station synced commands ending site sound parts tell = absurd tell
   desk_as_reported (Some reported) station synced commands ending site sound parts tell =
-      keeps_as_reported station synced (parts_of station commands ending parts.desk) reported tell.tell.0 site parts.together sound tell.tell.1 tell.followed
+      keeps_as_reported station synced (parts_of station commands ending parts.desk) reported tell.0 site parts.together sound tell.1
 
   module _ (reported : RunLog FileLog) (Failed Told : Type 0) (tells_it : Failed → Told) where
     pub run_on_files : (before : Seen) (commands : List Command) → before.past ≡ [] → RunGoes (OfDevices follows well tells reported) before commands Failed

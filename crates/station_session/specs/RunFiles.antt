@@ -112,7 +112,7 @@ pub record KeepsPartsAsReported (F : Type 0) (reported : Option (DeskLog FileLog
 pub record KeepsDeskAsReported (F : Type 0) (reported : Option (DeskLog FileLog)) (station : Station) (sound : Result (Unit {0}) Fault)
     (ends : Ends SiteValue) (site : SiteValue) : Type 0 where
   pub keeps : KeepsAtDesk F station sound ends site
-  pub asked : IfSome reported (λ desk. HaveAsked desk ends keeps.parts.desk)
+  pub asked : IsSomeAnd reported (λ desk. HaveAsked desk ends keeps.parts.desk)
 
 -- what the files of a run keep of which this is told
 abbrev pub OfFiles : Type 0 → RunLog FileLog → Says

@@ -238,7 +238,7 @@ module _ {L F C D : Type 0} (within : D → WireDevice L F C) where
         let there : slave < length plant = slice_get_within plant slave words here in
         let inside : slave < length opened.seen.state.halves =
         (let many : length plant ≡ length opened.seen.state.halves =
-        sym (length-map plant length) ∙ ap length (sym sizes) ∙ ap (λ (l : Line). length l.sizes) (sym followed.leads.line) ∙ served.followed.count in omega (arith, there, many)) in
+        sym (length-map plant length) ∙ ap length (sym sizes) ∙ ap (λ (l : Line). length l.sizes) (sym followed.leads.line) ∙ served.count in omega (arith, there, many)) in
         let last : slave < length s.seen.state.halves = (let many = followed.ends.count in omega (arith, there, many, count)) in
         let half = get_or s.seen.state.halves slave (powered_up [] 0) in
         let at_last = slice_get-get_or s.seen.state.halves slave (powered_up [] 0) last in
