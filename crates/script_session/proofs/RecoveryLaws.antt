@@ -57,9 +57,8 @@ use Rattle.script_session.specs.Parts.{Sites, IsSeparate, AreEndsOfParts, IsCoun
 use Rattle.script_session.specs.Recovering.{CountsAll, IsOpenedHere, IsRedone, KeepsLine, RecoversByThreads, RedoesOpened, StaysKept}
 use Rattle.script_session.specs.Running.{EndsReported, GoesAfter, LedAtDesk, OfRecovery, Says, whole_of}
 use Rattle.script_session.proofs.IssueLaws.{issued-by, opened-many}
-use Rattle.script_session.proofs.LeftLaws.{left-together}
+use Rattle.script_session.proofs.DeskLaws.{closed-quietly, served-at-desk}
 use Rattle.script_session.proofs.RunLaws.{led_site, led_whole, some_weaker}
-use Rattle.script_session.proofs.SlaveLaws.{contents-together}
 use Rattle.script_session.proofs.SoundLaws.{on_ok, served_soundly}
 
 -- ---- the station is opened
@@ -255,29 +254,20 @@ module _ (opened : Station) (here : IsOpenedHere opened) (stands : Stands opened
       let zero_is : words_issued opened.book.slaves ≡ 0 =
       ap (λ (book : Book). words_issued book.slaves) here.book ∙ none-issued (words_in opened.seen.state.halves) (capacity_in opened.seen.state.disk.bytes) here.journal in
       let all : issues_of ends.workers.items ≡ words_issued (replayed opened.book calls).slaves = omega (arith, issued, zero_is) in
-      let left = left-together opened calls sites ends separate of_sites site together closes.closed.left in
+      let served = served-at-desk opened [] sites ends site true AllAccepted (Ok tt) separate of_sites together (record {
+        calls = calls;
+        counts = closes.counts;
+        receipts = closes.receipts;
+        closed = closes.closed;
+        acknowledged = closes.acknowledged;
+        accepts = (none, λ done. none);
+        none = closes.none;
+        tells = tt;
+      }) in
       record {
-        served = record {
-          sites = sites;
-          separate = separate;
-          ends = ends;
-          of_sites = of_sites;
-          closes = record {
-            calls = calls;
-            counts = closes.counts;
-            receipts = closes.receipts;
-            closed = closes.closed;
-            acknowledged = closes.acknowledged;
-            accepts = (none, λ done. none);
-            none = closes.none;
-            tells = tt;
-          };
-          together = together;
-          contents = λ just. contents-together opened.book (replayed opened.book calls) opened.seen.state sites ends site separate of_sites together (closes.closed.contents just);
-          left = left;
-        };
+        served = served;
         counts = subst (λ (n : ℕ). IsCount n words) all counts;
-        keeps = keeps-line opened here stands calls none sound site left;
+        keeps = keeps-line opened here stands calls none sound site served.left;
       }
 
   -- a line that was served with no command, and of which no fault is told
@@ -285,13 +275,8 @@ module _ (opened : Station) (here : IsOpenedHere opened) (stands : Stands opened
       → ServesFollowed follows well tells false opened [] (driven left) → IsRedone opened left.words left.site
   redone follows well tells left good serves =
       let desk = serves.parts.desk in
-      let ending = left.ending in
-      let closed : ending.closed ≡ Ok tt = subst (λ (r : Result (Unit {0}) Fault). OnOk r (ending.closed ≡ Ok tt)) good desk.ended.reported in
-      let closes = subst (λ (r : Result (Unit {0}) CloseFault). MatchResult r
-      (λ done. ClosesWith opened.book [] true ending.answered ending.reported desk.ends) (λ why. IsStopped opened.book why ending.reported desk.ends))
-      closed desk.ended.ended in
-      redone-here desk.sites desk.ends left.site left.words ending.answered desk.separate desk.of_sites
-      (subst (λ (r : Result (Unit {0}) Fault). ClosesWith opened.book [] true ending.answered r desk.ends) good closes) serves.parts.together serves.words
+      redone-here desk.sites desk.ends left.site left.words left.ending.answered desk.separate desk.of_sites
+      (closed-quietly opened.book [] (driven left).ending desk.ends good desk.ended) serves.parts.together serves.words
 
   -- what a run did on the line that a desk has left
   module _ {D T : Type 0} (follows : D → Seen → Type 0) (well : D → Type 0) (tells : D → T → Type 0) (slaves : ℕ) (files : Known) (line : LineFile) (run : LineRun T)

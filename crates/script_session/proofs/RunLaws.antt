@@ -33,14 +33,14 @@ use Rattle.script_session.specs.declared.logs.UnservedLog.TheVariants as unserve
 use Rattle.script_session.specs.declared.running.LineRun.{LineRun}
 use Rattle.script_session.specs.declared.threads.Left.{Left}
 use Rattle.script_session.specs.After.{GoesAfterDesk, GoesFollowed, LedOn, SavesFollowed, ServesSome, Tells}
-use Rattle.script_session.specs.AtDesk.{IsServedReported, IsUnservedReported, LeavesSo, ServesFollowed}
+use Rattle.script_session.specs.AtDesk.{IsServedReported, IsUnservedReported, ServesFollowed, ServesParts}
 use Rattle.script_session.specs.AtDesk as at_desk
 use Rattle.script_session.specs.Parts.{AreSound, IsDeskReported, IsSynced}
 use Rattle.script_session.specs.Running.{DeskGoes, DeskTells, EndsReported, GoesAfter, GoesAlone, HasEnded, LedAtDesk, OfDevices, SavesDesk, SavesSite, Says, ServesOn}
 use Rattle.script_session.specs.Running.{TellsOf, desk_of, line_reported, opening_of, whole_of}
 use Rattle.script_session.specs.Running.{idle, recovered, separate, served, unbegun, unrecovered}
 use Rattle.script_session.specs.Saving.{SavesAfter, SavesLeft, Serves}
-use Rattle.script_session.proofs.DeskLaws.{served-reported}
+use Rattle.script_session.proofs.DeskLaws.{served-quietly}
 use Rattle.script_session.proofs.SavingLaws.{after-unserved, after-worse}
 use Rattle.script_session.proofs.SoundLaws.{served_soundly}
 
@@ -191,14 +191,14 @@ of_ended Q (Ok given) has holds = holds
 of_ended Q (Err fault) has holds = absurd has
 
 at_the_desk : {T : Type 0} (files : Known) (line : LineFile) (opened : Station) (commands : List Command) (left : Left SiteValue T) (answered : Answered)
-    → LeavesSo opened commands left.ending left.site → (left.ending.is_driven ≡ false → left.unserved.items ≡ commands)
+    → ServesParts opened commands left.ending left.site → (left.ending.is_driven ≡ false → left.unserved.items ≡ commands)
     → SavesLeft files line left answered → Serves false files line opened commands answered
-at_the_desk files line opened commands left answered leaves same saves = record {
+at_the_desk files line opened commands left answered parts same saves = record {
   is_driven = left.ending.is_driven;
   answers = left.ending.answered;
   worst = saves.worst;
   site = left.site;
-  served = served-reported opened commands left.ending left.site saves.reported leaves;
+  served = served-quietly opened commands left.ending left.site saves.reported parts;
   after = after-unserved left.ending.is_driven files line left.site.seen left.unserved.items commands answered same saves.after;
 }
 
@@ -228,17 +228,16 @@ module _ {D T : Type 0} (follows : D → Seen → Type 0) (well : D → Type 0) 
   }
 
   pub saves_desk : (run : LineRun T) (opened : Station) (commands : List Command) (left : Left SiteValue T) (answered : Answered)
-      → LeavesSo opened commands left.ending left.site → (left.ending.is_driven ≡ false → left.unserved.items ≡ commands)
-      → ServesFollowed follows well tells turns opened commands left → OnOk run.ended (left.sound ≡ Ok tt) → run.reported.desk ≡ Some left.reported
+      → (left.ending.is_driven ≡ false → left.unserved.items ≡ commands) → ServesFollowed follows well tells turns opened commands left → OnOk run.ended (left.sound ≡ Ok tt) → run.reported.desk ≡ Some left.reported
       → OnOk run.ended (IsTrue left.ending.is_driven
       → IsSomeAnd run.reported.after (λ after. SavesFollowed (LedOn follows well tells after slaves run.recovered left.site) files line))
       → HasEnded run answered → SavesLeft files line left answered
       → SavesDesk (λ last. IsSomeAnd (whole_of run.reported.desk run.reported.after) (λ whole. LedAtDesk follows well tells turns slaves opened whole last.seen)) files line opened commands answered
   unfolding at_the_desk
-  saves_desk run opened commands left answered leaves same serves sound desk followed has saves =
+  saves_desk run opened commands left answered same serves sound desk followed has saves =
       let Ends : Answered → Type 0 = λ given. answered ≡ AllAccepted → (run.answers ≡ AllAccepted) × (given ≡ AllAccepted) in
       record {
-        serves = at_the_desk files line opened commands left answered leaves same saves;
+        serves = at_the_desk files line opened commands left answered serves.parts same saves;
         followed = λ driven.
             let led = led_whole (λ s. Unit {0}) run.reported.desk run.reported.after opened left.site run.recovered left.reported desk
             (served_soundly follows well tells turns opened commands left serves (of_ended Ends run.ended has.ended sound)) (λ s begins counted. tt)

@@ -1,5 +1,5 @@
 -- What holds of a line once its desk was closed, or a fault ended the work there.
-use Rattle.std.specs.Prelude.{◌≡◌, ◌⊎◌, ◌<◌, ℕ, Bool, true, false, List, [], ◌∷◌, length, Result, Ok, Err, IfErr, MatchResult}
+use Rattle.std.specs.Prelude.{◌≡◌, ◌⊎◌, ◌<◌, ℕ, Bool, true, false, List, [], ◌∷◌, length, Result, Ok, IfErr, MatchResult}
 use Rattle.std.specs.Prelude.{OnOk, is_some}
 use Rattle.std.specs.List.{AllByRecursion}
 use Rattle.sii_edit.specs.declared.command.Command.{Command}
@@ -145,21 +145,6 @@ pub record IsServedAtDesk (opened : Station) (commands : List Command) (is_drive
   pub contents : IsJustOpened opened.book → (slave : ℕ) → IsAsOpened opened.book opened.seen.state slave
       → ReadsAsContents (replayed opened.book closes.calls) site.seen.state slave
   pub left : AllLeftSo IsLeft opened closes.calls site
-
--- The desk wasn't closed. Unless what was handed in doesn't match what the desk handed out, a power cut leaves only what is kept for the
--- session, with the commands that the book has accepted and each durable one acknowledged.
-pub record IsStoppedAtDesk (opened : Station) (why : CloseFault) (reported : Result (Unit {0}) Fault) (site : SiteValue) : Type 0 where
-  pub calls : List Call
-  pub answered : AreAnswered opened.book calls
-  pub kept : why ≡ Unserved → AllLeftSo IsKeptAs opened calls site
-  pub tells : IfErr reported (TellsWhy (replayed opened.book calls))
-
--- The line was served if the desk was closed; otherwise it was stopped, and the user is told of a fault.
-pub record LeavesSo (opened : Station) (commands : List Command) (ending : Ending) (site : SiteValue) : Type 0 where
-  pub reported : OnOk ending.reported (ending.closed ≡ Ok tt)
-  pub left : MatchResult ending.closed
-      (λ done. IsServedAtDesk opened commands ending.is_driven ending.answered ending.reported site)
-      (λ why. IsStoppedAtDesk opened why ending.reported site)
 
 -- The line of this station was taken apart, and its parts ended so.
 pub record PartsEnd (opened : Station) : Type 0 where

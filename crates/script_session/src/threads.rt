@@ -4,7 +4,7 @@ ghost use Rattle.std.specs.Prelude.{◌≡◌, ◌+◌, ◌≤◌, [], true, fal
 ghost use Rattle.site_core.specs.State.{Seen, State};
 ghost use Rattle.site_shadow.specs.Line.{halves_of};
 ghost use Rattle.script_session.specs.Asking.{no_counts};
-ghost use Rattle.script_session.specs.AtDesk.{IsUnservedReported, LeavesSo, OpensDesk, ServesFollowed, ServesSites};
+ghost use Rattle.script_session.specs.AtDesk.{IsUnservedReported, OpensDesk, ServesFollowed, ServesSites};
 ghost use Rattle.script_session.specs.Parts.{
   AreSound,
   EndsSynced,
@@ -95,7 +95,6 @@ pub fn serve_task<D: Lends + Send, O: Write, W: Wait + Threads + Sync>(
 ) -> Result<Left<ShadowSite<D>, D::Logged>, NotServed<D::Logged>>
     requires none { alone.book.accepted ≡ [] }
     ensures line { IfOk result (λ left. IsLineOf slaves left.site.line) }
-    ensures left { IfOk result (λ left. LeavesSo alone task.work.commands.items left.ending left.site) }
     ensures parts { IfOk result (λ left. ServesFollowed D.follows D.well D.tells task.turns alone task.work.commands.items left) }
     ensures failed { IfErr result (λ why. IsUnservedReported D.follows D.well D.tells alone task.work.commands.items why.reported) }
     ensures unserved { IfOk result (λ left. left.ending.is_driven ≡ false → left.unserved.items ≡ task.work.commands.items) }

@@ -18,7 +18,7 @@ end_left-run-requires-clause-line g c κs lives =
     (omega (arith, c.len.ensures, c.args.line.now.images.ok.0)) c.in-Ok.ensures.line
 
 pub end_left-run-requires-clause-reported : goal.end_left-run-requires-clause-reported
-end_left-run-requires-clause-reported g c κs lives = c.in-Ok.ensures.left.reported
+end_left-run-requires-clause-reported g c κs lives = c.in-Ok.ensures.parts.parts.desk.ended.reported
 
 pub returns-in-Ok-reported-clause-followed : goal.returns-in-Ok-reported-clause-followed
 returns-in-Ok-reported-clause-followed g c =

@@ -10,7 +10,7 @@ end_left-requires-clause-line g c κs lives =
     (omega (arith, c.len.ensures, c.args.line.now.images.ok.0)) c.in-Ok.ensures.line
 
 pub end_left-requires-clause-reported : goal.end_left-requires-clause-reported
-end_left-requires-clause-reported g c κs lives = c.in-Ok.ensures.left.reported
+end_left-requires-clause-reported g c κs lives = c.in-Ok.ensures.parts.parts.desk.ended.reported
 
 pub returns-in-Ok-clause-followed : goal.returns-in-Ok-clause-followed
 returns-in-Ok-clause-followed g c =
@@ -33,7 +33,7 @@ pub returns-in-Ok-clause-saved : goal.returns-in-Ok-clause-saved
 returns-in-Ok-clause-saved g c answered has =
     let ran = c.end_left in
     saves_desk g.D.Device.follows g.D.Device.well g.D.Lends.tells c.args.task.turns (length c.args.line.now.images.items) (g.S.Store.files ran.new.store)
-    c.args.line.now ran.result c.args.alone c.args.task.work.commands.items c.in-Ok.left answered c.in-Ok.ensures.left c.in-Ok.ensures.unserved
+    c.args.line.now ran.result c.args.alone c.args.task.work.commands.items c.in-Ok.left answered c.in-Ok.ensures.unserved
     c.in-Ok.ensures.parts ran.ensures.sound ran.ensures.desk ran.ensures.followed has (ran.ensures.saved answered has)
 
 pub returns-in-Err-clause-followed : goal.returns-in-Err-clause-followed

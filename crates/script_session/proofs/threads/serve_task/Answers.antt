@@ -4,7 +4,7 @@ use Rattle.site_core.specs.Line.{Line}
 use Rattle.book_model.specs.Book.{Book}
 use Rattle.script_session.specs.Parts.{IsSeparate, Sites}
 use Rattle.script_session.proofs.SeparateLaws.{separate_reported}
-use Rattle.script_session.proofs.DeskLaws.{as-many-ends, ends-separate, line-reported, served-at-desk, serves-parts}
+use Rattle.script_session.proofs.DeskLaws.{as-many-ends, ends-separate, line-reported, serves-parts}
 use Rattle.script_session.proofs.threads.serve_task.Goals as goal
 
 pub serve_at_desk-requires-clause-opening : goal.serve_at_desk-requires-clause-opening
@@ -15,14 +15,6 @@ serve_at_desk-requires-clause-opening g c κs lives = record {
   refusals = (refl, refl);
   parts = (omega (arith, c.of-opening.ensures.parts.0), omega (arith, c.of-opening.ensures.parts.1));
 }
-
-pub returns-in-Ok-serve_at_desk-clause-left : goal.returns-in-Ok-serve_at_desk-clause-left
-returns-in-Ok-serve_at_desk-clause-left g c =
-    let parts = c.into_parts-core in
-    let desk = c.in-Ok-serve_at_desk in
-    served-at-desk c.args.alone c.args.task.work.commands.items c.of-opening.result.core parts.result.1.seen c.in-Ok.prepared.sites desk.at c.put_back.result
-    (c.of-opening.ensures.core ∙ parts.ensures.book) parts.ensures.seen c.in-Ok.ensures.sites.separate desk.ensures.served.of_sites c.put_back.ensures.left
-    desk.ensures.served.ending
 
 pub returns-in-Ok-serve_at_desk-clause-parts : goal.returns-in-Ok-serve_at_desk-clause-parts
 returns-in-Ok-serve_at_desk-clause-parts g c =
