@@ -223,7 +223,7 @@ module _ {D T : Type 0} (follows : D → Seen → Type 0) (well : D → Type 0) 
     way = (
       also led.s led.way.begins led.way.counted,
       subst (λ (d : Option (DeskLog T)). IsSomeAnd (whole_of d (Some after)) (λ whole. LedAtDesk follows well tells turns slaves opened whole led.s.seen)) (sym is)
-          (record { leads = record { left = left; served = served; after = led.way.leads }; ends = led.way.ends }),
+          (record { left = left; served = served; after = led.way.leads; ends = led.way.ends }),
     );
   }
 
@@ -250,7 +250,7 @@ module _ {D T : Type 0} (follows : D → Seen → Type 0) (well : D → Type 0) 
       → IsSomeAnd reported (λ whole. LedAtDesk follows well tells turns slaves opened whole last)
       → IsSomeAnd reported (λ whole. EndsReported follows well tells turns site slaves whole last)
   led_site reported site opened last same opens led =
-      some_weaker reported (λ whole way. record { leads = record { opened = opened; line = same; opens = opens; after = way.leads }; ends = way.ends }) led
+      some_weaker reported (λ whole way. record { opened = opened; line = same; opens = opens; desk = way }) led
 
   pub saves_site : (reported : Option (LineLog T)) (site : SiteValue) (was_old : Bool) (opened : Station) (commands : List Command) (answered : Answered)
       → was_old ≡ is_old site.seen.state.disk.bytes → StartsFrom was_old site opened → opened.line ≡ site.line → Follows site.seen opened.seen

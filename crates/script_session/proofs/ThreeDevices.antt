@@ -66,11 +66,11 @@ module _ {D T : Type 0} (follows : D → Seen → Type 0) (well : D → Type 0) 
   module _ (turns : Bool) (site : SiteValue) (slaves : ℕ) (last : Seen) (whole : LineLog T) (new : site.seen.past ≡ [])
       (followed : EndsReported follows well tells turns site slaves whole last) where
     pub led_slave : (slave : ℕ) (first half : SlaveHalf) → slice_get site.seen.state.halves slave ≡ Some first → slice_get last.state.halves slave ≡ Some half
-        → slave < length followed.leads.opened.seen.state.halves → LedSlave slave first half whole
+        → slave < length followed.opened.seen.state.halves → LedSlave slave first half whole
     led_slave slave first half at_first at_last inside =
-        let opened = followed.leads.opened in
-        let left = followed.leads.after.left in
-        let served = followed.leads.after.served in
+        let opened = followed.opened in
+        let left = followed.desk.left in
+        let served = followed.desk.served in
         let parts = served.served in
         let mid = get_or opened.seen.state.halves slave (powered_up [] 0) in
         let at_opened = slice_get-get_or opened.seen.state.halves slave (powered_up [] 0) inside in
@@ -90,7 +90,7 @@ module _ {D T : Type 0} (follows : D → Seen → Type 0) (well : D → Type 0) 
             before = site.seen;
             now = opened.seen;
             new = new;
-            goes = followed.leads.opens;
+            goes = followed.opens;
             followed = keeps_reported follows well tells whole.desk.line opened.seen served.sound.line served.devices.before;
             at_first = at_first;
             at_now = at_opened;
@@ -109,8 +109,8 @@ module _ {D T : Type 0} (follows : D → Seen → Type 0) (well : D → Type 0) 
             before = left.seen;
             now = last;
             new = parts.together.new;
-            goes = followed.leads.after.after;
-            followed = followed.ends.ends;
+            goes = followed.desk.after;
+            followed = followed.desk.ends.ends;
             at_first = back.1;
             at_now = at_last;
           };

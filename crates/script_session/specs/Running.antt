@@ -131,33 +131,22 @@ OfDevices follows well tells reported = record {
 
 -- ---- by what is told of all devices
 
--- The line of this station was served at a desk, with a part for process data as `turns` says, and calls alone led on after it; this is told of the
--- devices of the station's site before the desk and of each part there, which ended soundly.
-pub record LedAfterDesk {D T : Type 0} (follows : D → Seen → Type 0) (well : D → Type 0) (tells : D → T → Type 0) (turns : Bool)
-    (reported : DeskLog T) (opened : Station) (last : Seen) : Type 0 where
+-- The line of this station was served at a desk, with a part for process data as `turns` says, and calls alone led on after it. This is told of the
+-- devices of the station's site before the desk, of each part there, which ended soundly, and of the site after it.
+pub record LedAtDesk {D T : Type 0} (follows : D → Seen → Type 0) (well : D → Type 0) (tells : D → T → Type 0) (turns : Bool)
+    (slaves : ℕ) (opened : Station) (reported : LineLog T) (last : Seen) : Type 0 where
   pub left : SiteValue
-  pub served : IsServedReported follows well tells turns opened reported left
+  pub served : IsServedReported follows well tells turns opened reported.desk left
   pub after : Follows left.seen last
+  pub ends : IsReportedLine follows well tells reported.after slaves last
 
 -- A station was opened on this site before that, by calls alone.
-pub record LedThroughout {D T : Type 0} (follows : D → Seen → Type 0) (well : D → Type 0) (tells : D → T → Type 0) (turns : Bool)
-    (reported : DeskLog T) (site : SiteValue) (last : Seen) : Type 0 where
+pub record EndsReported {D T : Type 0} (follows : D → Seen → Type 0) (well : D → Type 0) (tells : D → T → Type 0) (turns : Bool)
+    (site : SiteValue) (slaves : ℕ) (reported : LineLog T) (last : Seen) : Type 0 where
   pub opened : Station
   pub line : opened.line ≡ site.line
   pub opens : Follows site.seen opened.seen
-  pub after : LedAfterDesk follows well tells turns reported opened last
-
--- Devices have followed this site, its parts at a desk, and the site after it, and this is told of them.
-pub record EndsReported {D T : Type 0} (follows : D → Seen → Type 0) (well : D → Type 0) (tells : D → T → Type 0) (turns : Bool)
-    (site : SiteValue) (slaves : ℕ) (reported : LineLog T) (last : Seen) : Type 0 where
-  pub leads : LedThroughout follows well tells turns reported.desk site last
-  pub ends : IsReportedLine follows well tells reported.after slaves last
-
--- the line of this station was served at a desk on the way
-pub record LedAtDesk {D T : Type 0} (follows : D → Seen → Type 0) (well : D → Type 0) (tells : D → T → Type 0) (turns : Bool)
-    (slaves : ℕ) (opened : Station) (reported : LineLog T) (last : Seen) : Type 0 where
-  pub leads : LedAfterDesk follows well tells turns reported.desk opened last
-  pub ends : IsReportedLine follows well tells reported.after slaves last
+  pub desk : LedAtDesk follows well tells turns slaves opened reported last
 
 -- what is told of the devices at a desk and of the line's after it, if both is told
 abbrev pub whole_of : {T : Type 0} → Option (DeskLog T) → Option T → Option (LineLog T)

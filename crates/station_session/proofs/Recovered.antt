@@ -78,12 +78,12 @@ module _ (F : Type 0) {D : Type 0} (follows : D → Seen → Type 0) (well : D �
     have_contents : length site.line.sizes ≡ length site.seen.state.halves → length site.line.sizes ≡ slaves → AreLogsReported whole.desk → IsTrue (is_some whole.after.calls)
         → HasRecovered s → HaveContents site.seen.state s.book whole
     have_contents halves count logs after recovered slave there =
-        let opened = followed.leads.opened in
+        let opened = followed.opened in
         let first = some_half (slice_get site.seen.state.halves slave) there in
         let within : slave < length site.seen.state.halves = slice_get_within site.seen.state.halves slave first.0 first.1 in
         let at_open : length site.line.sizes ≡ length opened.seen.state.halves =
-        ap (λ (l : Line). length l.sizes) (sym followed.leads.line) ∙ followed.leads.after.served.count in
-        let last : slave < length s.seen.state.halves = omega (arith, within, halves, count, followed.ends.count) in
+        ap (λ (l : Line). length l.sizes) (sym followed.line) ∙ followed.desk.served.count in
+        let last : slave < length s.seen.state.halves = omega (arith, within, halves, count, followed.desk.ends.count) in
         let half = get_or s.seen.state.halves slave (powered_up [] 0) in
         let at_last = slice_get-get_or s.seen.state.halves slave (powered_up [] 0) last in
         let led = led_slave follows well tells false site slaves s.seen whole new followed slave first.0 half first.1 at_last (omega (arith, within, halves, at_open)) in (

@@ -177,10 +177,10 @@ module _ {L F C D : Type 0} (within : D → WireDevice L F C) where
   module _ (turns : Bool) (site : SiteValue) (slaves : ℕ) (s : Station) (reported : LineLog WireLog) (new : site.seen.past ≡ [])
       (followed : EndsReported follows well tells turns site slaves reported s.seen) where
     abbrev opened : Station
-    opened = followed.leads.opened
+    opened = followed.opened
 
-    abbrev served : IsServedReported follows well tells turns opened reported.desk followed.leads.after.left
-    served = followed.leads.after.served
+    abbrev served : IsServedReported follows well tells turns opened reported.desk followed.desk.left
+    served = followed.desk.served
 
     three_devices : (slave : ℕ) (first half : SlaveHalf) → LedSlave follows well tells slave first half reported → GoesOn slave first half (sent_to slave reported)
     three_devices slave first half led =
@@ -238,8 +238,8 @@ module _ {L F C D : Type 0} (within : D → WireDevice L F C) where
         let there : slave < length plant = slice_get_within plant slave words here in
         let inside : slave < length opened.seen.state.halves =
         (let many : length plant ≡ length opened.seen.state.halves =
-        sym (length-map plant length) ∙ ap length (sym sizes) ∙ ap (λ (l : Line). length l.sizes) (sym followed.leads.line) ∙ served.count in omega (arith, there, many)) in
-        let last : slave < length s.seen.state.halves = (let many = followed.ends.count in omega (arith, there, many, count)) in
+        sym (length-map plant length) ∙ ap length (sym sizes) ∙ ap (λ (l : Line). length l.sizes) (sym followed.line) ∙ served.count in omega (arith, there, many)) in
+        let last : slave < length s.seen.state.halves = (let many = followed.desk.ends.count in omega (arith, there, many, count)) in
         let half = get_or s.seen.state.halves slave (powered_up [] 0) in
         let at_last = slice_get-get_or s.seen.state.halves slave (powered_up [] 0) last in
         let at_first : slice_get site.seen.state.halves slave ≡ Some (powered_up words (station slave)) =
