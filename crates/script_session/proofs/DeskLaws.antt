@@ -218,7 +218,7 @@ servable sites capacity entire None halves long bytes held disk new slaves owned
 
 -- ---- a line that was served at a desk
 
-pub served-at-desk : (opened : Station) (commands : List Command) (sites : Sites) (ends : Ends SiteValue) (site : SiteValue) (is_driven : Bool) (answered : Answered) (reported : Result (Unit {0}) Fault)
+abbrev pub served-at-desk : (opened : Station) (commands : List Command) (sites : Sites) (ends : Ends SiteValue) (site : SiteValue) (is_driven : Bool) (answered : Answered) (reported : Result (Unit {0}) Fault)
     → IsSeparate opened.seen.state sites → AreEndsOfParts sites ends → IsTogether ends site → ClosesWith opened.book commands is_driven answered reported ends
     → IsServedAtDesk opened commands is_driven answered reported site
 served-at-desk opened commands sites ends site is_driven answered reported separate of_sites together closes = record {
