@@ -208,22 +208,21 @@ some_weaker (Some a) says holds = says a holds
 some_weaker None says holds = absurd holds
 
 module _ {D T : Type 0} (follows : D → Seen → Type 0) (well : D → Type 0) (tells : D → T → Type 0) (turns : Bool) (slaves : ℕ) (files : Known) (line : LineFile) where
-  -- what is told of the devices at the desk and after it is all that is told
-  -- and this is said of the recovery
+  -- what is told of the devices at the desk and after it is all that is told; and this is said of the recovery
   pub led_whole : (Also : Station → Type 0) (desk : Option (DeskLog T)) (after : Option T) (opened : Station) (left : SiteValue) (counts : Option Recovered) (reported : DeskLog T)
       → desk ≡ Some reported → IsServedReported follows well tells turns opened reported left
       → ((s : Station) → BeginsRecovered left.seen s → IsSomeAnd counts (λ one. CountsRecovered left.line.sizes left.seen one s) → Also s)
       → IsSomeAnd after (λ one. SavesFollowed (LedOn follows well tells one slaves counts left) files line)
       → SavesFollowed (λ s. Also s × IsSomeAnd (whole_of desk after) (λ whole. LedAtDesk follows well tells turns slaves opened whole s.seen)) files line
-  led_whole Also desk None opened left counts reported is served also led = absurd led
-  led_whole Also desk (Some after) opened left counts reported is served also led = record {
+  led_whole Also desk None opened left counts reported is was also led = absurd led
+  led_whole Also desk (Some after) opened left counts reported is was also led = record {
     s = led.s;
     recovered = led.recovered;
     held = led.held;
     way = (
       also led.s led.way.begins led.way.counted,
       subst (λ (d : Option (DeskLog T)). IsSomeAnd (whole_of d (Some after)) (λ whole. LedAtDesk follows well tells turns slaves opened whole led.s.seen)) (sym is)
-          (record { left = left; served = served; after = led.way.leads; ends = led.way.ends }),
+          (record { left = left; served = was; after = led.way.leads; ends = led.way.ends }),
     );
   }
 
