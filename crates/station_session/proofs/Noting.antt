@@ -80,7 +80,7 @@ pub then_noted : (Well : ExitStatus → Type 0) (status final : ExitStatus) (old
     → NotesWhy (Well final) final old new
 then_noted Well status final old mid new first second =
     both_noted (Well status) (final ≡ status) (Well final) status final final old mid new first second (λ well same. subst Well (sym same) well)
-    (λ good. elim stays status final mid new second [
+    (λ good. elim (stays status final mid new second) [
       | inl same ↦ (subst IsFaultless same good, good)
       | inr never ↦ absurd (never good)
     ])

@@ -10,8 +10,8 @@ use crate::logs::with_all_reported;
 use crate::run::Ran;
 use line_watch::{Cleared, Watch, Watched};
 use script_session::{LineRun, recover_by_threads};
-use site_file::{FileDevice, OpenFiles};
 use site_core::Site;
+use site_file::{FileDevice, OpenFiles};
 use station_alone::Recovered;
 use station_files::{ExitStatus, Failures, Fault, Store, worse};
 use station_line::{Answered, Session, load_session, of_journal, open_files, write_recovered};
@@ -125,11 +125,7 @@ fn recover_opened<
         reported,
     } = recover_by_threads(rt, &line, site, store);
     let noted = worse(failures.note_end(closed), note_ended(ended, failures));
-    let printed = print_recovered(
-        recovered,
-        &mut Cleared::new(output, progress, rt),
-        failures,
-    );
+    let printed = print_recovered(recovered, &mut Cleared::new(output, progress, rt), failures);
     let status = with_all_reported(worse(noted, printed), &reported, failures);
     watch.erase();
     Ran {

@@ -35,9 +35,10 @@ returns-in-Ok-reported-clause-goes g c before begins =
     let says = OfDevices follows well tells run.reported in
     let serves = serves-driven follows well tells c.args.alone c.new.result.items left c.new.ensures.items c.in-Ok.ensures.parts in
     let stays = stays_kept c.args.alone c.requires.opened c.core.ensures.stands follows well tells 0 _ c.args.line.now run left serves c.args.found _ c.in-Ok-reported.is before begins in
-    served_goes follows well tells false run c.args.alone [] (driven left) serves c.end_left-run.ensures.desk (OfRecovery before says)
-    (record { here = c.requires.opened; stands = c.core.ensures.stands; begins = begins },
-    desk_tells follows well tells false run c.args.alone [] (driven left) serves c.end_left-run.ensures.desk)
+    served_goes follows well tells false run c.args.alone [] (driven left) serves c.end_left-run.ensures.desk (OfRecovery before says) (
+      record { here = c.requires.opened; stands = c.core.ensures.stands; begins = begins },
+      desk_tells follows well tells false run c.args.alone [] (driven left) serves c.end_left-run.ensures.desk,
+    )
     (λ never. absurd cc)
     (λ closed. after_recovers before says left.sound left.unserved.items left.site.seen (IsErr run.ended) stays (c.end_left-run.ensures.goes closed))
 
@@ -63,9 +64,10 @@ returns-in-Ok-in-Err-reported-clause-goes g c before begins =
     let well = g.D.Device.well in
     let tells = g.D.Lends.tells in
     let serves = serves-driven follows well tells c.args.alone c.new.result.items c.in-Ok.left c.new.ensures.items c.in-Ok.ensures.parts in
-    separate (driven c.in-Ok.left).ending serves.parts.desk
-    (record { here = c.requires.opened; stands = c.core.ensures.stands; begins = begins },
-    subst (λ d. IsSomeAnd d (λ one. IsDeskReported follows well tells c.args.alone.seen one serves.parts.desk.ends)) (sym c.unrecovered.ensures.desk) serves.reported)
+    separate (driven c.in-Ok.left).ending serves.parts.desk (
+      record { here = c.requires.opened; stands = c.core.ensures.stands; begins = begins },
+      subst (λ d. IsSomeAnd d (λ one. IsDeskReported follows well tells c.args.alone.seen one serves.parts.desk.ends)) (sym c.unrecovered.ensures.desk) serves.reported,
+    )
     (subst (λ r. IsErr r) (sym c.unrecovered.ensures.ended) refl)
 
 pub returns-in-Err-clause-followed : goal.returns-in-Err-clause-followed
