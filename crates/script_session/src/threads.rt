@@ -94,7 +94,7 @@ pub fn serve_task<D: Lends + Send, O: Write, W: Wait + Threads + Sync>(
     task: Task,
     output: &mut O,
 ) -> Result<Left<ShadowSite<D>, D::Logged>, NotServed<D::Logged>>
-    requires { alone.book.accepted ≡ [] }
+    requires none { alone.book.accepted ≡ [] }
     ensures line { IfOk result (λ left. IsLineOf slaves left.site.line) }
     ensures left { IfOk result (λ left. LeavesSo alone task.work.commands.items left.ending left.site) }
     ensures parts { IfOk result (λ left. ServesFollowed D.follows D.well D.tells task.turns alone task.work.commands.items left) }

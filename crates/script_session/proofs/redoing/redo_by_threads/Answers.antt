@@ -4,14 +4,14 @@ use Rattle.script_session.proofs.RedoLaws.{redone}
 use Rattle.script_session.proofs.SoundLaws.{served_soundly}
 use Rattle.script_session.proofs.redoing.redo_by_threads.Goals as goal
 
-pub serve_task-requires : goal.serve_task-requires
-serve_task-requires g c κs lives = ap (λ (b : Book). b.accepted) c.requires.book
+pub serve_task-requires-clause-none : goal.serve_task-requires-clause-none
+serve_task-requires-clause-none g c κs lives = ap (λ (b : Book). b.accepted) c.requires.book
 
-pub returns-in-Ok-clause-redone : goal.returns-in-Ok-clause-redone
-returns-in-Ok-clause-redone g c =
+pub returns-in_ok-sound-in-Ok-clause-redone : goal.returns-in_ok-sound-in-Ok-clause-redone
+returns-in_ok-sound-in-Ok-clause-redone g c =
     redone g.D.Device.follows g.D.Device.well g.D.Lends.tells c.args.alone c.new.result.items c.in-Ok.left c.requires c.core.ensures.stands
-    c.new.ensures.items c.in_ok-told.was c.in-Ok.ensures.parts
+    c.new.ensures.items c.in_ok-told-in-Ok.was c.in-Ok.ensures.parts
 
-pub returns-in-Ok-clause-reported : goal.returns-in-Ok-clause-reported
-returns-in-Ok-clause-reported g c =
-    served_soundly g.D.Device.follows g.D.Device.well g.D.Lends.tells false c.args.alone c.new.result.items c.in-Ok.left c.in-Ok.ensures.parts c.in_ok-sound.was
+pub returns-in_ok-sound-in-Ok-clause-reported : goal.returns-in_ok-sound-in-Ok-clause-reported
+returns-in_ok-sound-in-Ok-clause-reported g c =
+    served_soundly g.D.Device.follows g.D.Device.well g.D.Lends.tells false c.args.alone c.new.result.items c.in-Ok.left c.in-Ok.ensures.parts c.in_ok-sound-in-Ok.was

@@ -11,7 +11,7 @@ use Rattle.script_session.proofs.threads.serve_task.Goals as goal
 pub serve_at_desk-requires-clause-opening : goal.serve_at_desk-requires-clause-opening
 serve_at_desk-requires-clause-opening g c κs lives = record {
   core = refl;
-  none = ap (λ (b : Book). b.accepted) (c.of-opening.ensures.core ∙ c.into_parts-core.ensures.book) ∙ c.requires;
+  none = ap (λ (b : Book). b.accepted) (c.of-opening.ensures.core ∙ c.into_parts-core.ensures.book) ∙ c.requires.none;
   tickets = (refl, refl);
   refusals = (refl, refl);
   parts = (omega (arith, c.of-opening.ensures.parts.0), omega (arith, c.of-opening.ensures.parts.1));
