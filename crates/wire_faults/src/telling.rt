@@ -1,7 +1,7 @@
 //! What is reported of a fault beside its code: what was seen, what it usually is, and what to do.
 
 use crate::faults::WireFault;
-use esc_rom::TRIES;
+use rom_steps::TRIES;
 use site_wire::{LeftAs, OpenWord, StopReason};
 use slave_match::Reason;
 use station_files::Fault;

@@ -23,6 +23,7 @@ use Rattle.site_shadow.specs.declared.lending.LinePart.{LinePart}
 use Rattle.site_wire.specs.Following.{WireFollows}
 use Rattle.site_wire.specs.declared.device.WireDevice.{WireDevice}
 use Rattle.site_wire.proofs.AmendedLaws.{brought_up_is_after}
+use Rattle.site_wire.proofs.Behind.{slaves_are_behind}
 use Rattle.site_wire.proofs.Living.{lives_parts, lives_station}
 use Rattle.kept_files.proofs.Extending.{first_stays}
 use Rattle.kept_files.proofs.AtDeskOnFiles.{worked_follows}
@@ -186,9 +187,10 @@ module _ {L F C D : Type 0} (within : D → WireDevice L F C) where
       → slice_get before.state.halves slave ≡ Some first → slice_get now.state.halves slave ≡ Some half → GoesOn slave first half (exchanges reported.sent)
   one_device slave before now first half reported new goes followed at_first at_now =
       let kept : WireFollows (within followed.0) now = followed.1.0.0 in
-      let log : exchanges reported.sent ≡ kept.slaves.log = ap exchanges followed.1.1.sent ∙ kept.slaves.has in
+      let slaves = slaves_are_behind L F C (within followed.0) now kept in
+      let log : exchanges reported.sent ≡ slaves.log = ap exchanges followed.1.1.sent ∙ slaves.has in
       λ real later station_is after lives.
-      kept.slaves.follow followed.1.0.1 followed.1.0.2 slave first half real later
+      slaves.follow followed.1.0.1 followed.1.0.2 slave first half real later
       (ap (λ state. slice_get state.halves slave) (first_stays before now new goes) ∙ at_first) at_now station_is after
       (subst (λ (l : List Exchanged). Lives l real later) log lives)
 
