@@ -29,7 +29,7 @@ pub struct RunNames<'a> {
     pub script: &'a str,
 }
 
-/// How far a run came, its exit status, and what was asked of the files of its line.
+/// How far a run or a recovery came, its exit status, and what was asked of the files of its line.
 #[derive(Drop)]
 pub struct Ran {
     /// Whether it began. If not, a file of the line couldn't be opened, and no device has had these files.
@@ -42,7 +42,7 @@ pub struct Ran {
 
 impl Ran {
     /// A run that wasn't begun, or one in memory.
-    fn without_files(is_begun: bool, status: ExitStatus) -> Ran
+    pub(crate) fn without_files(is_begun: bool, status: ExitStatus) -> Ran
         ensures begun { result.is_begun ≡ is_begun }
         ensures status { result.status ≡ status }
         ensures reported { IsNoneReported result.reported }
@@ -188,6 +188,7 @@ fn run_opened<S: Store, W: Write, T: Write + Send, R: Wait + Threads + Clock + A
         closed,
         ended,
         reported,
+        ..
     } = run_line(
         rt,
         &line,

@@ -1,5 +1,5 @@
 -- How the work on a line on a wire ends: what was written before it, and what is told after it.
-use Rattle.std.proofs.Common.{◌≡◌, Result, Ok, Err, IsErrAnd, inl, inr, ap, sym, subst, ◌∙◌}
+use Rattle.std.proofs.Common.{◌≡◌, Result, Ok, Err, IsErrAnd, inl, inr, sym, subst, ◌∙◌}
 use Rattle.std.specs.Prelude.{IfOk}
 use Rattle.std.proofs.lemmas.Result.{IfOk-weaker}
 use Rattle.station_text.specs.declared.line_file.LineFile.{LineFile}
@@ -7,19 +7,8 @@ use Rattle.station_files.specs.Files.{Known, ChangesAmong}
 use Rattle.station_line.specs.Site.{files_of}
 use Rattle.wire_faults.specs.declared.faults.WireFault.{WireFault}
 use Rattle.wire_faults.specs.Faults.{IsOfStream}
-use Rattle.station_files.specs.declared.faults.Fault.{Fault}
-use Rattle.wire_faults.specs.declared.faults.WireFault.TheVariants as wire
-use Rattle.script_session.specs.Saving.{MayFail}
-use Rattle.wire_session.specs.Ending.{EndsOpened, LeavesImages}
+use Rattle.wire_session.specs.Ending.{EndsOpened}
 use Rattle.wire_session.specs.Reporting.{IsExplained, IsReported}
-
--- ---- what follows from what
-
--- a fault with which files are saved
-pub may_fail : (T : Type 0) (fault : Fault) (old new : Known) (line : LineFile) → MayFail old new fault
-    → LeavesImages {T = T} (Err (wire.Station fault)) old new line
-may_fail T fault old new line (inl same) = λ separate. λ other not. ap (λ (files : Known). files other) same
-may_fail T fault old new line (inr failed) = λ separate. absurd (separate failed)
 
 -- ---- the files of the line are opened
 

@@ -1,4 +1,3 @@
-mod AfterDesk
 mod Endings
 mod Interleaved
 mod Mirrored

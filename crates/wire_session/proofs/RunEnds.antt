@@ -1,10 +1,9 @@
 -- What the files hold after a run on a wire.
-use Rattle.std.proofs.Common.{◌≡◌, ℕ, List, ◌++◌, length, map, None, Option, Some, Result, Ok, Err, inr, sym}
+use Rattle.std.proofs.Common.{◌≡◌, ℕ, List, ◌++◌, length, map, None, Option, Some, Result, Ok, Err, inr, refl, sym}
 use Rattle.std.proofs.Common.{subst}
 use Rattle.std.specs.Prelude.{IfOk, IfSome, IsOkAnd, IsSomeAnd, OnOk, Vec}
 use Rattle.std.specs.Global.{Global}
 use Rattle.sii_edit.specs.declared.command.Command.{Command}
-use Rattle.site_core.specs.State.{Seen}
 use Rattle.site_shadow.specs.Site.{SiteValue}
 use Rattle.station_alone.specs.Station.{Station}
 use Rattle.station_alone.specs.Recovery.{HasRecovered}
@@ -36,18 +35,32 @@ use Rattle.wire_session.proofs.Endings.{ends_after_open}
 
 -- ---- the line was run
 
+-- a value and what is known in any case
+pub of_itself : {V E : Type 0} {P : Type 0} (ended : Result V E) → P → IfOk ended (λ value. (ended ≡ Ok value) × P)
+of_itself (Ok value) holds = (refl, holds)
+of_itself (Err fault) holds = tt
+
+-- a run has ended with this status
+abbrev pub EndsWith : {T : Type 0} → LineRun T → ExitStatus → Type 0
+EndsWith run = AnswersGive (λ answered. IsOkAnd run.ended (λ given. answered ≡ AllAccepted → (run.answers ≡ AllAccepted) × (given ≡ AllAccepted)))
+
 -- all that is told is told, or a fault is
-pub saves_run : {T : Type 0} (Way : Option (LineLog T) → Seen → Type 0) (run : LineRun T) (whole : Option (LineLog T)) (ended : Result ExitStatus WireFault)
-    (new : Known) (line : LineFile) (site : SiteValue) (commands : List Command) → whole ≡ whole_of run.reported.desk run.reported.after
-    → OnOk ended (run.closed ≡ Ok tt) → IfOk ended (AnswersGive (λ answered. IsOkAnd run.ended (λ given. answered ≡ AllAccepted → (run.answers ≡ AllAccepted) × (given ≡ AllAccepted))))
+pub saves_run : {T : Type 0} (Way : Option (LineLog T) → Station → Type 0) (run : LineRun T) (told : Option (LineLog T)) (given ended : Result ExitStatus WireFault)
+    (new : Known) (line : LineFile) (site : SiteValue) (commands : List Command) → OnOk given (run.closed ≡ Ok tt) → IfOk given (EndsWith run)
+    → IfOk ended (λ status. (given ≡ Ok status) × (told ≡ whole_of run.reported.desk run.reported.after))
     → ((answered : Answered) → HasEnded run answered → SavesSite (Way (whole_of run.reported.desk run.reported.after)) new line site commands answered)
-    → IfOk ended (AnswersGive (SavesSite (Way whole) new line site commands))
-saves_run Way run whole (Ok status) new line site commands is closed has saves = record {
-  answered = has.answered;
-  is = has.is;
-  so = subst (λ told. SavesSite (Way told) new line site commands has.answered) (sym is) (saves has.answered (record { closed = closed; ended = has.so }));
-}
-saves_run Way run whole (Err fault) new line site commands is closed has saves = tt
+    → IfOk ended (AnswersGive (SavesSite (Way told) new line site commands))
+saves_run Way run told given (Ok status) new line site commands closed has is saves =
+    let ends : EndsWith run status = subst (λ (r : Result ExitStatus WireFault). IfOk r (EndsWith run)) is.0 has in
+    record {
+      answered = ends.answered;
+      is = ends.is;
+      so = subst (λ one. SavesSite (Way one) new line site commands ends.answered) (sym is.1) (saves ends.answered (record {
+        closed = subst (λ (r : Result ExitStatus WireFault). OnOk r (run.closed ≡ Ok tt)) is.0 closed;
+        ended = ends.so;
+      }));
+    }
+saves_run Way run told given (Err fault) new line site commands closed has is saves = tt
 
 -- what is said of what is told, where more is known of it in any case
 pub reported_own : {A : Type 0} {P Q R : A → Type 0} (reported : Option A) → IfSome reported R → ((a : A) → R a → P a → Q a) → IsSomeAnd reported P → IsSomeAnd reported Q
@@ -56,9 +69,9 @@ reported_own None own follows says = absurd says
 
 -- ---- the files of the line are opened
 
-pub ends_found : (Way : Seen → Type 0) (worked : Worked ExitStatus WireLog) (old mid new : Known) (line : LineFile) (plant : List (List ℕ))
+pub ends_found : (Way : Station → Type 0) (worked : Worked ExitStatus WireLog) (old mid new : Known) (line : LineFile) (plant : List (List ℕ))
     (bytes : List ℕ) (site : SiteValue) (commands : List Command) → ChangesAmong old mid (files_of line) → IsSiteOf plant bytes site
-    → ((s : Station) → HasRecovered s → Way s.seen → IsSomeAnd worked.reported (SlavesHold plant s))
+    → ((s : Station) → HasRecovered s → Way s → IsSomeAnd worked.reported (SlavesHold plant s))
     → ChangesAmong mid new (files_of line) → IfOk worked.ended (AnswersGive (SavesSite Way new line site commands)) → EndsFound worked old new line plant bytes commands
 ends_found Way worked old mid new line plant bytes site commands opened made hold others saved =
     ends_after_open (AnswersGive (SavesSite Way new line site commands)) (λ status. SavesFound new line plant bytes commands worked.reported status)

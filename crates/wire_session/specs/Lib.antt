@@ -2,7 +2,6 @@ pub mod Ending
 pub mod Interleaving
 pub mod Planning
 pub mod Recovery
-pub mod Redoing
 pub mod Reporting
 pub mod Running
 pub mod Slaves

@@ -7,10 +7,9 @@ use Rattle.station_files.specs.FileNames.{IsLineSeparate}
 use Rattle.station_files.specs.LineFiles.{SpellsLine, SpellsSlaves}
 use Rattle.station_files.specs.Locations.{Leads}
 use Rattle.station_alone.specs.Station.{Station}
-use Rattle.station_alone.specs.Recovery.{HasRecovered, BeginsRecovered}
 use Rattle.station_line.specs.Init as bench
 use Rattle.station_line.specs.Validating.{HasJournal}
-use Rattle.station_line.specs.Site.{switched_on, HoldsSite}
+use Rattle.station_line.specs.Site.{switched_on}
 use Rattle.wire_faults.specs.declared.faults.WireFault.{WireFault}
 use Rattle.wire_faults.specs.declared.faults.WireFault.TheVariants as wire
 use Rattle.wire_scan.specs.Backup.{IsWithoutPast}
@@ -18,23 +17,12 @@ use Rattle.wire_scan.specs.Keeping.{AreOfImages}
 use Rattle.wire_scan.specs.Opening.{IsFound}
 use Rattle.wire_scan.specs.declared.asked.Mend.{Mend}
 use Rattle.site_wire.specs.declared.device.WireLog.{WireLog}
+use Rattle.script_session.specs.After.{SavesRecovered}
 use Rattle.wire_session.specs.declared.logs.Worked.{Worked}
-use Rattle.wire_session.specs.Ending.{Ends, EndsOpened}
+use Rattle.wire_session.specs.Ending.{EndsOpened}
 use Rattle.wire_session.specs.Slaves.{SlavesHold}
 
--- The files hold the state of a complete recovery of this site, and so do the slaves.
-pub record SavesRecovered (Hold : Station → Type 0) (files : Known) (line : LineFile) (before : Seen) : Type 0 where
-  pub s : Station
-  pub recovered : HasRecovered s
-  pub begins : BeginsRecovered before s
-  pub held : HoldsSite files line s.seen.state
-  pub slaves : Hold s
-
 -- If the result is `Ok`, the files hold the state of a complete recovery of this site, and so do the slaves.
-abbrev pub EndsRecovery : (Station → Type 0) → Result (Unit {0}) WireFault → Known → Known → LineFile → Seen → Type 0
-EndsRecovery Hold result old new line before = Ends (λ done. SavesRecovered Hold new line before) result old new line
-
--- the same from before the files of the line were opened
 abbrev pub EndsOpenedRecovery : (Station → Type 0) → Result (Unit {0}) WireFault → Known → Known → LineFile → Seen → Type 0
 EndsOpenedRecovery Hold result old new line before = EndsOpened (λ done. SavesRecovered Hold new line before) result old new line
 

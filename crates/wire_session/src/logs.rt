@@ -1,16 +1,43 @@
 //! What is reported of the devices of a line on a wire.
-ghost use Rattle.std.specs.Prelude.{◌≡◌, Err, None, IsTrue};
+ghost use Rattle.std.specs.Prelude.{◌≡◌, Err, Ok, None, IfOk, IfSome, IsTrue};
+ghost use Rattle.script_session.specs.Running.{whole_of};
 ghost use Rattle.wire_faults.specs.declared.faults.WireFault.TheVariants as wire;
 ghost use Rattle.wire_session.specs.Slaves.{AreOfParts, AreOfSlaves};
 
-use script_session::{DeskLog, LineLog, PartLog};
+use script_session::{DeskLog, LineLog, PartLog, RunLog};
 use site_shadow::LinePart;
 use site_wire::TellsPart;
-use station_files::Fault;
+use station_files::{ExitStatus, Fault};
 use wire_faults::WireFault;
 
+/// How work on a line ended, and what is reported of its devices, if all of it is. `Unserved` where a part's device isn't reported as its own.
+pub(crate) fn of_own_parts<D: TellsPart>(
+    ended: Result<ExitStatus, WireFault>,
+    reported: RunLog<D::Logged>,
+) -> Worked<ExitStatus, D::Logged>
+    ensures own { IfSome result.reported (λ reported. AreOfParts D.is_of reported.desk) }
+    ensures ended { IfOk result.ended (λ status. (ended ≡ Ok status) × (result.reported ≡ whole_of reported.desk reported.after)) }
+{
+    match reported.whole() {
+        Some(whole) => {
+            if !are_of_parts::<D>(&whole.desk) {
+                drop(whole);
+                return Worked::of_fault(Fault::Unserved);
+            }
+            Worked {
+                ended,
+                reported: Some(whole),
+            }
+        }
+        None => Worked {
+            ended,
+            reported: None,
+        },
+    }
+}
+
 /// Whether this is reported of the devices of the disk's part and of each slave's, each of its own.
-pub(crate) fn are_of_parts<D: TellsPart>(reported: &DeskLog<D::Logged>) -> bool
+fn are_of_parts<D: TellsPart>(reported: &DeskLog<D::Logged>) -> bool
     ensures { IsTrue result → AreOfParts D.is_of reported.now }
 {
     D::is_reported_of(&reported.disk.reported, LinePart::Disk)

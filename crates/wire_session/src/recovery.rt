@@ -1,24 +1,26 @@
 //! The subcommand `recover`.
-ghost use Rattle.std.specs.Prelude.{◌≡◌, ◌≤◌, false, length, IfSome, IsSomeAnd, IsTrue};
+ghost use Rattle.std.specs.Prelude.{◌≡◌, ◌≤◌, false, length, IfOk, IfSome, IsSomeAnd, IsTrue};
 ghost use Rattle.esc_rom.specs.Owned.{OwnsAll};
-ghost use Rattle.station_line.specs.Site.{switched_on};
-ghost use Rattle.wire_session.specs.Recovery.{EndsOpenedRecovery, EndsRecovery, Recovers};
+ghost use Rattle.station_files.specs.Files.{ChangesAmong};
+ghost use Rattle.station_line.specs.Site.{files_of, switched_on};
+ghost use Rattle.script_session.specs.After.{SavesRecovered};
+ghost use Rattle.wire_session.specs.Recovery.{EndsOpenedRecovery, Recovers};
 ghost use Rattle.script_session.specs.Running.{EndsReported};
 ghost use Rattle.wire_session.specs.Slaves.{AreOfParts, SlavesHold};
 ghost use Rattle.wire_session.specs.Reporting.{IsPrinted};
 
 use crate::as_found::AsFound;
 use crate::followed::followed;
-use crate::logs::Worked;
-use crate::redoing::{ByThreads, recover_by_threads};
+use crate::logs::{Worked, of_own_parts};
 use crate::reporting::{report_end, tell_why};
+use crate::running::end_of;
 use line_changes::Before;
-use script_session::{LineLog, save_reported};
+use script_session::{LineRun, recover_by_threads};
 use sii_words::Plant;
 use site_shadow::ShadowSite;
 use site_wire::{LiveLine, LockedLine, TellsPart, WireLog};
 use station_alone::Recovered;
-use station_files::{Fault, Store};
+use station_files::{ExitStatus, Fault, Store};
 use station_line::{site_of, write_recovered};
 use station_text::LineFile;
 use std::alloc::{AllocError, Global};
@@ -164,8 +166,8 @@ fn recover_opened<
     }
 }
 
-/// Recovers a line, and saves what its slaves hold to their image files. `Unserved` where something has failed that the device was asked, though
-/// the recovery heard of nothing.
+/// Recovers a line by threads, saves what its slaves hold to their image files, and prints what was recovered. `Unserved` where a part's device isn't
+/// reported as its own.
 fn recover_site<R: Wait + Threads + AllocGlobal + Sync, D: TellsPart + Send, S: Store, O: Write>(
     rt: &R,
     line: &LineFile,
@@ -176,42 +178,39 @@ fn recover_site<R: Wait + Threads + AllocGlobal + Sync, D: TellsPart + Send, S: 
     requires disk { IsTrue site.line.has_disk }
     requires owned { OwnsAll site.line }
     ensures own { IfSome result.reported (λ reported. AreOfParts D.is_of reported.desk) }
-    ensures recovers { EndsRecovery
-        (λ s. IsSomeAnd result.reported (λ reported. EndsReported D.follows D.well D.tells false site (length line.now.images.items) reported s.seen))
-        result.ended (S.files store.old) (S.files store.new) line.now site.seen }
+    ensures others { ChangesAmong (S.files store.old) (S.files store.new) (files_of line.now) }
+    ensures saved { IfOk result.ended (λ done. SavesRecovered (λ s. IsSomeAnd result.reported (λ reported.
+        EndsReported D.follows D.well D.tells false site (length line.now.images.items) reported s.seen)) (S.files store.new) line.now site.seen) }
 {
-    match recover_by_threads(rt, site, line.images.len()) {
-        Ok(redone) => {
-            let ByThreads {
-                alone,
-                recovered,
-                reported: desk,
-            } = redone;
-            let (core, left) = alone.into_parts();
-            drop(core);
-            let (saved, after) = save_reported(rt.alloc(), line, left, store);
-            Worked {
-                ended: print_saved(saved, recovered, output),
-                reported: Some(LineLog { desk, after }),
-            }
-        }
-        Err(fault) => Worked::of_fault(fault),
+    let LineRun {
+        answers,
+        closed,
+        ended,
+        recovered,
+        reported,
+    } = recover_by_threads(rt, line, site, store);
+    let Worked { ended, reported } = of_own_parts::<D>(end_of(answers, closed, ended), reported);
+    Worked {
+        ended: print_recovered(ended, recovered, output),
+        reported,
     }
 }
 
-/// Prints what was recovered, if that was saved.
-fn print_saved<O: Write>(
-    saved: Result<(), Fault>,
-    recovered: Recovered,
+/// Prints what was recovered, if the work ended without a fault.
+fn print_recovered<O: Write>(
+    ended: Result<ExitStatus, WireFault>,
+    recovered: Option<Recovered>,
     output: &mut O,
 ) -> Result<(), WireFault>
-    ensures { IsPrinted saved result }
+    ensures { IsPrinted ended result }
 {
-    match saved {
-        Ok(()) => {
-            write_recovered(recovered, output)?;
+    match ended {
+        Ok(_) => {
+            if let Some(recovered) = recovered {
+                write_recovered(recovered, output)?;
+            }
             Ok(())
         }
-        Err(fault) => Err(WireFault::Station(fault)),
+        Err(fault) => Err(fault),
     }
 }

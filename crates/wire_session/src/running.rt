@@ -17,7 +17,7 @@ ghost use Rattle.wire_session.specs.Slaves.{AreOfParts};
 use crate::as_found::AsFound;
 use crate::expecting::expect_words;
 use crate::followed::followed;
-use crate::logs::{Worked, are_of_parts};
+use crate::logs::{Worked, of_own_parts};
 use crate::reporting::{report_end, tell_handed, tell_why};
 use line_changes::Before;
 use line_watch::Watch;
@@ -86,7 +86,8 @@ pub fn run_script<
     store: &mut S,
     output: &mut O,
 ) -> Worked<ExitStatus, WireLog>
-    ensures { RunsScript result order.entry.asked.mends S.leads (S.files store.old) (S.files store.new) order.entry.named.line.now order.entry.named.script.now }
+    ensures { RunsScript result order.entry.asked.mends S.leads (S.files store.old) (S.files store.new)
+        order.entry.named.line.now order.entry.named.script.now }
 {
     let mut wire = wire;
     match find_all(watch.rt, &mut wire, order, store) {
@@ -115,7 +116,8 @@ pub(crate) fn find_all<R: Clock + AllocGlobal, W: Wire, S: Store>(
     ensures most { IfOk result (λ given. length given.found.slaves.items ≤ 64) }
     ensures spelt { IfOk result (λ given. BeginsWithMends (S.files store.old) given.found.line order.entry.asked.mends given.found.journal.items
         given.found.slaves.items order.entry.named.script.now given.commands.items) }
-    ensures kept { IfOk result (λ given. AreOfImages (S.files store.old) given.found.line order.entry.asked.mends given.found.journal.items given.found.slaves.items) }
+    ensures kept { IfOk result (λ given. AreOfImages (S.files store.old) given.found.line order.entry.asked.mends given.found.journal.items
+        given.found.slaves.items) }
     ensures images { IfOk result (λ given. length given.found.images.items ≡ length given.found.slaves.items) }
     ensures separate { IfOk result (λ given.
         IsRunSeparate S.leads given.found.line order.entry.named.line.now order.entry.named.script.now) }
@@ -321,36 +323,21 @@ fn run_site<R: Wait + Threads + AllocGlobal + Sync, D: TellsPart + Send, S: Stor
     ensures own { IfSome result.reported (λ reported. AreOfParts D.is_of reported.desk) }
     ensures others { ChangesAmong (S.files store.old) (S.files store.new) (files_of line.now) }
     ensures saved { IfOk result.ended (AnswersGive (SavesSite (λ last. IsSomeAnd result.reported (λ reported.
-        EndsReported D.follows D.well D.tells task.turns start.site (length line.now.images.items) reported last)) (S.files store.new) line.now
+        EndsReported D.follows D.well D.tells task.turns start.site (length line.now.images.items) reported last.seen)) (S.files store.new) line.now
         start.site task.work.commands.items)) }
 {
     let LineRun {
         answers,
         closed,
         ended,
+        recovered: _,
         reported,
     } = run_line(rt, line, start, task, store, output);
-    let ended = end_of(answers, closed, ended);
-    match reported.whole() {
-        Some(whole) => {
-            if !are_of_parts::<D>(&whole.desk) {
-                drop(whole);
-                return Worked::of_fault(Fault::Unserved);
-            }
-            Worked {
-                ended,
-                reported: Some(whole),
-            }
-        }
-        None => Worked {
-            ended,
-            reported: None,
-        },
-    }
+    of_own_parts::<D>(end_of(answers, closed, ended), reported)
 }
 
 /// How a run ended: with the exit status that its answers give, or a fault, that of its desk first.
-fn end_of(
+pub(crate) fn end_of(
     answers: Answered,
     closed: Result<(), Fault>,
     ended: Result<Answered, Fault>,

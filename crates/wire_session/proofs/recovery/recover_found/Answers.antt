@@ -2,7 +2,7 @@ use Rattle.std.specs.Prelude.{IsSomeAnd}
 use Rattle.wire_session.specs.Slaves.{SlavesHold}
 use Rattle.station_files.specs.Files.{Known}
 use Rattle.station_line.specs.Site.{switched_on}
-use Rattle.wire_session.specs.Recovery.{SavesRecovered}
+use Rattle.script_session.specs.After.{SavesRecovered}
 use Rattle.wire_session.proofs.Endings.{ends_as_reported}
 use Rattle.wire_session.proofs.recovery.recover_found.Goals as goal
 

@@ -10,7 +10,7 @@ use Rattle.wire_session.proofs.RunEnds.{reported_own}
 use Rattle.wire_session.proofs.Mirrored.{device_in, follows_in, tells_in, well_in}
 use Rattle.wire_session.proofs.SlavesHeld.{slaves_hold}
 use Rattle.station_line.specs.Site.{switched_on}
-use Rattle.wire_session.specs.Recovery.{SavesRecovered}
+use Rattle.script_session.specs.After.{SavesRecovered}
 use Rattle.station_files.specs.declared.faults.Fault.TheVariants.{Memory}
 use Rattle.wire_faults.specs.declared.faults.WireFault.TheVariants as wire
 use Rattle.wire_session.proofs.Endings.{opened_refused}
@@ -30,7 +30,7 @@ returns-in-Ok-site_of g c =
     (λ s recovered way. reported_own {Q = SlavesHold c.args.found.slaves.now s} c.recover_site.result.reported c.recover_site.ensures.own
     (λ reported own ends. slaves_hold device_in false c.in-Ok-site_of.site count s reported (ap (λ (seen : Seen). seen.past) c.in-Ok-site_of.ensures.seen) ends own c.args.found.slaves.now c.args.found.journal.items
     c.in-Ok-site_of.ensures.seen c.in-Ok-site_of.ensures.sizes (sym c.requires.count) recovered) way)
-    c.recover_site.ensures.recovers
+    c.recover_site.ensures.others c.recover_site.ensures.saved
 
 pub returns : goal.returns
 returns g c =

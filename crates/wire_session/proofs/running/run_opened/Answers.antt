@@ -28,7 +28,7 @@ run_site-requires-clause-old g c κs lives =
 pub returns-in-Ok-site_of : goal.returns-in-Ok-site_of
 returns-in-Ok-site_of g c =
     let count = length c.args.found.line.now.images.items in
-    ends_found (λ last. IsSomeAnd c.run_site.result.reported (λ reported. EndsReported follows_in well_in tells_in c.args.task.turns c.in-Ok-site_of.site count reported last))
+    ends_found (λ last. IsSomeAnd c.run_site.result.reported (λ reported. EndsReported follows_in well_in tells_in c.args.task.turns c.in-Ok-site_of.site count reported last.seen))
     c.run_site.result (g.S.Store.files c.args.store.now) (g.S.Store.files c.open_line.new.store) (g.S.Store.files c.run_site.new.store)
     c.args.found.line.now c.args.found.slaves.now c.args.found.journal.items c.in-Ok-site_of.site c.args.task.work.commands.items c.open_line.ensures.others
     c.in-Ok-site_of.ensures

@@ -1,21 +1,14 @@
-use Rattle.std.proofs.Common.{◌∙◌, None, Some, length, sym}
+use Rattle.std.proofs.Common.{length}
 use Rattle.std.specs.Prelude.{IsSomeAnd}
 use Rattle.script_session.specs.Running.{EndsReported}
 use Rattle.wire_session.proofs.RunEnds.{saves_run}
 use Rattle.wire_session.proofs.running.run_site.Goals as goal
 
-pub returns-else-not-are_of_parts-clause-saved : goal.returns-else-not-are_of_parts-clause-saved
-returns-else-not-are_of_parts-clause-saved g c =
+pub returns-clause-saved : goal.returns-clause-saved
+returns-clause-saved g c =
     let ran = c.run_line-answers in
-    saves_run (λ told last. IsSomeAnd told (λ reported.
-    EndsReported g.D.Device.follows g.D.Device.well g.D.Lends.tells c.args.task.turns c.args.start.site (length c.args.line.now.images.items) reported last))
-    ran.result (Some c.in-Some.whole) c.end_of-ended.result (g.S.Store.files ran.new.store) c.args.line.now c.args.start.site c.args.task.work.commands.items
-    (sym c.in-Some.is ∙ c.whole.ensures) c.end_of-ended.ensures.closed c.end_of-ended.ensures.ended ran.ensures.saved
-
-pub returns-in-None-clause-saved : goal.returns-in-None-clause-saved
-returns-in-None-clause-saved g c =
-    let ran = c.run_line-answers in
-    saves_run (λ told last. IsSomeAnd told (λ reported.
-    EndsReported g.D.Device.follows g.D.Device.well g.D.Lends.tells c.args.task.turns c.args.start.site (length c.args.line.now.images.items) reported last))
-    ran.result None c.end_of-ended.result (g.S.Store.files ran.new.store) c.args.line.now c.args.start.site c.args.task.work.commands.items
-    (sym c.in-None.is ∙ c.whole.ensures) c.end_of-ended.ensures.closed c.end_of-ended.ensures.ended ran.ensures.saved
+    let own = c.of_own_parts in
+    saves_run (λ told s. IsSomeAnd told (λ reported.
+    EndsReported g.D.Device.follows g.D.Device.well g.D.Lends.tells c.args.task.turns c.args.start.site (length c.args.line.now.images.items) reported s.seen))
+    ran.result own.result.reported c.end_of.result own.result.ended (g.S.Store.files ran.new.store) c.args.line.now c.args.start.site c.args.task.work.commands.items
+    c.end_of.ensures.closed c.end_of.ensures.ended own.ensures.ended ran.ensures.saved
