@@ -1,7 +1,6 @@
 -- The laws of a station on files, from those of the files and of the station.
 use Rattle.std.proofs.Common.{◌≡◌, ◌∙◌, ℕ, List, [], ◌++◌, length, Option, Some, None, slice_get, is_some, IsTrue, refl, sym, ap}
 use Rattle.std.proofs.Common.{subst}
-use Rattle.std.proofs.lemmas.List.{append_cancel_left}
 use Rattle.std.proofs.lemmas.Option.{slice_get-map}
 use Rattle.std.specs.Option.{option_map}
 use Rattle.esc_model.specs.SlaveHalf.{SlaveHalf}
@@ -46,8 +45,7 @@ pub site_has_files : (F : Type 0) → SiteHasFiles F
 site_has_files F device calls seen is_sound follows log sound =
     let files : FilesFollow 0 (has_file (first_of seen)) (holding (first_of seen)) device seen =
     site_is_followed F device seen follows (has_file (first_of seen)) (holding (first_of seen)) (holds_state (first_of seen)) in
-    let same : calls_of files.pieces ++ files.last ≡ calls =
-    append_cancel_left device.asking.calls.begun.value (calls_of files.pieces ++ files.last) calls (sym files.has ∙ log) in
+    let same : calls_of files.pieces ++ files.last ≡ calls = sym files.has ∙ log in
     subst (λ (c : List Asked). FilesOf c seen is_sound) same
     (record {
       leave = left_since (has_file (first_of seen)) (holding (first_of seen)) device seen files;

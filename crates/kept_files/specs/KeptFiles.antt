@@ -9,7 +9,6 @@ use Rattle.site_file.specs.declared.asking.LineFile.{LineFile}
 use Rattle.site_file.specs.declared.asking.LineFile.TheVariants.{Journal, Image}
 use Rattle.site_file.specs.declared.files.FileDevice.{FileDevice}
 use Rattle.site_file.specs.declared.asking.Asked.{Asked}
-use Rattle.site_file.specs.Asking.{HasLog}
 use Rattle.site_file.specs.Following.{Follows}
 use Rattle.site_file.specs.Files.{File, IsBytes, sound, image_of, BecomesBy}
 use Rattle.site_file.specs.Held.{of_file}
@@ -68,7 +67,7 @@ KeepsFiles before calls = (machine : Machine) → LeavesOnly (KeptFor machine) b
 pub record KeepsOn (F : Type 0) (before now : Seen) : Type 0 where
   pub device : FileDevice F
   pub calls : List Asked
-  pub log : HasLog device.asking.calls calls
+  pub log : device.log.calls ≡ calls
   pub keeps : KeepsFiles before.state calls
   pub hold : device.has_failed ≡ false → ¬ IsTrue now.is_stopped → BecomeOnly (Holds now.state) before.state calls
 
@@ -101,7 +100,7 @@ pub record LeaveNext (machine : Machine) (commands : List Command) (before : Sta
 pub record KeepsOnServing (F : Type 0) (commands : List Command) (before now : Seen) : Type 0 where
   pub device : FileDevice F
   pub calls : List Asked
-  pub log : HasLog device.asking.calls calls
+  pub log : device.log.calls ≡ calls
   pub kept : (machine : Machine) → LeavesOnly (KeptFor machine) before.state → LeaveNext machine commands before.state calls
   pub hold : device.has_failed ≡ false → ¬ IsTrue now.is_stopped → BecomeOnly (Holds now.state) before.state calls
 
@@ -115,7 +114,7 @@ HasContents book (Image slave) file = (words : List ℕ) × (slice_get (base_of 
 -- The files behind a site, by what its device keeps of it.
 abbrev pub SiteHasFiles : Type 0 → Type 0
 SiteHasFiles F = (device : FileDevice F) (calls : List Asked) (seen : Seen) (is_sound : Bool) → Follows device seen
-    → HasLog device.asking.calls calls → (IsTrue is_sound → (device.has_failed ≡ false) × ¬ IsTrue seen.is_stopped)
+    → device.log.calls ≡ calls → (IsTrue is_sound → (device.has_failed ≡ false) × ¬ IsTrue seen.is_stopped)
     → FilesOf calls seen is_sound
 
 -- What was kept for a machine before the calls of a station, and throughout them, a power cut leaves in the files.

@@ -1,6 +1,6 @@
 -- The laws of a station whose line is on a wire, from those of its device and of the station.
 use Rattle.std.proofs.Common.{◌≡◌, ◌∙◌, ℕ, ◌<◌, zero, suc, true, false, List, [], ◌∷◌, ◌++◌, length, take, Some, slice_get, IsTrue, refl, sym, ap, subst, arith}
-use Rattle.std.proofs.lemmas.List.{append_cancel_left, length-map}
+use Rattle.std.proofs.lemmas.List.{length-map}
 use Rattle.std.proofs.lemmas.Option.{slice_get_within, slice_get-map}
 use Rattle.std.specs.Option.{option_map}
 use Rattle.jrn_format.specs.declared.journal.Journal.{Journal}
@@ -59,8 +59,7 @@ module _ {L F C : Type 0} where
         → BecomesBy (of_file JournalFile (asked_by done.all)) file mid → HoldsDisk seen.state.disk mid
     journal_after going running file mid holds becomes =
         let files = journal_is_followed L F C device seen follows (λ name. file) (subst (λ (s : State). HoldsDisk s.disk file) (sym from_first) holds) in
-        let same : calls_of files.pieces ++ files.last ≡ asked_by done.all =
-        append_cancel_left device.journal.asking.calls.begun.value (calls_of files.pieces ++ files.last) (asked_by done.all) (sym files.has ∙ done.asked) in
+        let same : calls_of files.pieces ++ files.last ≡ asked_by done.all = sym files.has ∙ done.asked in
         files.holds (follows.sound going) (runs_on running) JournalFile mid refl
         (subst (λ (l : List Asked). BecomesBy (of_file JournalFile l) file mid) (sym same) becomes)
 

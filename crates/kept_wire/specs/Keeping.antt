@@ -8,7 +8,6 @@ use Rattle.site_core.specs.Passes.{LeavesOnly}
 use Rattle.site_shadow.specs.Following.{first_of}
 use Rattle.site_file.specs.declared.asking.LineFile.{LineFile}
 use Rattle.site_file.specs.declared.asking.LineFile.TheVariants.{Journal as JournalFile}
-use Rattle.site_file.specs.Asking.{HasLog}
 use Rattle.site_file.specs.Files.{File, IsBytes, BecomesBy}
 use Rattle.site_file.specs.Held.{is_same, of_file}
 use Rattle.site_file.specs.AllFiles.{Holds, HoldsDisk, FilesFollow}
@@ -114,19 +113,19 @@ pub record DeskIsCut {F S : Type 0} {seen : S → Seen} {flusher : Stay S (List 
 abbrev pub SiteKeepsOnWire : (L F C : Type 0) → Type 0
 SiteKeepsOnWire L F C = (device : WireDevice L F C) (before now : Seen) → WireFollows device now → before.past ≡ [] → first_of now ≡ before.state
     → KeepsThroughout before now
-    → (keeps : KeepsOnWire before now) × HasLog device.journal.asking.calls (asked_by keeps.all) × HasSent device.sender.log.all (sent_by keeps.all)
+    → (keeps : KeepsOnWire before now) × (device.journal.log.calls ≡ asked_by keeps.all) × HasSent device.sender.log.all (sent_by keeps.all)
 
 -- The same of a station that was opened there and accepted these commands.
 abbrev pub SiteServesOnWire : (L F C : Type 0) → Type 0
 SiteServesOnWire L F C = (device : WireDevice L F C) (commands : List Command) (before now : Seen) → WireFollows device now → before.past ≡ []
     → first_of now ≡ before.state → KeepsServing commands before now
-    → (keeps : ServesOnWire commands before now) × HasLog device.journal.asking.calls (asked_by keeps.all)
+    → (keeps : ServesOnWire commands before now) × (device.journal.log.calls ≡ asked_by keeps.all)
     × HasSent device.sender.log.all (sent_by keeps.all)
 
 -- The device of a slave's part.
 abbrev pub PartIsOnWire : (L F C : Type 0) → Type 0
 PartIsOnWire L F C = (device : WireDevice L F C) (start end : Seen) → WireFollows device end → first_of end ≡ start.state
-    → (part : SlaveOnWire start end) × HasLog device.journal.asking.calls (asked_by part.all) × HasSent device.sender.log.all (sent_by part.all)
+    → (part : SlaveOnWire start end) × (device.journal.log.calls ≡ asked_by part.all) × HasSent device.sender.log.all (sent_by part.all)
 
 -- The device of the disk's part.
 abbrev pub DiskIsOnFile : (L F C : Type 0) → Type 0

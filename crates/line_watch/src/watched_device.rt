@@ -171,13 +171,15 @@ impl<'p, D: Lends, T: Write, R: Clock> Lends for Watched<'p, D, T, R> {
 
     ghost tells = { λ watched. D.tells watched.device };
 
+    ghost is_of = { D.is_of };
+
     fn lend(&mut self, part: LinePart) -> Self {
         Watched::new(self.device.lend(part), self.progress, self.rt)
     }
 
-    fn take_back(&mut self, lent: Self) -> D::Logged {
+    fn take_back(&mut self, lent: Self, part: LinePart) -> D::Logged {
         let Watched { device, .. } = lent;
-        self.device.take_back(device)
+        self.device.take_back(device, part)
     }
 
     fn tell(&mut self) -> D::Logged {

@@ -26,8 +26,7 @@ use Rattle.site_file.specs.declared.asking.LineFile.{LineFile}
 use Rattle.site_file.specs.declared.asking.LineFile.TheVariants.{Journal, Image}
 use Rattle.site_file.specs.declared.files.FileDevice.{FileDevice}
 use Rattle.site_file.specs.Calls.{Asked, asked, writes, syncs}
-use Rattle.site_file.specs.declared.asking.Log.{Log}
-use Rattle.site_file.specs.Asking.{HasLog, Asks}
+use Rattle.site_file.specs.Asking.{Asks}
 use Rattle.site_file.proofs.SeveralCalls.{asks_nothing, goes_on as log_goes_on}
 use Rattle.site_file.specs.Device as device
 use Rattle.site_file.specs.Files.{File, IsBytes, sound, image_of, BecomesBy, MayBeLeft}
@@ -149,7 +148,7 @@ towards_on owned old new time images extends within shown = (shown.0, Extends-to
 
 module _ {F : Type 0} (since : ℕ) (owned : LineFile → Bool) (begun : LineFile → File) where
   -- nothing more is asked, and no more is said of later times
-  pub stays : (old new : Seen) (d later : FileDevice F) → later.asking.calls ≡ d.asking.calls
+  pub stays : (old new : Seen) (d later : FileDevice F) → later.log.calls ≡ d.log.calls
       → (later.has_failed ≡ false → ¬ IsTrue new.is_stopped → ⊥) → Extends old new
       → FilesFollow since owned begun d old → FilesFollow since owned begun later new
   stays old new d later same over extends follows =
@@ -157,7 +156,7 @@ module _ {F : Type 0} (since : ℕ) (owned : LineFile → Bool) (begun : LineFil
       record {
         pieces = follows.pieces;
         last = follows.last;
-        has = subst (λ (n : Log). HasLog n (calls_of follows.pieces ++ follows.last)) (sym same) follows.has;
+        has = same ∙ follows.has;
         few = (let on : clock old ≤ clock new = Extends-clock old new extends in omega (arith, few, on));
         all = λ sound_yet going. absurd (over sound_yet going);
         leaves = λ place piece images bytes is left.
@@ -172,7 +171,7 @@ module _ {F : Type 0} (since : ℕ) (owned : LineFile → Bool) (begun : LineFil
 
   -- it asks this
   pub asks_more : (old new : Seen) (d later : FileDevice F) (calls : List Asked) → d.has_failed ≡ false → old.is_stopped ≡ false
-      → Asks d.asking.calls later.asking.calls calls → Extends old new
+      → Asks d.log.calls later.log.calls calls → Extends old new
       → ((files : LineFile → File) (images : LineFile → List ℕ) → ((name : LineFile) → IsBytes (images name))
       → ((name : LineFile) → IsTrue (owned name) → Holds old.state name (files name)) → AreLeft calls files images
       → ShowOne owned (LeftTowards new (clock new)) images)
@@ -191,7 +190,7 @@ module _ {F : Type 0} (since : ℕ) (owned : LineFile → Bool) (begun : LineFil
           → Holds old.state name file
       held name file is_owned becomes = follows.holds going not_stopped name file is_owned becomes
 
-      log : HasLog later.asking.calls ((calls_of follows.pieces ++ follows.last) ++ calls)
+      log : later.log.calls ≡ (calls_of follows.pieces ++ follows.last) ++ calls
       log = log_goes_on asks (calls_of follows.pieces ++ follows.last) follows.has
 
       holds_all : later.has_failed ≡ false → ¬ IsTrue new.is_stopped → (name : LineFile) (file : File) → IsTrue (owned name)
@@ -266,7 +265,7 @@ module _ {F : Type 0} (since : ℕ) (owned : LineFile → Bool) (begun : LineFil
           record {
             pieces = follows.pieces ++ follows.last ∷ [];
             last = calls;
-            has = subst (λ (l : List Asked). HasLog later.asking.calls (l ++ calls)) (sym all_before) log;
+            has = log ∙ ap (λ (l : List Asked). l ++ calls) (sym all_before);
             few = omega (arith, there);
             all = λ sound_yet goes. there;
             leaves = λ place piece images bytes is left.
@@ -289,7 +288,7 @@ module _ {F : Type 0} (since : ℕ) (owned : LineFile → Bool) (begun : LineFil
           record {
             pieces = follows.pieces;
             last = follows.last ++ calls;
-            has = subst (λ (l : List Asked). HasLog later.asking.calls l) joined log;
+            has = log ∙ joined;
             few = omega (arith, there);
             all = λ sound_yet goes. there;
             leaves = early;
@@ -317,7 +316,7 @@ module _ {F : Type 0} (since : ℕ) (owned : LineFile → Bool) (begun : LineFil
       by true stopped failed is = stays old new d d refl (λ sound_yet going. absurd (let e : true ≡ false = sym failed ∙ sound_yet in cc)) goes.extends follows
       by false true failed is = stays old new d d refl (λ sound_yet going. going (goes.extends.stopped is)) goes.extends follows
       by false false failed is =
-          asks_more old new d d [] failed is (asks_nothing d.asking.calls)
+          asks_more old new d d [] failed is (asks_nothing d.log.calls)
           goes.extends
           (λ files images bytes holds left.
           let shown = left_at_first old.state owned files holds images left in (shown.0, Extends-now old new shown.0 goes.extends shown.1, shown.2))
@@ -325,7 +324,7 @@ module _ {F : Type 0} (since : ℕ) (owned : LineFile → Bool) (begun : LineFil
           keeps_holding old.state new.state (goes.kept going) name file (subst (λ (f : File). Holds old.state name f) (sym becomes) holds)) follows
 
   -- it asks nothing more, since a call on a file has failed
-  pub over : (old new : Seen) (d later : FileDevice F) → later.asking.calls ≡ d.asking.calls → IsTrue later.has_failed → Extends old new
+  pub over : (old new : Seen) (d later : FileDevice F) → later.log.calls ≡ d.log.calls → IsTrue later.has_failed → Extends old new
       → FilesFollow since owned begun d old → FilesFollow since owned begun later new
   over old new d later same failed extends follows =
       stays old new d later same (λ sound_yet going. absurd (let e : true ≡ false = sym failed ∙ sound_yet in cc)) extends follows
@@ -388,7 +387,7 @@ module _ {F : Type 0} (since : ℕ) (owned : LineFile → Bool) (begun : LineFil
   write_asked : (old new : Seen) (d later : FileDevice F) (at : ℕ) (bytes : List ℕ) (given : Result (Unit {0}) DeviceFault) (done : Bool)
       → at ≤ length old.state.disk.bytes → old.is_stopped ≡ false → WritesDisk old at bytes given new → d.has_failed ≡ false
       → (done ≡ true → IsErrOf given faults.Disk → ⊥) → (done ≡ false → later.has_failed ≡ true)
-      → Asks d.asking.calls later.asking.calls (asked Journal (writes at bytes) done ∷ [])
+      → Asks d.log.calls later.log.calls (asked Journal (writes at bytes) done ∷ [])
       → FilesFollow since owned begun d old → FilesFollow since owned begun later new
   write_asked old new d later at bytes given done inside running wrote going passes fails asks follows =
       let calls : List Asked = asked Journal (writes at bytes) done ∷ [] in
@@ -414,7 +413,7 @@ module _ {F : Type 0} (since : ℕ) (owned : LineFile → Bool) (begun : LineFil
       → IsReported old.faults passing given → device.CallsJournal (writes at bytes) d passing later
       → FilesFollow since owned begun d old → FilesFollow since owned begun later new
   write_step old new d later at bytes passing given inside running wrote passes (device.over failed stops same) follows =
-      over since owned begun old new d later (ap (λ (x : FileDevice F). x.asking.calls) same)
+      over since owned begun old new d later (ap (λ (x : FileDevice F). x.log.calls) same)
       (subst (λ (x : FileDevice F). IsTrue x.has_failed) (sym same) refl) (Extends-by old new wrote.middle given wrote.call) follows
   write_step old new d later at bytes passing given inside running wrote passes (device.passes going asks passed going_on) follows =
       write_asked old new d later at bytes given true inside running wrote going (λ done. reported_well old.faults passing given passes passed) (λ e. absurd cc) asks follows
@@ -454,7 +453,7 @@ module _ {F : Type 0} (since : ℕ) (owned : LineFile → Bool) (begun : LineFil
   sync_asked : (old new : Seen) (d later : FileDevice F) (given : Result (Unit {0}) DeviceFault) (done : Bool)
       → old.is_stopped ≡ false → SyncsDisk old given new → d.has_failed ≡ false
       → (done ≡ true → IsErrOf given faults.Disk → ⊥) → (done ≡ false → later.has_failed ≡ true)
-      → Asks d.asking.calls later.asking.calls (asked Journal syncs done ∷ [])
+      → Asks d.log.calls later.log.calls (asked Journal syncs done ∷ [])
       → FilesFollow since owned begun d old → FilesFollow since owned begun later new
   sync_asked old new d later given done running syncs_it going passes fails asks follows =
       let calls : List Asked = asked Journal syncs done ∷ [] in
@@ -481,7 +480,7 @@ module _ {F : Type 0} (since : ℕ) (owned : LineFile → Bool) (begun : LineFil
       → IsReported old.faults passing given → device.CallsJournal syncs d passing later
       → FilesFollow since owned begun d old → FilesFollow since owned begun later new
   sync_step old new d later passing given running syncs_it passes (device.over failed stops same) follows =
-      over since owned begun old new d later (ap (λ (x : FileDevice F). x.asking.calls) same)
+      over since owned begun old new d later (ap (λ (x : FileDevice F). x.log.calls) same)
       (subst (λ (x : FileDevice F). IsTrue x.has_failed) (sym same) refl) (Extends-by old new [] given syncs_it.call) follows
   sync_step old new d later passing given running syncs_it passes (device.passes going asks passed going_on) follows =
       sync_asked old new d later given true running syncs_it going (λ done. reported_well old.faults passing given passes passed) (λ e. absurd cc) asks follows

@@ -1,5 +1,5 @@
 -- A device of files follows the site through each call.
-use Rattle.std.proofs.Common.{◌≡◌, ◌↔◌, ℕ, Bool, true, false, not, ◌||◌, List, [], Option, Some, None, IsTrue, refl, sym, ap, subst, ◌∙◌}
+use Rattle.std.proofs.Common.{◌≡◌, ◌↔◌, ℕ, Bool, true, false, List, [], Option, Some, None, IsTrue, refl, sym, ap, subst, ◌∙◌}
 use Rattle.esc_model.specs.declared.rest.WordWrite.{WordWrite}
 use Rattle.esc_model.specs.SlaveHalf.{SlaveHalf, in_flight}
 use Rattle.esc_model.specs.Datagrams.{served_datagram}
@@ -16,7 +16,6 @@ use Rattle.site_shadow.specs.declared.pattern.Pattern.{Pattern}
 use Rattle.site_shadow.proofs.Asked.{ask_keeps, exchange_keeps, taken_keeps}
 use Rattle.site_file.specs.declared.files.FileDevice.{FileDevice}
 use Rattle.site_file.specs.Calls.{Call, tells_length, writes, syncs}
-use Rattle.site_file.specs.Asking.{HasLog}
 use Rattle.site_file.specs.Device as device
 use Rattle.site_file.specs.Device.{CallsJournal, AsksLength, ReadsJournal, Rests}
 use Rattle.site_file.specs.Following as following
@@ -49,7 +48,7 @@ same_read before after result failed (device.fails going asks fails now) = absur
 
 -- A device that has asked nothing and has failed.
 abbrev Refuses : {F : Type 0} → FileDevice F → Type 0
-Refuses d = HasLog d.asking.calls [] × IsTrue d.has_failed
+Refuses d = (d.log.calls ≡ []) × IsTrue d.has_failed
 
 refuses_on : {F : Type 0} (before after : FileDevice F) → after ≡ before → Refuses before → Refuses after
 refuses_on before after same refuses = subst Refuses (sym same) refuses
@@ -72,12 +71,15 @@ module _ {F : Type 0} where
   one_more old new before after step goes_on (following.refuses none failed) =
       let still = goes_on (none, failed) in following.refuses still.0 still.1
 
-  pub begins : (d : FileDevice F) (had_failed is_new : Bool) (seen : Seen) → HasLog d.asking.calls [] → d.has_failed ≡ (had_failed || not is_new)
+  pub begins : (before d : FileDevice F) (is_new : Bool) (seen : Seen) → d.log.calls ≡ [] → (d.has_failed ≡ false ↔ device.GoesBehind is_new before)
       → (IsTrue is_new ↔ seen.past ≡ []) → Follows d seen
-  begins d had_failed true seen none failed reported =
+  begins before d true seen none sound reported =
       following.has_followed (record { first = seen; new = reported.0 refl; began = d; log = none; run = following.none })
-  begins d true false seen none failed reported = following.refuses none failed
-  begins d false false seen none failed reported = following.refuses none failed
+  begins before d false seen none sound reported = following.refuses none (failed d.has_failed refl)
+    where
+      failed : (b : Bool) → d.has_failed ≡ b → IsTrue d.has_failed
+      failed true is = is
+      failed false is = absurd (let e = (sound.0 is).new in cc)
 
   quiet_keeps : (before after : FileDevice F) → ChangesNoFile before after → (IsTrue before.has_failed → after ≡ before) → Keeps Follows before after
   quiet_keeps before after quiet same seen follows =

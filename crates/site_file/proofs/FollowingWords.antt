@@ -15,8 +15,7 @@ use Rattle.site_file.specs.declared.asking.LineFile.{LineFile}
 use Rattle.site_file.specs.declared.asking.LineFile.TheVariants.{Journal, Image}
 use Rattle.site_file.specs.declared.files.FileDevice.{FileDevice}
 use Rattle.site_file.specs.Calls.{Call, Asked, asked, tells_length, reads, writes, syncs}
-use Rattle.site_file.specs.declared.asking.Log.{Log}
-use Rattle.site_file.specs.Asking.{HasLog, Asks, AsksToRead, nothing, piece, WordCalls}
+use Rattle.site_file.specs.Asking.{Asks, AsksToRead, nothing, piece, WordCalls}
 use Rattle.site_file.proofs.SeveralCalls.{asks_nothing, asks_both, goes_on as log_goes_on}
 use Rattle.site_file.specs.Device as device
 use Rattle.site_file.specs.Files.{File, IsBytes, image_of, Becomes, BecomesBy, MayBeLeft, under_way}
@@ -163,7 +162,7 @@ module _ {F : Type 0} (since : ℕ) (owned : LineFile → Bool) (begun : LineFil
       → old.is_stopped ≡ false → slice_get old.state.halves slave ≡ Some half → IsFlying half write
       → (done ≡ true → later.words ≡ slice_set half.words write.word write.value) → (done ≡ false → after.has_failed ≡ true)
       → new.state ≡ with_half old.state slave later → Extends old new → d.has_failed ≡ false
-      → Asks d.asking.calls after.asking.calls calls → WordCalls (Image slave) write.word write.value calls done
+      → Asks d.log.calls after.log.calls calls → WordCalls (Image slave) write.word write.value calls done
       → FilesFollow since owned begun d old → FilesFollow since owned begun after new
   word_asked old new d after slave half later write done calls running here flying words failed is extends going asks are follows =
       asks_more since owned begun old new d after calls going running asks extends
@@ -196,10 +195,10 @@ module _ {F : Type 0} (since : ℕ) (owned : LineFile → Bool) (begun : LineFil
       subst (λ (x : FileDevice F). FilesFollow since owned begun x new) (sym same)
       (goes_on since owned begun old new d (record { extends = extends; kept = λ going. kept_by old.state new.state slave half later here kept is }) follows)
   rest_step old new d after slave half rested later resting running here said words is extends fits (device.over failed stays same) follows =
-      over since owned begun old new d after (ap (λ (x : FileDevice F). x.asking.calls) same)
+      over since owned begun old new d after (ap (λ (x : FileDevice F). x.log.calls) same)
       (subst (λ (x : FileDevice F). IsTrue x.has_failed) (sym same) failed) extends follows
   rest_step old new d after slave half rested later resting running here said words is extends fits (device.absent none stays same) follows =
-      over since owned begun old new d after (ap (λ (x : FileDevice F). x.asking.calls) same)
+      over since owned begun old new d after (ap (λ (x : FileDevice F). x.log.calls) same)
       (subst (λ (x : FileDevice F). IsTrue x.has_failed) (sym same) refl) extends follows
   rest_step old new d after slave half rested later resting running here said words is extends fits (device.writes write flying going wrote well going_on) follows =
       let said_well : Ends half.activity rests.Well false half rested = subst (λ (r : Resting). RestsAs r half rested) well said in
@@ -270,7 +269,7 @@ quiet_after (call ∷ calls) others files images quiet (inr (mid, becomes, left)
     inr (mid, becomes, quiet_after calls others (with_file files call.file mid) images quiet left)
 
 -- what is asked as a file is read
-record Reads (old new : Log) : Type 0 where
+record Reads (old new : List Asked) : Type 0 where
   calls : List Asked
   asks : Asks old new calls
   quiet : AreQuiet calls
@@ -279,7 +278,7 @@ both_quiet : (calls others : List Asked) → AreQuiet calls → AreQuiet others 
 both_quiet [] others first second = second
 both_quiet (call ∷ calls) others first second = (first.0, both_quiet calls others first.1 second)
 
-reads_quietly : (file : LineFile) (old new : Log) → AsksToRead file old new → Reads old new
+reads_quietly : (file : LineFile) (old new : List Asked) → AsksToRead file old new → Reads old new
 reads_quietly file old new nothing = record {
   calls = [];
   asks = asks_nothing old;
@@ -295,7 +294,7 @@ reads_quietly file old new (piece mid later at count done so_far once) =
     }
 
 module _ {F : Type 0} (since : ℕ) (owned : LineFile → Bool) (begun : LineFile → File) where
-  asks_quietly : (seen : Seen) (d after : FileDevice F) (calls : List Asked) → Asks d.asking.calls after.asking.calls calls → AreQuiet calls
+  asks_quietly : (seen : Seen) (d after : FileDevice F) (calls : List Asked) → Asks d.log.calls after.log.calls calls → AreQuiet calls
       → d.has_failed ≡ false → FilesFollow since owned begun d seen → FilesFollow since owned begun after seen
   asks_quietly seen d after calls asks quiet going follows =
       let before : List Asked = calls_of follows.pieces ++ follows.last in
@@ -303,7 +302,7 @@ module _ {F : Type 0} (since : ℕ) (owned : LineFile → Bool) (begun : LineFil
       record {
         pieces = follows.pieces;
         last = follows.last ++ calls;
-        has = subst (λ (l : List Asked). HasLog after.asking.calls l) joined (log_goes_on asks before follows.has);
+        has = log_goes_on asks before follows.has ∙ joined;
         few = follows.few;
         all = λ going_on goes. follows.all going goes;
         leaves = follows.leaves;
@@ -326,7 +325,7 @@ module _ {F : Type 0} (since : ℕ) (owned : LineFile → Bool) (begun : LineFil
   refuses : (seen : Seen) (d after : FileDevice F) → after ≡ record d { has_failed = true } → FilesFollow since owned begun d seen
       → FilesFollow since owned begun after seen
   refuses seen d after same follows =
-      over since owned begun seen seen d after (ap (λ (x : FileDevice F). x.asking.calls) same)
+      over since owned begun seen seen d after (ap (λ (x : FileDevice F). x.log.calls) same)
       (subst (λ (x : FileDevice F). IsTrue x.has_failed) (sym same) refl) (record { goes = shadow.rests refl refl; stopped = λ is. is }) follows
 
   changes_no_file : (seen : Seen) (d after : FileDevice F) → ChangesNoFile d after → FilesFollow since owned begun d seen
@@ -341,10 +340,10 @@ module _ {F : Type 0} (since : ℕ) (owned : LineFile → Bool) (begun : LineFil
       asks_quietly seen d after (asked Journal tells_length true ∷ []) asks (tt, tt) going follows
   changes_no_file seen d after (following.reads_bytes result (device.over lacks stops same)) follows = refuses seen d after same follows
   changes_no_file seen d after (following.reads_bytes result (device.compared going asks passed going_on)) follows =
-      let read : Reads d.asking.calls after.asking.calls = reads_quietly Journal d.asking.calls after.asking.calls asks in
+      let read : Reads d.log.calls after.log.calls = reads_quietly Journal d.log.calls after.log.calls asks in
       asks_quietly seen d after read.calls read.asks read.quiet going follows
   changes_no_file seen d after (following.reads_bytes result (device.fails going asks fails failed)) follows =
-      let read : Reads d.asking.calls after.asking.calls = reads_quietly Journal d.asking.calls after.asking.calls asks in
+      let read : Reads d.log.calls after.log.calls = reads_quietly Journal d.log.calls after.log.calls asks in
       asks_quietly seen d after read.calls read.asks read.quiet going follows
 
   -- ANY STEPS
@@ -406,7 +405,7 @@ begun_first : (seen : Seen) → seen.past ≡ [] → first_of seen ≡ seen.stat
 begun_first seen none = ap (λ (p : List Moment). begin_of p seen.state) none
 
 -- a device that was put behind its site later has asked nothing
-refused : {F : Type 0} (d : FileDevice F) (seen : Seen) (owned : LineFile → Bool) (begun : LineFile → File) → HasLog d.asking.calls []
+refused : {F : Type 0} (d : FileDevice F) (seen : Seen) (owned : LineFile → Bool) (begun : LineFile → File) → d.log.calls ≡ []
     → IsTrue d.has_failed → ((name : LineFile) → IsTrue (owned name) → Holds (first_of seen) name (begun name)) → FilesFollow 0 owned begun d seen
 refused d seen owned begun none failed holds = record {
   pieces = [];

@@ -5,8 +5,6 @@ use Rattle.site_file.specs.declared.asking.LineFile.{LineFile}
 use Rattle.site_file.specs.declared.asking.LineFile.TheVariants.{Journal, Image}
 use Rattle.site_file.specs.declared.files.FileDevice.{FileDevice}
 use Rattle.site_file.specs.Calls.{Call, Asked, asked, tells_length, reads, writes, syncs}
-use Rattle.site_file.specs.declared.asking.Log.{Log}
-use Rattle.site_file.proofs.SeveralCalls.{goes_on}
 use Rattle.site_file.specs.Asking.{Asks, AsksToRead, nothing, piece, WordCalls}
 use Rattle.site_file.specs.Device as device
 use Rattle.site_file.specs.Files.{File, Becomes, BecomesBy}
@@ -18,17 +16,15 @@ use Rattle.site_file.proofs.Words.{one_file, word_is_durable, split}
 
 -- CALLS IN A ROW
 
-go_on : {begun held after : LineFile → File} {old new : Log} (calls : List Asked) → Asks old new calls
+go_on : {begun held after : LineFile → File} {old new : List Asked} (calls : List Asked) → Asks old new calls
     → ((name : LineFile) (mid later : File) → mid ≡ held name → BecomesBy (of_file name calls) mid later → later ≡ after name)
     → AreHeld begun old held → AreHeld begun new after
-go_on {begun} {held} {after} calls asks leads are = record {
-  log = are.log ++ calls;
-  has = goes_on asks are.log are.has;
+go_on {begun} {held} {after} {old} calls asks leads are = record {
   each = λ name later becomes.
-      let separate : BecomesBy (of_file name are.log ++ of_file name calls) (begun name) later =
-      subst (λ (l : List Asked). BecomesBy l (begun name) later) (of_file-append name are.log calls) becomes in
-      let parts : (mid : File) × BecomesBy (of_file name are.log) (begun name) mid × BecomesBy (of_file name calls) mid later =
-      split (of_file name are.log) (of_file name calls) (begun name) later separate in
+      let separate : BecomesBy (of_file name old ++ of_file name calls) (begun name) later =
+      subst (λ (l : List Asked). BecomesBy l (begun name) later) (ap (of_file name) asks.goes_on ∙ of_file-append name old calls) becomes in
+      let parts : (mid : File) × BecomesBy (of_file name old) (begun name) mid × BecomesBy (of_file name calls) mid later =
+      split (of_file name old) (of_file name calls) (begun name) later separate in
       leads name parts.0 later (are.each name parts.0 parts.1) parts.2;
 }
 
@@ -56,7 +52,7 @@ quiet_leads held call done quiet (Image slave) mid later mid_is becomes = become
 -- THE CALLS OF A DEVICE
 
 pub new_holds : NewHolds
-new_holds begun moment has = record { log = []; has = has; each = λ name later becomes. becomes }
+new_holds begun = record { each = λ name later becomes. becomes }
 
 pub rest_holds : (F : Type 0) → RestHolds F
 rest_holds F slave half write old new begun held flying held_is (device.idle none well same) are = absurd (let e = flying.flying in cc)
@@ -87,22 +83,22 @@ sync_holds F shadow old new begun held held_is (device.passes going asks passes 
     go_on calls asks (one_leads held Journal _ calls (refl, tt)
     (λ later becomes. sync_follows shadow later (subst (λ (f : File). BecomesBy calls f later) held_is becomes))) are
 
-length_asked : (begun held : LineFile → File) (old new : Log) (done : Bool) → Asks old new (asked Journal tells_length done ∷ [])
+length_asked : (begun held : LineFile → File) (old new : List Asked) (done : Bool) → Asks old new (asked Journal tells_length done ∷ [])
     → AreHeld begun old held → AreHeld begun new held
 length_asked begun held old new done asks are =
     go_on (asked Journal tells_length done ∷ []) asks (quiet_leads held tells_length done (λ old new becomes. becomes)) are
 
 pub length_holds : (F : Type 0) → LengthHolds F
 length_holds F old new result begun held (device.calls (device.over failed stops same)) are =
-    subst (λ (d : FileDevice F). AreHeld begun d.asking.calls held) (sym same) are
+    subst (λ (d : FileDevice F). AreHeld begun d.log.calls held) (sym same) are
 length_holds F old new result begun held (device.calls (device.passes going asks passes going_on)) are =
-    length_asked begun held old.asking.calls new.asking.calls true asks are
+    length_asked begun held old.log.calls new.log.calls true asks are
 length_holds F old new result begun held (device.calls (device.fails going asks fails failed)) are =
-    length_asked begun held old.asking.calls new.asking.calls false asks are
+    length_asked begun held old.log.calls new.log.calls false asks are
 length_holds F old new result begun held (device.differs going asks stops going_on) are =
-    length_asked begun held old.asking.calls new.asking.calls true asks are
+    length_asked begun held old.log.calls new.log.calls true asks are
 
-read_asked : (begun held : LineFile → File) (old new : Log) → AsksToRead Journal old new → AreHeld begun old held → AreHeld begun new held
+read_asked : (begun held : LineFile → File) (old new : List Asked) → AsksToRead Journal old new → AreHeld begun old held → AreHeld begun new held
 read_asked begun held old new nothing are = are
 read_asked begun held old new (piece mid later at count done so_far once) are =
     go_on (asked Journal (reads at count) done ∷ []) once (quiet_leads held (reads at count) done (λ old new becomes. becomes))
@@ -110,8 +106,8 @@ read_asked begun held old new (piece mid later at count done so_far once) are =
 
 pub read_holds : (F : Type 0) → ReadHolds F
 read_holds F old new result begun held (device.over failed stops same) are =
-    subst (λ (d : FileDevice F). AreHeld begun d.asking.calls held) (sym same) are
+    subst (λ (d : FileDevice F). AreHeld begun d.log.calls held) (sym same) are
 read_holds F old new result begun held (device.compared going asks passes going_on) are =
-    read_asked begun held old.asking.calls new.asking.calls asks are
+    read_asked begun held old.log.calls new.log.calls asks are
 read_holds F old new result begun held (device.fails going asks fails failed) are =
-    read_asked begun held old.asking.calls new.asking.calls asks are
+    read_asked begun held old.log.calls new.log.calls asks are

@@ -11,7 +11,6 @@ use Rattle.site_file.specs.declared.asking.LineFile.{LineFile}
 use Rattle.site_file.specs.declared.asking.LineFile.TheVariants.{Journal, Image}
 use Rattle.site_file.specs.declared.files.FileDevice.{FileDevice}
 use Rattle.site_file.specs.Calls.{Asked}
-use Rattle.site_file.specs.Asking.{HasLog}
 use Rattle.site_file.specs.Following.{Follows, Run}
 use Rattle.site_file.specs.Files.{File, IsBytes, image_of, Becomes, BecomesBy, under_way}
 use Rattle.site_file.specs.Held.{is_same, of_file, with_file}
@@ -82,7 +81,7 @@ pub record FilesFollow
     {F : Type 0} (since : ℕ) (owned : LineFile → Bool) (begun : LineFile → File) (device : FileDevice F) (seen : Seen) : Type 0 where
   pub pieces : List (List Asked)
   pub last : List Asked
-  pub has : HasLog device.asking.calls (calls_of pieces ++ last)
+  pub has : device.log.calls ≡ calls_of pieces ++ last
   pub few : since + length pieces ≤ clock seen
   pub all : device.has_failed ≡ false → ¬ IsTrue seen.is_stopped → since + length pieces ≡ clock seen
   pub leaves : (place : ℕ) (piece : List Asked) (images : LineFile → List ℕ) → ((name : LineFile) → IsBytes (images name))
@@ -99,7 +98,7 @@ pub record FilesFollow
 
 -- A device that has asked nothing, while the files hold the site's parts.
 abbrev pub BeginsToFollow : Type 0 → Type 0
-BeginsToFollow F = (owned : LineFile → Bool) (begun : LineFile → File) (device : FileDevice F) (seen : Seen) → HasLog device.asking.calls []
+BeginsToFollow F = (owned : LineFile → Bool) (begun : LineFile → File) (device : FileDevice F) (seen : Seen) → device.log.calls ≡ []
     → ((name : LineFile) → IsTrue (owned name) → Holds seen.state name (begun name)) → FilesFollow (clock seen) owned begun device seen
 
 -- From then on, whatever is asked and answered.

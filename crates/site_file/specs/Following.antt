@@ -11,7 +11,6 @@ use Rattle.site_shadow.specs.Resting.{RestsAs}
 use Rattle.site_shadow.specs.Following.{Extends, GoesOn, IsUnasked, IsReported}
 use Rattle.site_file.specs.declared.files.FileDevice.{FileDevice}
 use Rattle.site_file.specs.Calls.{writes, syncs}
-use Rattle.site_file.specs.Asking.{HasLog}
 use Rattle.site_file.specs.Device.{CallsJournal, AsksLength, ReadsJournal, Rests}
 
 -- a call of the device that changes no file
@@ -52,13 +51,13 @@ pub record HasFollowed {F : Type 0} (device : FileDevice F) (seen : Seen) : Type
   pub first : Seen
   pub new : first.past ≡ []
   pub began : FileDevice F
-  pub log : HasLog began.asking.calls []
+  pub log : began.log.calls ≡ []
   pub run : Run first began seen device
 
 -- A device has followed its site from before the first call on. Or it was put there later: then it asks nothing of any file.
 pub data Follows {F : Type 0} (device : FileDevice F) (seen : Seen) : Type 0 where
   has_followed : HasFollowed device seen → Follows device seen
-  refuses : HasLog device.asking.calls [] → IsTrue device.has_failed → Follows device seen
+  refuses : device.log.calls ≡ [] → IsTrue device.has_failed → Follows device seen
 
 -- one step more
 pub one_step : {F : Type 0} (old new : Seen) (before after : FileDevice F) → Step old before new after → HasFollowed before old

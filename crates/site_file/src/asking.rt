@@ -1,15 +1,13 @@
-// The calls on the open files of a line. Each is noted: the contracts of `Asking` say what was asked of which file, and in which order. That a
+// The calls on the open files of a line. Each is noted: the contracts of `FileLog` say what was asked of which file, and in which order. That a
 // call which is noted is the one that is made is read from the four functions that make them.
-ghost use Rattle.std.specs.Prelude.{◌≡◌, false, true, length, IfSome};
-ghost use Rattle.std.specs.Option.{ForSome};
+ghost use Rattle.std.specs.Prelude.{◌≡◌, ◌↔◌, [], false, true, length};
 ghost use Rattle.site_file.specs.Parts.{AreOf, is_of};
 
 use crate::access::RandomAccessFile;
 use sii_words::History;
 use site_shadow::LinePart;
 use std::alloc::AllocError;
-use std::io;
-use std::snapshot::Snapshot;
+use std::{io, mem};
 
 /// A file of a line.
 #[derive(Clone, Copy)]
@@ -51,33 +49,23 @@ pub struct Asked {
     succeeded: bool,
 }
 
-/// All calls of a device so far, and those before its log began. In contracts alone: they take no memory.
+/// What a device asks of its files since it was put behind its site.
 #[derive(Drop)]
-pub struct Log {
-    all: History<Asked>,
-    begun: Snapshot<History<Asked>>,
+pub struct FileLog {
+    /// All calls, in order. In contracts alone: they take no memory.
+    pub calls: History<Asked>,
+    /// The part of the line whose files alone may be asked. None: each file of the line may be.
+    pub part: Option<LinePart>,
+    /// Whether a call was made.
+    has_asked: bool,
+    ghost unasked: { has_asked ≡ false ↔ calls ≡ [] },
+    ghost own: { AreOf part calls },
 }
 
 /// An open file of a line, and which one it is.
 pub struct NamedFile<'f, F> {
     name: LineFile,
     file: &'f F,
-}
-
-impl FileLog {
-    ghost use Rattle.std.specs.Prelude.{◌↔◌, Some, IsTrue};
-
-    /// Whether it was the device of this part.
-    pub fn is_of(&self, part: LinePart) -> bool
-        ensures { IsTrue result ↔ self.now.part ≡ Some part }
-    {
-        match (self.part, part) {
-            (Some(LinePart::Disk), LinePart::Disk) | (Some(LinePart::Process), LinePart::Process) =>
-                true,
-            (Some(LinePart::Slave(own)), LinePart::Slave(slave)) => own == slave,
-            _ => false,
-        }
-    }
 }
 
 impl<'f, F> NamedFile<'f, F> {
@@ -102,62 +90,44 @@ impl<'f, F> Clone for NamedFile<'f, F> {
     }
 }
 
-/// Notes what a device asks of its files.
-#[derive(Drop)]
-pub struct Asking {
-    calls: Log,
-    /// Whether a call was made.
-    has_asked: bool,
-    /// Whether no call was made before the log began.
-    is_first: bool,
-    /// The part of the line whose files may be asked. None: each file of the line may be.
-    part: Option<LinePart>,
-    ghost reported: { has_asked ≡ false → length calls.all ≡ 0 },
-    ghost first: { is_first ≡ true → length calls.begun.value ≡ 0 },
-    ghost own: { AreOf part calls.all },
-}
-
-/// What a device tells of the calls on its files.
-#[derive(Drop)]
-pub struct FileLog {
-    /// All that it asked, in order. None where it stood behind two sites: then its log is not all.
-    pub calls: Option<History<Asked>>,
-    /// The part of the line whose device it was: it has asked the files of that part alone. None: the line's.
-    pub part: Option<LinePart>,
-    ghost own: { ForSome calls (AreOf part) },
-}
-
-impl Asking {
-    ghost use Rattle.std.specs.Prelude.{[], ◌∷◌, is_ok, is_some, not};
+impl FileLog {
+    ghost use Rattle.std.specs.Prelude.{◌∷◌, is_ok, Some, IsTrue};
     ghost use Rattle.site_file.specs.Calls.{asked, tells_length, reads, writes, syncs};
-    ghost use Rattle.site_file.specs.Asking.{HasLog, TellsFiles, Asks, Begins};
+    ghost use Rattle.site_file.specs.Asking.{Asks};
 
     /// No call has been made yet. The files of this part may be asked; for None, each file of the line.
-    pub fn new(part: Option<LinePart>) -> Asking
-        ensures log { HasLog result.calls [] }
-        ensures nothing { result.calls.all ≡ [] }
-        ensures first { (result.is_first ≡ true) × (result.has_asked ≡ false) }
+    pub(crate) fn new(part: Option<LinePart>) -> FileLog
+        ensures nothing { result.calls ≡ [] }
         ensures part { result.part ≡ part }
     {
-        let all = History::new();
-        let begun = Snapshot::of(&all);
-        Asking {
-            calls: Log { all, begun },
-            has_asked: false,
-            is_first: true,
+        FileLog {
+            calls: History::new(),
             part,
+            has_asked: false,
         }
     }
 
-    /// The part of the line whose files may be asked. None: each file of the line may be.
-    pub fn part(&self) -> Option<LinePart>
-        ensures { result ≡ self.now.part }
+    /// Whether a call was made.
+    pub(crate) fn has_asked(&self) -> bool
+        ensures { result ≡ false ↔ self.now.calls ≡ [] }
     {
-        self.part
+        self.has_asked
+    }
+
+    /// Whether it is the log of this part's device.
+    pub fn is_of(&self, part: LinePart) -> bool
+        ensures { IsTrue result ↔ self.now.part ≡ Some part }
+    {
+        match (self.part, part) {
+            (Some(LinePart::Disk), LinePart::Disk) | (Some(LinePart::Process), LinePart::Process) =>
+                true,
+            (Some(LinePart::Slave(own)), LinePart::Slave(slave)) => own == slave,
+            _ => false,
+        }
     }
 
     /// Whether this file may be asked.
-    pub fn is_for(&self, file: LineFile) -> bool
+    pub(crate) fn is_for(&self, file: LineFile) -> bool
         ensures { result ≡ is_of self.now.part file }
     {
         match (self.part, file) {
@@ -167,49 +137,20 @@ impl Asking {
         }
     }
 
-    /// The log begins here. What was asked before is remembered.
-    pub fn begin(&mut self)
-        ensures begins { Begins self.old.calls self.new.calls }
-        ensures first { self.new.is_first ≡ not self.old.has_asked }
+    /// Ends the log, and begins a new one, of the same part.
+    pub(crate) fn end(&mut self) -> FileLog
+        ensures ended { result ≡ self.old }
+        ensures nothing { self.new.calls ≡ [] }
         ensures part { self.new.part ≡ self.old.part }
     {
-        self.is_first = !self.has_asked;
-        self.calls.begun = Snapshot::of(&self.calls.all);
-    }
-
-    /// All that was asked, unless a call was made before the log began: then that is not all in it.
-    pub fn reported(self) -> FileLog
-        ensures tells { TellsFiles self result }
-        ensures some { is_some result.calls ≡ self.is_first }
-        ensures all { IfSome result.calls (λ log. log ≡ self.calls.all) }
-    {
         let part = self.part;
-        if self.is_first {
-            FileLog {
-                calls: Some(self.into_all()),
-                part,
-            }
-        } else {
-            drop(self);
-            FileLog { calls: None, part }
-        }
-    }
-
-    /// Everything that was asked, also before the log began.
-    fn into_all(self) -> History<Asked>
-        ensures all { result ≡ self.calls.all }
-        ensures first { self.is_first ≡ true → HasLog self.calls result }
-    {
-        let Asking { calls, .. } = self;
-        let Log { all, begun: _ } = calls;
-        all
+        mem::replace(self, FileLog::new(part))
     }
 
     /// A call was made, and succeeded or failed.
     fn note(&mut self, file: LineFile, call: Call, succeeded: bool)
         requires { is_of self.old.part file ≡ true }
         ensures asks { Asks self.old.calls self.new.calls (asked file call succeeded ∷ []) }
-        ensures first { (self.new.is_first ≡ self.old.is_first) × (self.new.has_asked ≡ true) }
         ensures part { self.new.part ≡ self.old.part }
     {
         self.has_asked = true;
@@ -218,7 +159,7 @@ impl Asking {
             call,
             succeeded,
         };
-        self.calls.all.note(&made);
+        self.calls.note(&made);
     }
 
     /// Asks for the length of a file, in bytes.
@@ -226,7 +167,7 @@ impl Asking {
     /// # Errors
     ///
     /// If the system can't tell it.
-    pub fn len<F: RandomAccessFile>(&mut self, of: NamedFile<'_, F>) -> io::Result<u64>
+    pub(crate) fn len<F: RandomAccessFile>(&mut self, of: NamedFile<'_, F>) -> io::Result<u64>
         requires { is_of self.old.part of.name ≡ true }
         ensures part { self.new.part ≡ self.old.part }
         ensures asks { Asks self.old.calls self.new.calls (asked of.entry.name tells_length (is_ok result) ∷ []) }
@@ -241,7 +182,7 @@ impl Asking {
     /// # Errors
     ///
     /// If they can't be read, or the file ends before them.
-    pub fn read<F: RandomAccessFile>(
+    pub(crate) fn read<F: RandomAccessFile>(
         &mut self,
         from: NamedFile<'_, F>,
         bytes: &mut [u8],
@@ -262,7 +203,7 @@ impl Asking {
     /// # Errors
     ///
     /// If they can't be written. Some of them may have been written then.
-    pub fn write<F: RandomAccessFile>(
+    pub(crate) fn write<F: RandomAccessFile>(
         &mut self,
         to: NamedFile<'_, F>,
         bytes: &[u8],
@@ -286,7 +227,7 @@ impl Asking {
     /// # Errors
     ///
     /// If that failed. What was written since the last sync may be lost then.
-    pub fn sync<F: RandomAccessFile>(&mut self, of: NamedFile<'_, F>) -> io::Result<()>
+    pub(crate) fn sync<F: RandomAccessFile>(&mut self, of: NamedFile<'_, F>) -> io::Result<()>
         requires { is_of self.old.part of.name ≡ true }
         ensures part { self.new.part ≡ self.old.part }
         ensures asks { Asks self.old.calls self.new.calls (asked of.entry.name syncs (is_ok result) ∷ []) }

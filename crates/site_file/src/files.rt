@@ -1,5 +1,5 @@
 //! The journal and the EEPROM images of a line as files.
-ghost use Rattle.std.specs.Prelude.{◌≡◌, ◌||◌, not, true, false, [], Some, None, is_some, OnOk, OnErr, IfSome, IfNone, IsTrue};
+ghost use Rattle.std.specs.Prelude.{◌≡◌, ◌↔◌, true, false, [], Some, None, is_some, OnOk, OnErr, IfSome, IfNone, IsTrue};
 ghost use Rattle.std.specs.Prelude.{if◌then◌else◌};
 ghost use Rattle.esc_model.specs.SlaveHalf.{in_flight};
 ghost use Rattle.site_shadow.specs.declared.device.Passing.TheVariants.{Passes, Fails, Stops};
@@ -7,18 +7,18 @@ ghost use Rattle.site_shadow.specs.declared.device.Resting.TheVariants.{Stays};
 ghost use Rattle.site_shadow.specs.declared.pattern.Pattern.TheVariants as patterns;
 ghost use Rattle.site_file.specs.declared.asking.LineFile.TheVariants as line_file;
 ghost use Rattle.site_file.specs.Calls.{writes, syncs};
-ghost use Rattle.site_file.specs.Asking.{HasLog, Begins, AsksToRead, WritesWord};
+ghost use Rattle.site_file.specs.Asking.{AsksToRead, WritesWord};
+ghost use Rattle.site_file.specs.Device.{GoesBehind};
 ghost use Rattle.site_file.specs.Owned.{Lacks, LacksJournal, image_in};
 ghost use Rattle.site_file.specs.Parts.{is_of};
 
 use crate::access::RandomAccessFile;
-use crate::asking::{Asked, Asking, FileLog, LineFile, NamedFile};
+use crate::asking::{FileLog, LineFile, NamedFile};
 use crate::owned::{OpenFiles, OwnedFiles};
 use ecat_frame::Frame;
 use esc_model::{RomHalf, WordWrite};
-use sii_words::History;
 use site_shadow::{Device, Lends, LinePart, Passing, Pattern, Resting};
-use std::{io, mem};
+use std::io;
 
 /// The number of bytes of the journal that are compared at a time.
 const PIECE: usize = 512;
@@ -32,58 +32,52 @@ const PIECE: usize = 512;
 /// image stops the site at once. A later sync that succeeds would prove nothing. The site also stops if the journal has other bytes than
 /// the shadow.
 ///
-/// Its contracts say what each call asks of which file, in which order, and that nothing else is asked: the log of the device, which begins as it is
-/// put behind its shadow (`HasLog`).
+/// Its contracts say what each call asks of which file, in which order, and that nothing else is asked: its log has all of it, since the device was put
+/// behind its shadow.
 #[derive(Drop)]
 pub struct FileDevice<F> {
     held: OwnedFiles<F>,
-    asking: Asking,
-    /// Whether a call on a file has failed, or it was put behind a shadow that had seen a call. From then on it asks nothing.
+    log: FileLog,
+    /// Whether a call on a file has failed; or the device was put behind a shadow that had seen a call, or after a call that it had not told of; or it
+    /// took back what was not of the part. From then on it asks nothing.
     has_failed: bool,
-}
-
-/// The files of a device that is done, and all that was asked of them since it was made.
-#[derive(Drop)]
-pub struct Finished<F> {
-    files: OwnedFiles<F>,
-    log: History<Asked>,
 }
 
 impl<F: RandomAccessFile> FileDevice<F> {
     /// Makes the device of these files. They must hold what the shadow holds, synced.
     pub fn new(files: OpenFiles<F>) -> FileDevice<F>
-        ensures nothing { HasLog result.asking.calls [] }
+        ensures nothing { result.log.calls ≡ [] }
         ensures begins { result.has_failed ≡ false }
         ensures journal { result.held.journal ≡ Some files.journal }
         ensures images { result.held.images ≡ files.images }
-        ensures part { result.asking.part ≡ None }
+        ensures part { result.log.part ≡ None }
     {
         FileDevice {
             held: OwnedFiles::of(files),
-            asking: Asking::new(None),
+            log: FileLog::new(None),
             has_failed: false,
         }
     }
 
     /// The part of the line that lent it, whose files alone it asks. None: the line's own.
     pub fn part(&self) -> Option<LinePart>
-        ensures { result ≡ self.now.asking.part }
+        ensures { result ≡ self.now.log.part }
     {
-        self.asking.part()
+        self.log.part
     }
 
-    /// Whether a call on a file has failed, or it was put behind a shadow that had seen a call.
+    /// Whether a call on a file has failed, or the device was put behind a shadow where it must refuse, or took back what was not of the part.
     pub fn has_failed(&self) -> bool
         ensures { result ≡ self.now.has_failed }
     {
         self.has_failed
     }
 
-    /// Whether it asks nothing of any file, as it is put behind a shadow: a call has failed, or the shadow has seen one.
+    /// Whether it asks nothing of any file, as it is put behind a shadow: a call has failed, the shadow has seen one, or one is in the log.
     fn must_refuse(&self, is_new: bool) -> bool
-        ensures { result ≡ (self.now.has_failed || not is_new) }
+        ensures { result ≡ false ↔ GoesBehind is_new self.now }
     {
-        self.has_failed || !is_new
+        self.has_failed || !is_new || self.log.has_asked()
     }
 
     /// The journal isn't asked, and never will be.
@@ -119,41 +113,17 @@ impl<F: RandomAccessFile> FileDevice<F> {
     }
 }
 
-impl<F: Drop> FileDevice<F> {
-    /// The files, and all that was asked of them. None where the device was put behind a second shadow: then its log is not all.
-    pub fn finish(self) -> Option<Finished<F>>
-        ensures some { is_some result ≡ self.asking.is_first }
-        ensures files { IfSome result (λ finished. finished.files ≡ self.held) }
-        ensures log { IfSome result (λ finished. HasLog self.asking.calls finished.log) }
-        ensures all { IfSome result (λ finished. finished.log ≡ self.asking.calls.all) }
-    {
-        let FileDevice {
-            held,
-            asking,
-            has_failed: _,
-        } = self;
-        let FileLog { calls, part: _ } = asking.reported();
-        match calls {
-            Some(log) => Some(Finished { files: held, log }),
-            None => {
-                drop(held);
-                None
-            }
-        }
-    }
-}
-
 /// The journal, if it is among these files, may be asked, and no call has failed.
 fn sound_journal<'f, F>(
     held: &'f OwnedFiles<F>,
-    asking: &Asking,
+    log: &FileLog,
     has_failed: bool,
 ) -> Option<NamedFile<'f, F>>
     ensures some { IfSome result (λ journal. (has_failed ≡ false) × (journal.name ≡ line_file.Journal)) }
-    ensures own { IfSome result (λ journal. is_of asking.now.part journal.name ≡ true) }
-    ensures none { IfNone result (LacksJournal asking.now.part has_failed held.now) }
+    ensures own { IfSome result (λ journal. is_of log.now.part journal.name ≡ true) }
+    ensures none { IfNone result (LacksJournal log.now.part has_failed held.now) }
 {
-    if has_failed || !asking.is_for(LineFile::Journal) {
+    if has_failed || !log.is_for(LineFile::Journal) {
         return None;
     }
     held.journal()
@@ -162,14 +132,14 @@ fn sound_journal<'f, F>(
 /// The image of a slave, if it is among these files and may be asked.
 fn own_image<'f, F>(
     held: &'f OwnedFiles<F>,
-    asking: &Asking,
+    log: &FileLog,
     slave: usize,
 ) -> Option<NamedFile<'f, F>>
     ensures name { IfSome result (λ image. image.name ≡ line_file.Image slave) }
-    ensures own { IfSome result (λ image. is_of asking.now.part image.name ≡ true) }
-    ensures none { IfNone result (Lacks asking.now.part (line_file.Image slave) (image_in held.now slave)) }
+    ensures own { IfSome result (λ image. is_of log.now.part image.name ≡ true) }
+    ensures none { IfNone result (Lacks log.now.part (line_file.Image slave) (image_in held.now slave)) }
 {
-    if !asking.is_for(LineFile::Image(slave)) {
+    if !log.is_for(LineFile::Image(slave)) {
         return None;
     }
     held.image(slave)
@@ -178,20 +148,20 @@ fn own_image<'f, F>(
 /// Writes a word to an image and syncs it. Returns whether both succeeded.
 #[tactic(auto, using(crate::proofs::SeveralCalls::word_unwritten, crate::proofs::SeveralCalls::word_written))]
 fn write_word<F: RandomAccessFile>(
-    asking: &mut Asking,
+    log: &mut FileLog,
     image: NamedFile<'_, F>,
     write: WordWrite,
 ) -> bool
-    requires { is_of asking.old.part image.name ≡ true }
-    ensures part { asking.new.part ≡ asking.old.part }
-    ensures writes { WritesWord image.entry.name write.word write.value asking.old.calls result asking.new.calls }
+    requires { is_of log.old.part image.name ≡ true }
+    ensures part { log.new.part ≡ log.old.part }
+    ensures writes { WritesWord image.entry.name write.word write.value log.old.calls result log.new.calls }
 {
     let place = u64::from(write.word) * 2;
-    match asking.write(image, &write.value.to_le_bytes(), place) {
+    match log.write(image, &write.value.to_le_bytes(), place) {
         Ok(()) => {}
         Err(_) => return false,
     }
-    let synced = asking.sync(image);
+    let synced = log.sync(image);
     synced.is_ok()
 }
 
@@ -212,21 +182,21 @@ fn compared(same: bool) -> Passing
 ///
 /// If they can't be read.
 fn has_bytes<F: RandomAccessFile>(
-    asking: &mut Asking,
+    log: &mut FileLog,
     file: NamedFile<'_, F>,
     at: usize,
     bytes: &[u8],
 ) -> io::Result<bool>
-    requires { is_of asking.old.part file.name ≡ true }
-    ensures part { asking.new.part ≡ asking.old.part }
-    ensures reads { AsksToRead file.entry.name asking.old.calls asking.new.calls }
+    requires { is_of log.old.part file.name ≡ true }
+    ensures part { log.new.part ≡ log.old.part }
+    ensures reads { AsksToRead file.entry.name log.old.calls log.new.calls }
 {
     let mut buffer = [0u8; PIECE];
     let mut place = at as u64;
     for piece in bytes.chunks(PIECE) {
         let count = piece.len().min(PIECE);
         let found = &mut buffer[..count];
-        asking.read(file, found, place)?;
+        log.read(file, found, place)?;
         if &*found != piece {
             return Ok(false);
         }
@@ -242,13 +212,13 @@ impl<F: RandomAccessFile> FileDevice<F> {
     /// Asks the journal for its length.
     fn ask_length(&mut self, length: usize) -> Passing
         ensures files { self.new.held ≡ self.old.held }
-        ensures part { self.new.asking.part ≡ self.old.asking.part }
+        ensures part { self.new.log.part ≡ self.old.log.part }
         ensures asks { AsksLength self.old result self.new }
     {
-        let Some(journal) = sound_journal(&self.held, &self.asking, self.has_failed) else {
+        let Some(journal) = sound_journal(&self.held, &self.log, self.has_failed) else {
             return self.refuse();
         };
-        match self.asking.len(journal) {
+        match self.log.len(journal) {
             Ok(found) => compared(found == length as u64),
             Err(error) => self.end_call(Err(error)),
         }
@@ -257,13 +227,13 @@ impl<F: RandomAccessFile> FileDevice<F> {
     /// Compares the journal with what the shadow holds.
     fn compare(&mut self, at: usize, held: &[u8]) -> Passing
         ensures files { self.new.held ≡ self.old.held }
-        ensures part { self.new.asking.part ≡ self.old.asking.part }
+        ensures part { self.new.log.part ≡ self.old.log.part }
         ensures asks { ReadsJournal self.old result self.new }
     {
-        let Some(journal) = sound_journal(&self.held, &self.asking, self.has_failed) else {
+        let Some(journal) = sound_journal(&self.held, &self.log, self.has_failed) else {
             return self.refuse();
         };
-        match has_bytes(&mut self.asking, journal, at, held) {
+        match has_bytes(&mut self.log, journal, at, held) {
             Ok(same) => compared(same),
             Err(error) => self.end_call(Err(error)),
         }
@@ -272,33 +242,33 @@ impl<F: RandomAccessFile> FileDevice<F> {
     /// Writes to the journal.
     fn write_journal(&mut self, at: usize, bytes: &[u8]) -> Passing
         ensures files { self.new.held ≡ self.old.held }
-        ensures part { self.new.asking.part ≡ self.old.asking.part }
+        ensures part { self.new.log.part ≡ self.old.log.part }
         ensures asks { CallsJournal (writes at bytes.now) self.old result self.new }
     {
-        let Some(journal) = sound_journal(&self.held, &self.asking, self.has_failed) else {
+        let Some(journal) = sound_journal(&self.held, &self.log, self.has_failed) else {
             return self.refuse();
         };
-        let written = self.asking.write(journal, bytes, at as u64);
+        let written = self.log.write(journal, bytes, at as u64);
         self.end_call(written)
     }
 
     /// Syncs the journal.
     fn sync_journal(&mut self) -> Passing
         ensures files { self.new.held ≡ self.old.held }
-        ensures part { self.new.asking.part ≡ self.old.asking.part }
+        ensures part { self.new.log.part ≡ self.old.log.part }
         ensures asks { CallsJournal syncs self.old result self.new }
     {
-        let Some(journal) = sound_journal(&self.held, &self.asking, self.has_failed) else {
+        let Some(journal) = sound_journal(&self.held, &self.log, self.has_failed) else {
             return self.refuse();
         };
-        let synced = self.asking.sync(journal);
+        let synced = self.log.sync(journal);
         self.end_call(synced)
     }
 
     /// Writes a word in flight to its image and syncs it.
     fn rest_word(&mut self, slave: usize, half: &RomHalf) -> Resting
         ensures files { self.new.held ≡ self.old.held }
-        ensures part { self.new.asking.part ≡ self.old.asking.part }
+        ensures part { self.new.log.part ≡ self.old.log.part }
         ensures asks { Rests slave (in_flight half.now.activity) self.old result self.new }
         ensures fits { FitsWords half.now }
     {
@@ -308,10 +278,10 @@ impl<F: RandomAccessFile> FileDevice<F> {
         if self.has_failed {
             return Resting::Stays;
         }
-        let Some(image) = own_image(&self.held, &self.asking, slave) else {
+        let Some(image) = own_image(&self.held, &self.log, slave) else {
             return self.stay();
         };
-        if write_word(&mut self.asking, image, write) {
+        if write_word(&mut self.log, image, write) {
             return Resting::Well;
         }
         self.stay()
@@ -319,7 +289,6 @@ impl<F: RandomAccessFile> FileDevice<F> {
 }
 
 impl<F: RandomAccessFile> Device for FileDevice<F> {
-    ghost use Rattle.std.specs.Prelude.{[], ◌↔◌, ◌||◌, not};
     ghost use Rattle.site_core.specs.State.{Seen};
     ghost use Rattle.site_shadow.specs.Following.{AskKeeps, WriteKeeps, SyncKeeps, ExchangeKeeps, RestKeeps, TakenKeeps};
     ghost use Rattle.site_file.specs.Device.{CallsJournal, AsksLength, ReadsJournal, Rests};
@@ -329,21 +298,22 @@ impl<F: RandomAccessFile> Device for FileDevice<F> {
 
     ghost well = { λ device. device.has_failed ≡ false };
 
-    /// The log begins here. Behind a shadow that has seen a call it would not know what the files hold: there each call fails.
+    /// The log begins here. Behind a shadow that has seen a call the device would not know what the files hold: there each call fails. So it does where
+    /// a call is in the log already.
     fn begin(&mut self, is_new: bool)
-        ensures begins { Begins self.old.asking.calls self.new.asking.calls }
+        ensures begins { self.new.log.calls ≡ [] }
         ensures files { self.new.held ≡ self.old.held }
-        ensures part { self.new.asking.part ≡ self.old.asking.part }
-        ensures sound { self.new.has_failed ≡ (self.old.has_failed || not is_new) }
+        ensures part { self.new.log.part ≡ self.old.log.part }
+        ensures sound { self.new.has_failed ≡ false ↔ GoesBehind is_new self.old }
         ensures follows { (seen : Seen) → (IsTrue is_new ↔ seen.past ≡ []) → Follows self.new seen }
     {
-        self.asking.begin();
         self.has_failed = self.must_refuse(is_new);
+        let _told = self.log.end();
     }
 
     fn len(&mut self, length: usize) -> Passing
         ensures files { self.new.held ≡ self.old.held }
-        ensures part { self.new.asking.part ≡ self.old.asking.part }
+        ensures part { self.new.log.part ≡ self.old.log.part }
         ensures asks { AsksLength self.old result self.new }
         ensures follows { AskKeeps Follows self.old result self.new }
     {
@@ -352,7 +322,7 @@ impl<F: RandomAccessFile> Device for FileDevice<F> {
 
     fn read(&mut self, at: usize, held: &[u8]) -> Passing
         ensures files { self.new.held ≡ self.old.held }
-        ensures part { self.new.asking.part ≡ self.old.asking.part }
+        ensures part { self.new.log.part ≡ self.old.log.part }
         ensures asks { ReadsJournal self.old result self.new }
         ensures follows { AskKeeps Follows self.old result self.new }
     {
@@ -361,7 +331,7 @@ impl<F: RandomAccessFile> Device for FileDevice<F> {
 
     fn write(&mut self, at: usize, bytes: &[u8]) -> Passing
         ensures files { self.new.held ≡ self.old.held }
-        ensures part { self.new.asking.part ≡ self.old.asking.part }
+        ensures part { self.new.log.part ≡ self.old.log.part }
         ensures asks { CallsJournal (writes at bytes.now) self.old result self.new }
         ensures follows { WriteKeeps Follows at bytes.now self.old result self.new }
     {
@@ -370,7 +340,7 @@ impl<F: RandomAccessFile> Device for FileDevice<F> {
 
     fn sync(&mut self) -> Passing
         ensures files { self.new.held ≡ self.old.held }
-        ensures part { self.new.asking.part ≡ self.old.asking.part }
+        ensures part { self.new.log.part ≡ self.old.log.part }
         ensures asks { CallsJournal syncs self.old result self.new }
         ensures follows { SyncKeeps Follows self.old result self.new }
     {
@@ -393,7 +363,7 @@ impl<F: RandomAccessFile> Device for FileDevice<F> {
     /// word. If that fails, the half stays busy, and the site stops at once.
     fn rest(&mut self, slave: usize, half: &RomHalf, frame: &Frame, k: usize) -> Resting
         ensures files { self.new.held ≡ self.old.held }
-        ensures part { self.new.asking.part ≡ self.old.asking.part }
+        ensures part { self.new.log.part ≡ self.old.log.part }
         ensures asks { Rests slave (in_flight half.now.activity) self.old result self.new }
         ensures follows { RestKeeps Follows slave half.now frame.now k self.old result self.new }
     {
@@ -440,52 +410,51 @@ impl<F: RandomAccessFile> Device for FileDevice<F> {
 }
 
 impl<F: RandomAccessFile + Drop> Lends for FileDevice<F> {
-    ghost use Rattle.site_file.specs.Asking.{TellsFiles};
     ghost use Rattle.site_file.specs.Owned.{PutsBack, Takes};
 
     type Logged = FileLog;
 
-    ghost tells = { λ device reported. TellsFiles device.asking reported };
+    ghost tells = { λ device log. log ≡ device.log };
+
+    ghost is_of = { λ part log. log.part ≡ Some part };
 
     fn lend(&mut self, part: LinePart) -> FileDevice<F>
         ensures files { Takes part self.old.held result.held self.new.held }
-        ensures nothing { (result.asking.calls.all ≡ []) × HasLog result.asking.calls [] }
-        ensures part { result.asking.part ≡ Some part }
+        ensures nothing { result.log.calls ≡ [] }
+        ensures part { result.log.part ≡ Some part }
         ensures failed { result.has_failed ≡ self.old.has_failed }
-        ensures same { (self.new.asking ≡ self.old.asking) × (self.new.has_failed ≡ self.old.has_failed) }
+        ensures same { (self.new.log ≡ self.old.log) × (self.new.has_failed ≡ self.old.has_failed) }
     {
         FileDevice {
             held: self.held.take(part),
-            asking: Asking::new(Some(part)),
+            log: FileLog::new(Some(part)),
             has_failed: self.has_failed,
         }
     }
 
-    fn take_back(&mut self, lent: FileDevice<F>) -> FileLog
-        ensures tells { TellsFiles lent.asking result }
+    fn take_back(&mut self, lent: FileDevice<F>, part: LinePart) -> FileLog
+        ensures tells { result ≡ lent.log }
         ensures files { PutsBack self.old.held lent.held self.new.held }
-        ensures failed { self.new.has_failed ≡ (self.old.has_failed || lent.has_failed) }
-        ensures same { self.new.asking ≡ self.old.asking }
+        ensures well { self.new.has_failed ≡ false ↔ ((self.old.has_failed ≡ false) × (lent.has_failed ≡ false) × (lent.log.part ≡ Some part)) }
+        ensures same { self.new.log ≡ self.old.log }
     {
         let FileDevice {
             held,
-            asking,
+            log,
             has_failed,
         } = lent;
         self.held.put_back(held);
-        self.has_failed = self.has_failed || has_failed;
-        asking.reported()
+        self.has_failed = self.has_failed || has_failed || !log.is_of(part);
+        log
     }
 
     fn tell(&mut self) -> FileLog
-        ensures tells { TellsFiles self.old.asking result }
+        ensures tells { result ≡ self.old.log }
         ensures files { self.new.held ≡ self.old.held }
-        ensures nothing { (self.new.asking.calls.all ≡ []) × HasLog self.new.asking.calls [] }
+        ensures nothing { self.new.log.calls ≡ [] }
         ensures failed { self.new.has_failed ≡ self.old.has_failed }
-        ensures part { self.new.asking.part ≡ self.old.asking.part }
+        ensures part { self.new.log.part ≡ self.old.log.part }
     {
-        let part = self.asking.part();
-        let asking = mem::replace(&mut self.asking, Asking::new(part));
-        asking.reported()
+        self.log.end()
     }
 }

@@ -11,7 +11,7 @@ mod owned;
 
 pub use access::RandomAccessFile;
 pub use asking::{Asked, Call, FileLog, LineFile};
-pub use files::{FileDevice, Finished};
+pub use files::FileDevice;
 pub use laws::{
     device_holds, device_leaves_no_more, each_log_has_a_file, files_follow, journal_follows,
     word_is_kept,

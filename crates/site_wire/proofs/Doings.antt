@@ -4,7 +4,7 @@ use Rattle.std.proofs.Common.{slice_get, slice_set, IsTrue, refl, sym, ap, subst
 use Rattle.std.proofs.Math.Nat.{le_trans}
 use Rattle.std.proofs.Math.Seq.{take-append_seam}
 use Rattle.std.proofs.lemmas.Bool.Decides.{eqb_tells}
-use Rattle.std.proofs.lemmas.List.{append-nil, append_cancel_left, length-set, take-append-le}
+use Rattle.std.proofs.lemmas.List.{append-nil, length-set, take-append-le}
 use Rattle.std.proofs.lemmas.Option.{slice_get_within}
 use Rattle.esc_model.specs.Datagrams.{served_datagram}
 use Rattle.esc_model.specs.SlaveHalf.{SlaveHalf, MayLeave}
@@ -22,13 +22,12 @@ use Rattle.site_shadow.specs.Resting.{RestsAs}
 use Rattle.site_shadow.proofs.Towards.{last_left, now_left, Extends-now, Extends-first, Extends-clock, Extends-towards}
 use Rattle.site_shadow.proofs.GoingThrough.{get-set}
 use Rattle.site_file.specs.declared.asking.LineFile.TheVariants.{Journal}
-use Rattle.site_file.specs.declared.asking.Log.{Log}
 use Rattle.site_file.specs.declared.files.FileDevice.{FileDevice}
 use Rattle.site_file.specs.declared.asking.Call.{Call}
 use Rattle.site_file.specs.declared.asking.Call.TheVariants.{TellsLength as tells_length, Reads as reads, Writes as writes, Syncs as syncs}
 use Rattle.site_file.specs.declared.asking.Asked.{Asked}
 use Rattle.site_file.specs.Calls.{asked}
-use Rattle.site_file.specs.Asking.{HasLog, Asks, AsksToRead, nothing as no_piece, piece}
+use Rattle.site_file.specs.Asking.{Asks, AsksToRead, nothing as no_piece, piece}
 use Rattle.site_file.specs.Device as device
 use Rattle.site_file.specs.Files.{File, BecomesBy, MayBeLeft}
 use Rattle.site_file.specs.Following as files
@@ -86,7 +85,7 @@ reads_leave _ file image no_read left = left
 reads_leave _ file image (one_read call done calls quiet others) left =
     one_reads call done file image (of_file Journal calls) quiet (λ mid later. reads_leave calls mid image others later) left
 
-read_calls : (old new : Log) → AsksToRead Journal old new → (calls : List Asked) × Asks old new calls × AreReads calls
+read_calls : (old new : List Asked) → AsksToRead Journal old new → (calls : List Asked) × Asks old new calls × AreReads calls
 read_calls old _ no_piece = ([], asks_nothing old, no_read)
 read_calls old new (piece mid _ at count done so_far once) =
     let before = read_calls old mid so_far in
@@ -103,8 +102,8 @@ record LeavesImage (old new : Seen) (image : List ℕ) : Type 0 where
 -- A step asks the journal nothing; or it asks this, and where the file held the disk before it, a power cut in it leaves of the file what it leaves of
 -- the site in the call that ends then.
 data Moves {F : Type 0} (old new : Seen) (before after : FileDevice F) : Type 0 where
-  unmoved : Asks before.asking.calls after.asking.calls [] → Moves old new before after
-  moves : (calls : List Asked) → Asks before.asking.calls after.asking.calls calls → before.has_failed ≡ false
+  unmoved : Asks before.log.calls after.log.calls [] → Moves old new before after
+  moves : (calls : List Asked) → Asks before.log.calls after.log.calls calls → before.has_failed ≡ false
       → ((mid : File) (image : List ℕ) → HoldsDisk old.state.disk mid → MayBeLeft (of_file Journal calls) mid image → LeavesImage old new image)
       → Moves old new before after
 
@@ -131,19 +130,19 @@ sync_leaves file false image is_sound (inr late) = record {
 
 module _ {F : Type 0} (old new : Seen) (before after : FileDevice F) where
   same_calls : after ≡ record before { has_failed = true } → Moves old new before after
-  same_calls same = unmoved (subst (λ (d : FileDevice F). Asks before.asking.calls d.asking.calls []) (sym same) (asks_nothing before.asking.calls))
+  same_calls same = unmoved (subst (λ (d : FileDevice F). Asks before.log.calls d.log.calls []) (sym same) (asks_nothing before.log.calls))
 
   -- it is left of the state before the step
   left_before : (image : List ℕ) → Extends old new → StopImage old.state.disk image → LeavesImage old new image
   left_before image extends disk = record { state = old.state; towards = λ pair leaves. Extends-now old new pair extends leaves; disk = disk; halves = refl }
 
-  reading : (calls : List Asked) → Extends old new → Asks before.asking.calls after.asking.calls calls → before.has_failed ≡ false → AreReads calls
+  reading : (calls : List Asked) → Extends old new → Asks before.log.calls after.log.calls calls → before.has_failed ≡ false → AreReads calls
       → Moves old new before after
   reading calls extends asks going quiet =
       moves calls asks going (λ mid image holds left. left_before image extends (held_leaves old.state.disk mid image holds (reads_leave calls mid image quiet left)))
 
   writing : (at : ℕ) (bytes : List ℕ) (done : Bool) (given : Result (Unit {0}) DeviceFault) → old.is_stopped ≡ false → at ≤ length old.state.disk.bytes
-      → WritesDisk old at bytes given new → Asks before.asking.calls after.asking.calls (asked Journal (writes at bytes) done ∷ []) → before.has_failed ≡ false
+      → WritesDisk old at bytes given new → Asks before.log.calls after.log.calls (asked Journal (writes at bytes) done ∷ []) → before.has_failed ≡ false
       → Moves old new before after
   writing at bytes done given running inside wrote asks going = moves (asked Journal (writes at bytes) done ∷ []) asks going (λ mid image holds left. record {
     state = begin_write old.state at (length bytes);
@@ -156,7 +155,7 @@ module _ {F : Type 0} (old new : Seen) (before after : FileDevice F) where
     halves = refl;
   })
 
-  syncing : (done : Bool) → Extends old new → Asks before.asking.calls after.asking.calls (asked Journal syncs done ∷ []) → before.has_failed ≡ false
+  syncing : (done : Bool) → Extends old new → Asks before.log.calls after.log.calls (asked Journal syncs done ∷ []) → before.has_failed ≡ false
       → Moves old new before after
   syncing done extends asks going =
       moves (asked Journal syncs done ∷ []) asks going (λ mid image holds left.
@@ -164,7 +163,7 @@ module _ {F : Type 0} (old new : Seen) (before after : FileDevice F) where
 
   moves_by : old.is_stopped ≡ false → Extends old new → JournalStep old before new after → Moves old new before after
   moves_by running extends (journal.goes_on goes (files.unasked same)) =
-      unmoved (subst (λ (d : FileDevice F). Asks before.asking.calls d.asking.calls []) (sym same) (asks_nothing before.asking.calls))
+      unmoved (subst (λ (d : FileDevice F). Asks before.log.calls d.log.calls []) (sym same) (asks_nothing before.log.calls))
   moves_by running extends (journal.goes_on goes (files.asks_length result (device.calls (device.over lacks stops same)))) = same_calls same
   moves_by running extends (journal.goes_on goes (files.asks_length result (device.calls (device.passes going asks passed well)))) =
       reading (asked Journal tells_length true ∷ []) extends asks going (one_read tells_length true [] tt no_read)
@@ -174,9 +173,9 @@ module _ {F : Type 0} (old new : Seen) (before after : FileDevice F) where
       reading (asked Journal tells_length true ∷ []) extends asks going (one_read tells_length true [] tt no_read)
   moves_by running extends (journal.goes_on goes (files.reads_bytes result (device.over lacks stops same))) = same_calls same
   moves_by running extends (journal.goes_on goes (files.reads_bytes result (device.compared going asks passed well))) =
-      let read = read_calls before.asking.calls after.asking.calls asks in reading read.0 extends read.1 going read.2
+      let read = read_calls before.log.calls after.log.calls asks in reading read.0 extends read.1 going read.2
   moves_by running extends (journal.goes_on goes (files.reads_bytes result (device.fails going asks fails failed))) =
-      let read = read_calls before.asking.calls after.asking.calls asks in reading read.0 extends read.1 going read.2
+      let read = read_calls before.log.calls after.log.calls asks in reading read.0 extends read.1 going read.2
   moves_by running extends (journal.write at bytes passing given was_running inside wrote reported (device.over lacks stops same)) = same_calls same
   moves_by running extends (journal.write at bytes passing given was_running inside wrote reported (device.passes going asks passed well)) =
       writing at bytes true given running inside wrote asks going
@@ -252,17 +251,17 @@ module _ {L F C : Type 0} (old new : Seen) (before after : WireDevice L F C) (ex
       (subst (λ (begun : State). IsLeftOfJournal (asked_by (take place done.all)) one.asked begun.disk image) (Extends-first old new extends) left) so_far)
 
   -- nothing more is done
-  still : Asks before.journal.asking.calls after.journal.asking.calls [] → after.sender.log.all ≡ before.sender.log.all → HasDone after new
+  still : Asks before.journal.log.calls after.journal.log.calls [] → after.sender.log.all ≡ before.sender.log.all → HasDone after new
   still asks sent = record {
     all = done.all;
-    asked = subst (HasLog after.journal.asking.calls) (append-nil (asked_by done.all)) (log_goes_on asks (asked_by done.all) done.asked);
+    asked = log_goes_on asks (asked_by done.all) done.asked ∙ append-nil (asked_by done.all);
     sent = ap exchanges sent ∙ done.sent;
     early = λ place one is. le_trans (done.early place one is) (Extends-clock old new extends);
     of_slaves = early_slaves;
     leaves = early_leaves;
   }
 
-  module _ (one : Doing) (at : one.time ≡ clock new) (asks : Asks before.journal.asking.calls after.journal.asking.calls one.asked)
+  module _ (one : Doing) (at : one.time ≡ clock new) (asks : Asks before.journal.log.calls after.journal.log.calls one.asked)
       (sends : Sends before.sender.log.all after.sender.log.all one.sent)
       (now : (image : List ℕ) (part : List Exchanged) → IsLeftOfJournal (asked_by done.all) one.asked (first_of old).disk image → IsSoFar one.sent part
       → LeavesAt new (clock new) image (sent_by done.all ++ part))
@@ -283,7 +282,7 @@ module _ {L F C : Type 0} (old new : Seen) (before after : WireDevice L F C) (ex
     done_more : HasDone after new
     done_more = record {
       all = done.all ++ one ∷ [];
-      asked = subst (HasLog after.journal.asking.calls) (sym (asked_by-snoc done.all one)) (log_goes_on asks (asked_by done.all) done.asked);
+      asked = log_goes_on asks (asked_by done.all) done.asked ∙ sym (asked_by-snoc done.all one);
       sent = sends.goes_on ∙ ap (λ (l : List Exchanged). l ++ one.sent) done.sent ∙ sym (sent_by-snoc done.all one);
       early = λ place it is. elim (at_place place it is) [
         | inl early ↦ le_trans (done.early place it early.0) (Extends-clock old new extends)
@@ -315,12 +314,11 @@ module _ {L F C : Type 0} (old new : Seen) (before after : WireDevice L F C) (ex
 
 -- a file that held the disk as the site began holds it as long as no call on it has failed
 holds_now : {L F C : Type 0} (device : WireDevice L F C) (seen : Seen) (so_far : HasFollowed device seen) (calls : List Asked) (file mid : File)
-    → HasLog device.journal.asking.calls calls → device.journal.has_failed ≡ false → seen.is_stopped ≡ false → HoldsDisk (first_of seen).disk file
+    → device.journal.log.calls ≡ calls → device.journal.has_failed ≡ false → seen.is_stopped ≡ false → HoldsDisk (first_of seen).disk file
     → BecomesBy (of_file Journal calls) file mid → HoldsDisk seen.state.disk mid
 holds_now device seen so_far calls file mid log going running holds becomes =
     let follows = journal_followed device seen (λ name. file) so_far holds in
-    let same : calls_of follows.pieces ++ follows.last ≡ calls =
-    append_cancel_left device.journal.asking.calls.begun.value (calls_of follows.pieces ++ follows.last) calls (sym follows.has ∙ log) in
+    let same : calls_of follows.pieces ++ follows.last ≡ calls = sym follows.has ∙ log in
     follows.holds going (runs_on seen running) Journal mid refl (subst (λ (l : List Asked). BecomesBy (of_file Journal l) file mid) (sym same) becomes)
 
 -- ---- A STEP
@@ -340,7 +338,7 @@ module _ {L F C : Type 0} (old new : Seen) (before after : WireDevice L F C) (fo
   quiet_going extends halves done same between = record { done = done; between = between; leave = quiet_leave extends halves done.all same }
 
   -- nothing is done
-  idle_going : Extends old new → KeepsHalves old new → Asks before.journal.asking.calls after.journal.asking.calls [] → after.sender.log.all ≡ before.sender.log.all
+  idle_going : Extends old new → KeepsHalves old new → Asks before.journal.log.calls after.journal.log.calls [] → after.sender.log.all ≡ before.sender.log.all
       → Going after new
   unfolding still
   idle_going extends halves asks sent =
@@ -418,8 +416,8 @@ module _ {L F C : Type 0} (old new : Seen) (before after : WireDevice L F C) (fo
     stays_before : IsTrue after.is_over → it.rested ≡ it.half
     stays_before over = subst (λ (how : Resting). RestsAs how it.half it.rested) (it.over over) it.rests
 
-    asks_none : Asks before.journal.asking.calls after.journal.asking.calls []
-    asks_none = subst (λ (d : FileDevice F). Asks before.journal.asking.calls d.asking.calls []) (sym it.journal) (asks_nothing before.journal.asking.calls)
+    asks_none : Asks before.journal.log.calls after.journal.log.calls []
+    asks_none = subst (λ (d : FileDevice F). Asks before.journal.log.calls d.log.calls []) (sym it.journal) (asks_nothing before.journal.log.calls)
 
     from_first : (sent : List Exchanged) → SlavesLeave sent (first_of old).halves new.state.halves → SlavesLeave sent (first_of new).halves new.state.halves
     from_first sent = subst (λ (begun : State). SlavesLeave sent begun.halves new.state.halves) (sym (Extends-first old new it.extends))
@@ -524,7 +522,7 @@ module _ {L F C : Type 0} (old new : Seen) (before after : WireDevice L F C) (fo
   going_on : Step old before new after → Going after new
   going_on (wire.idles goes halves same nothing) =
       idle_going goes.extends halves
-      (subst (λ (d : FileDevice F). Asks before.journal.asking.calls d.asking.calls []) (sym same) (asks_nothing before.journal.asking.calls)) nothing.sent
+      (subst (λ (d : FileDevice F). Asks before.journal.log.calls d.log.calls []) (sym same) (asks_nothing before.journal.log.calls)) nothing.sent
   going_on (wire.asks running step halves nothing) = asked_going running step halves nothing
   going_on (wire.carried it) = carried_going it it.sends
 
@@ -532,7 +530,7 @@ module _ {L F C : Type 0} (old new : Seen) (before after : WireDevice L F C) (fo
 
 module _ {L F C : Type 0} where
   -- nothing is done yet
-  begins_done : (device : WireDevice L F C) (seen : Seen) → HasLog device.journal.asking.calls [] → device.sender.log.all ≡ [] → HasDone device seen
+  begins_done : (device : WireDevice L F C) (seen : Seen) → device.journal.log.calls ≡ [] → device.sender.log.all ≡ [] → HasDone device seen
   begins_done device seen unasked unsent = record {
     all = start ∷ [];
     asked = unasked;
@@ -579,7 +577,7 @@ module _ {L F C : Type 0} where
         disk = held_leaves (first_of seen).disk cut.mid image (subst (HoldsDisk (first_of seen).disk) (sym cut.became) cut.held) cut.left;
       }
 
-  begins_going : (device : WireDevice L F C) (seen : Seen) → seen.past ≡ [] → HasLog device.journal.asking.calls [] → device.sender.log.all ≡ [] → Going device seen
+  begins_going : (device : WireDevice L F C) (seen : Seen) → seen.past ≡ [] → device.journal.log.calls ≡ [] → device.sender.log.all ≡ [] → Going device seen
   unfolding begins_done
   begins_going device seen new unasked unsent = record {
     done = begins_done device seen unasked unsent;
@@ -595,7 +593,7 @@ module _ {L F C : Type 0} where
           subst (λ (begun : State). LeavesHalves [] begun.halves seen.state.halves) (sym first)
           (record { count = refl; slaves = follow_leave [] seen.state.halves seen.state.halves (begins_to_follow seen.state) })
 
-  module _ (first : Seen) (new : first.past ≡ []) (began : WireDevice L F C) (unasked : HasLog began.journal.asking.calls [])
+  module _ (first : Seen) (new : first.past ≡ []) (began : WireDevice L F C) (unasked : began.journal.log.calls ≡ [])
       (unsent : began.sender.log.all ≡ []) where
     followed_by : (seen : Seen) (device : WireDevice L F C) → Run first began seen device → HasFollowed device seen
     followed_by seen device run = record { first = first; new = new; began = began; unasked = unasked; unsent = unsent; run = run }

@@ -19,8 +19,7 @@ use Rattle.site_shadow.specs.declared.device.Resting.TheVariants as resting
 use Rattle.site_shadow.specs.declared.lending.LinePart.{LinePart}
 use Rattle.site_file.specs.declared.files.FileDevice.{FileDevice}
 use Rattle.site_file.specs.declared.asking.Call.TheVariants.{Writes as writes, Syncs as syncs}
-use Rattle.site_file.specs.Asking.{HasLog}
-use Rattle.site_file.specs.Device.{CallsJournal, AsksLength, ReadsJournal}
+use Rattle.site_file.specs.Device.{CallsJournal, AsksLength, GoesBehind, ReadsJournal}
 use Rattle.site_file.specs.Following as files
 use Rattle.site_wire.specs.Journal as journal
 use Rattle.site_wire.specs.Journal.{JournalStep}
@@ -46,7 +45,7 @@ module _ {L F C : Type 0} where
       → (IsTrue before.journal.has_failed → after.journal ≡ before.journal) → HasFollowed before old ⊎ Refuses before → HasFollowed after new ⊎ Refuses after
   one_more old new before after step nothing same (inl followed) = inl (one_step old new before after step followed)
   one_more old new before after step nothing same (inr refuses) = inr (record {
-    unasked = subst (λ (j : FileDevice F). HasLog j.asking.calls []) (sym (same refuses.failed)) refuses.unasked;
+    unasked = subst (λ (j : FileDevice F). j.log.calls ≡ []) (sym (same refuses.failed)) refuses.unasked;
     unsent = nothing.sent ∙ refuses.unsent;
     failed = subst (λ (j : FileDevice F). IsTrue j.has_failed) (sym (same refuses.failed)) refuses.failed;
     over = stays_over after.is_over refl;
@@ -62,19 +61,19 @@ module _ {L F C : Type 0} where
   still_sound before after same over was going = ap (λ (j : FileDevice F). j.has_failed) same ∙ was (over going)
 
   -- one that has sent nothing more, and is of the same part
-  still_own : (before after : WireDevice L F C) → after.journal.asking.part ≡ before.journal.asking.part → SendsNothing before after
-      → (before.is_over ≡ false → AreFor before.journal.asking.part (exchanges before.sender.log.all)) → after.is_over ≡ false
-      → AreFor after.journal.asking.part (exchanges after.sender.log.all)
+  still_own : (before after : WireDevice L F C) → after.journal.log.part ≡ before.journal.log.part → SendsNothing before after
+      → (before.is_over ≡ false → AreFor before.journal.log.part (exchanges before.sender.log.all)) → after.is_over ≡ false
+      → AreFor after.journal.log.part (exchanges after.sender.log.all)
   still_own before after part nothing own going =
       subst (λ (p : Option LinePart). AreFor p (exchanges after.sender.log.all)) (sym part)
-      (subst (λ (sent : List Exchange). AreFor before.journal.asking.part (exchanges sent)) (sym nothing.sent) (own (nothing.over going)))
+      (subst (λ (sent : List Exchange). AreFor before.journal.log.part (exchanges sent)) (sym nothing.sent) (own (nothing.over going)))
 
   -- calls in which it asks and sends nothing more
   pub nothing_keeps : (before after : WireDevice L F C) → after.journal ≡ before.journal → SendsNothing before after → Keeps WireFollows before after
   nothing_keeps before after same nothing seen so_far = record {
     follows = one_more seen seen before after (wire.idles (GoesOn-same seen) (λ going. refl) same nothing) nothing (λ failed. same) so_far.follows;
     sound = still_sound before after same nothing.over so_far.sound;
-    own = still_own before after (ap (λ (j : FileDevice F). j.asking.part) same) nothing so_far.own;
+    own = still_own before after (ap (λ (j : FileDevice F). j.log.part) same) nothing so_far.own;
   }
 
   pub nothing_asks : (before after : WireDevice L F C) (result : Passing) → after.journal ≡ before.journal → SendsNothing before after
@@ -92,7 +91,7 @@ module _ {L F C : Type 0} where
 
   -- CALLS ON THE DISK
 
-  module _ (before after : WireDevice L F C) (result : Passing) (part : after.journal.asking.part ≡ before.journal.asking.part) (nothing : SendsNothing before after)
+  module _ (before after : WireDevice L F C) (result : Passing) (part : after.journal.log.part ≡ before.journal.log.part) (nothing : SendsNothing before after)
       (well : after.is_over ≡ false → result ≡ Passes) where
     -- the journal is asked
     asked : (old new : Seen) → old.is_stopped ≡ false → JournalStep old before.journal new after.journal → KeepsHalves old new
@@ -140,15 +139,15 @@ module _ {L F C : Type 0} where
 
 -- THE BEGINNING
 
-pub begins : {L F C : Type 0} (device : WireDevice L F C) (was_over had_failed is_unsent is_new : Bool) (seen : Seen) → device.sender.log.all ≡ []
-    → HasLog device.journal.asking.calls [] → device.journal.has_failed ≡ (had_failed || not is_new)
+pub begins : {L F C : Type 0} (journal : FileDevice F) (device : WireDevice L F C) (was_over is_unsent is_new : Bool) (seen : Seen)
+    → device.sender.log.all ≡ [] → device.journal.log.calls ≡ [] → (device.journal.has_failed ≡ false ↔ GoesBehind is_new journal)
     → device.is_over ≡ ((was_over || device.journal.has_failed) || not is_unsent) → (IsTrue is_new ↔ seen.past ≡ []) → WireFollows device seen
-begins device was_over had_failed is_unsent is_new seen unsent unasked failed over reported = record {
-  follows = by is_new failed reported;
+begins journal device was_over is_unsent is_new seen unsent unasked goes over reported = record {
+  follows = by is_new goes reported;
   sound = sound;
   own = λ going.
-      subst (λ (sent : List Exchange). AreFor device.journal.asking.part (exchanges sent)) (sym unsent)
-      (subst (AreFor device.journal.asking.part) (sym nothing_sent) (All-nil (IsForPart device.journal.asking.part)));
+      subst (λ (sent : List Exchange). AreFor device.journal.log.part (exchanges sent)) (sym unsent)
+      (subst (AreFor device.journal.log.part) (sym nothing_sent) (All-nil (IsForPart device.journal.log.part)));
 }
   where
     either : (was is : Bool) → IsTrue is → (was || is) ≡ true
@@ -159,10 +158,15 @@ begins device was_over had_failed is_unsent is_new seen unsent unasked failed ov
     or_else true other holds = refl
     or_else false other holds = absurd (let e : true ≡ false = sym holds in cc)
 
-    by : (is : Bool) → device.journal.has_failed ≡ (had_failed || not is) → (IsTrue is ↔ seen.past ≡ []) → HasFollowed device seen ⊎ Refuses device
-    by true fails so = inl (record { first = seen; new = so.0 refl; began = device; unasked = unasked; unsent = unsent; run = wire.none })
-    by false fails so =
-        let failed_now : IsTrue device.journal.has_failed = fails ∙ either had_failed true refl in
+    failed : (b : Bool) → device.journal.has_failed ≡ b → (b ≡ false → ⊥) → IsTrue device.journal.has_failed
+    failed true is never = is
+    failed false is never = absurd (never refl)
+
+    by : (is : Bool) → (device.journal.has_failed ≡ false ↔ GoesBehind is journal) → (IsTrue is ↔ seen.past ≡ []) → HasFollowed device seen ⊎ Refuses device
+    by true sound_when so = inl (record { first = seen; new = so.0 refl; began = device; unasked = unasked; unsent = unsent; run = wire.none })
+    by false sound_when so =
+        let failed_now : IsTrue device.journal.has_failed =
+        failed device.journal.has_failed refl (λ is. absurd (let e = (sound_when.0 is).new in cc)) in
         inr (record {
           unasked = unasked;
           unsent = unsent;
@@ -187,17 +191,17 @@ module _ {L F C : Type 0} (slave : ℕ) (half : SlaveHalf) (frame : List Pdu) (k
     (carried : CarriesFrame slave half frame before.sender.log.all after.sender.log.all after.is_over after.resting)
     (was_going : before.is_over ≡ false) (is : after.is_over ≡ false → result ≡ after.resting) (over : IsTrue after.is_over → result ≡ resting.Stays)
     (same : after.journal ≡ before.journal)
-    (as_part : SendsAsPart before.journal.asking.part slave before.sender.log.all after.sender.log.all) where
+    (as_part : SendsAsPart before.journal.log.part slave before.sender.log.all after.sender.log.all) where
   -- what was sent more went to this slave
-  own_calls : AreFor before.journal.asking.part (exchanges before.sender.log.all) → AreFor before.journal.asking.part (exchanges after.sender.log.all)
+  own_calls : AreFor before.journal.log.part (exchanges before.sender.log.all) → AreFor before.journal.log.part (exchanges after.sender.log.all)
   own_calls so_far = by as_part
     where
-      by : SendsAsPart before.journal.asking.part slave before.sender.log.all after.sender.log.all
-          → AreFor before.journal.asking.part (exchanges after.sender.log.all)
-      by (inl none) = subst (λ (sent : List Exchange). AreFor before.journal.asking.part (exchanges sent)) (sym none) so_far
+      by : SendsAsPart before.journal.log.part slave before.sender.log.all after.sender.log.all
+          → AreFor before.journal.log.part (exchanges after.sender.log.all)
+      by (inl none) = subst (λ (sent : List Exchange). AreFor before.journal.log.part (exchanges sent)) (sym none) so_far
       by (inr works) =
-          subst (AreFor before.journal.asking.part) (sym carried.sends.goes_on)
-          (All-append (IsForPart before.journal.asking.part) (exchanges before.sender.log.all) carried.calls so_far
+          subst (AreFor before.journal.log.part) (sym carried.sends.goes_on)
+          (All-append (IsForPart before.journal.log.part) (exchanges before.sender.log.all) carried.calls so_far
           (λ k d inside. record { slave = slave; works = works; to = carried.to k d inside }))
 
   -- it is carried as the device answers
@@ -216,7 +220,7 @@ module _ {L F C : Type 0} (slave : ℕ) (half : SlaveHalf) (frame : List Pdu) (k
     follows = by so_far.follows;
     sound = still_sound before after same (λ going. was_going) so_far.sound;
     own = λ going.
-        subst (λ (p : Option LinePart). AreFor p (exchanges after.sender.log.all)) (sym (ap (λ (j : FileDevice F). j.asking.part) same))
+        subst (λ (p : Option LinePart). AreFor p (exchanges after.sender.log.all)) (sym (ap (λ (j : FileDevice F). j.log.part) same))
         (own_calls (so_far.own was_going));
   }
     where

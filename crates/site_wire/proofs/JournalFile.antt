@@ -43,7 +43,7 @@ module _ {F : Type 0} (since : ℕ) (begun : LineFile → File) where
           stays since (is_same Journal) begun old new d d refl (λ sound_yet going. absurd (let e : true ≡ false = sym failed ∙ sound_yet in cc)) extends follows
       by false failed =
           asks_more since (is_same Journal) begun old new d d [] failed running
-          (asks_nothing d.asking.calls) extends
+          (asks_nothing d.log.calls) extends
           (λ files_then images bytes holds left.
           let shown = left_at_first old.state (is_same Journal) files_then holds images left in (shown.0, Extends-now old new shown.0 extends shown.1, shown.2))
           (λ sound_yet going name mid file is_owned holds becomes. holds_on name mid file is_owned holds becomes) follows

@@ -1,6 +1,5 @@
 -- What a power cut leaves between two calls of the journal's file and of real slaves together.
 use Rattle.std.proofs.Common.{◌≡◌, ℕ, zero, suc, true, false, List, [], ◌∷◌, ◌++◌, length, Some, slice_get, refl, sym, ap, subst, ◌∙◌, ◌≤◌, min}
-use Rattle.std.proofs.lemmas.List.{append_cancel_left}
 use Rattle.esc_model.specs.SlaveHalf.{SlaveHalf, MayLeave}
 use Rattle.site_core.specs.Disk.{Disk, StopImage}
 use Rattle.site_core.specs.State.{EachMayLeave}
@@ -37,8 +36,7 @@ held_leaves disk file image holds stop = record {
 pub cut_between_calls : (L F C : Type 0) → CutBetweenCalls L F C
 cut_between_calls L F C device seen begun calls now pair follows going running holds log becomes stop words =
     let files = journal_is_followed L F C device seen follows begun holds in
-    let same : calls_of files.pieces ++ files.last ≡ calls =
-    append_cancel_left device.journal.asking.calls.begun.value (calls_of files.pieces ++ files.last) calls (sym files.has ∙ log) in
+    let same : calls_of files.pieces ++ files.last ≡ calls = sym files.has ∙ log in
     record {
       disk = held_leaves seen.state.disk now pair.disk
           (files.holds (follows.sound going) (λ stopped. absurd (let e : true ≡ false = sym stopped ∙ running in cc)) Journal now refl

@@ -23,7 +23,6 @@ use Rattle.site_wire.specs.Answering.{shown_by}
 use Rattle.site_wire.specs.declared.sending.Exchange.{Exchange}
 use Rattle.site_wire.specs.Sent.{Exchanged, exchanged, exchanges, Sends}
 use Rattle.site_wire.specs.RealSlaves.{Lives}
-use Rattle.site_file.specs.Asking.{HasLog}
 use Rattle.site_wire.specs.Journal.{JournalStep}
 use Rattle.site_wire.specs.Parts.{AreFor}
 use Rattle.site_wire.specs.declared.amending.Tried.{Tried}
@@ -203,13 +202,13 @@ pub record HasFollowed {L F C : Type 0} (device : WireDevice L F C) (seen : Seen
   pub first : Seen
   pub new : first.past ≡ []
   pub began : WireDevice L F C
-  pub unasked : HasLog began.journal.asking.calls []
+  pub unasked : began.journal.log.calls ≡ []
   pub unsent : began.sender.log.all ≡ []
   pub run : Run first began seen device
 
 -- It was put behind a site that had seen a call: it has asked and sent nothing, and refuses to.
 pub record Refuses {L F C : Type 0} (device : WireDevice L F C) : Type 0 where
-  pub unasked : HasLog device.journal.asking.calls []
+  pub unasked : device.journal.log.calls ≡ []
   pub unsent : device.sender.log.all ≡ []
   pub failed : IsTrue device.journal.has_failed
   pub over : IsTrue device.is_over
@@ -219,7 +218,7 @@ pub record Refuses {L F C : Type 0} (device : WireDevice L F C) : Type 0 where
 pub record WireFollows {L F C : Type 0} (device : WireDevice L F C) (seen : Seen) : Type 0 where
   pub follows : HasFollowed device seen ⊎ Refuses device
   pub sound : device.is_over ≡ false → device.journal.has_failed ≡ false
-  pub own : device.is_over ≡ false → AreFor device.journal.asking.part (exchanges device.sender.log.all)
+  pub own : device.is_over ≡ false → AreFor device.journal.log.part (exchanges device.sender.log.all)
 
 -- one step more
 pub one_step : {L F C : Type 0} (old new : Seen) (before after : WireDevice L F C) → Step old before new after → HasFollowed before old

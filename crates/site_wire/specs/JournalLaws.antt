@@ -6,7 +6,6 @@ use Rattle.site_shadow.specs.Following.{first_of}
 use Rattle.site_file.specs.declared.asking.LineFile.{LineFile}
 use Rattle.site_file.specs.declared.asking.LineFile.TheVariants.{Journal}
 use Rattle.site_file.specs.declared.asking.Asked.{Asked}
-use Rattle.site_file.specs.Asking.{HasLog}
 use Rattle.site_file.specs.Files.{File, BecomesBy}
 use Rattle.site_file.specs.Held.{is_same, of_file}
 use Rattle.site_file.specs.AllFiles.{Holds, FilesFollow}
@@ -25,5 +24,5 @@ JournalIsFollowed L F C = (device : WireDevice L F C) (seen : Seen) → WireFoll
 abbrev pub CutBetweenCalls : (L F C : Type 0) → Type 0
 CutBetweenCalls L F C = (device : WireDevice L F C) (seen : Seen) (begun : LineFile → File) (calls : List Asked) (now : File) (pair : Pair)
     → WireFollows device seen → device.is_over ≡ false → seen.is_stopped ≡ false → Holds (first_of seen) Journal (begun Journal)
-    → HasLog device.journal.asking.calls calls → BecomesBy (of_file Journal calls) (begun Journal) now → StopImage now.disk pair.disk
+    → device.journal.log.calls ≡ calls → BecomesBy (of_file Journal calls) (begun Journal) now → StopImage now.disk pair.disk
     → AreLeftOfSlaves (exchanges device.sender.log.all) (first_of seen).halves seen.state.halves pair.words → Leaves seen.state pair

@@ -7,7 +7,6 @@ use Rattle.site_core.specs.State.{State, Seen, Pair, Leaves, clock}
 use Rattle.site_shadow.specs.Following.{first_of, state_at, LeftTowards}
 use Rattle.site_file.specs.declared.asking.LineFile.TheVariants.{Journal}
 use Rattle.site_file.specs.declared.asking.Asked.{Asked}
-use Rattle.site_file.specs.Asking.{HasLog}
 use Rattle.site_file.specs.Files.{File, BecomesBy, MayBeLeft}
 use Rattle.site_file.specs.Held.{of_file}
 use Rattle.site_file.specs.AllFiles.{HoldsDisk}
@@ -130,7 +129,7 @@ pub record LeavesAt (seen : Seen) (time : ℕ) (image : List ℕ) (sent : List E
 -- a power cut leaves of the journal's file and of all real slaves together what it could have left of the site in the call that ends then.
 pub record HasDone {L F C : Type 0} (device : WireDevice L F C) (seen : Seen) : Type 0 where
   pub all : List Doing
-  pub asked : HasLog device.journal.asking.calls (asked_by all)
+  pub asked : device.journal.log.calls ≡ asked_by all
   pub sent : HasSent device.sender.log.all (sent_by all)
   pub early : (place : ℕ) (one : Doing) → slice_get all place ≡ Some one → one.time ≤ clock seen
   pub of_slaves : (place : ℕ) (one : Doing) (part : List Exchanged) → slice_get all place ≡ Some one → IsSoFar one.sent part

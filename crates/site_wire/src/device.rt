@@ -277,7 +277,7 @@ impl<'f, L: Reach, F: RandomAccessFile, C: Clock> WireDevice<'f, L, F, C> {
     /// Sends the frame, unless its datagram tells nothing new, or the half is busy and takes nothing of it, and notes how the half rests then.
     fn carry(&mut self, slave: usize, half: &RomHalf, frame: &Frame)
         ensures carries { CarriesFrame slave half.now frame.now self.old.sender.log.all self.new.sender.log.all self.new.is_over self.new.resting }
-        ensures own { SendsAsPart self.old.journal.asking.part slave self.old.sender.log.all self.new.sender.log.all }
+        ensures own { SendsAsPart self.old.journal.log.part slave self.old.sender.log.all self.new.sender.log.all }
         ensures known { (d : Pdu) → frame.now ≡ d ∷ [] → IsKnown half.now d → self.new.is_over ≡ false
             → self.new ≡ record self.old { returned = None; resting = resting.Well } }
         ensures journal { self.new.journal ≡ self.old.journal }
@@ -558,8 +558,7 @@ impl<'f, L: Reach, F: RandomAccessFile, C: Clock> Device for WireDevice<'f, L, F
     ghost use Rattle.site_core.specs.State.{Seen};
     ghost use Rattle.site_shadow.specs.Following.{AskKeeps, WriteKeeps, SyncKeeps, ExchangeKeeps, RestKeeps, TakenKeeps};
     ghost use Rattle.site_file.specs.declared.asking.Call.TheVariants.{Writes as writes, Syncs as syncs};
-    ghost use Rattle.site_file.specs.Asking.{Begins};
-    ghost use Rattle.site_file.specs.Device.{CallsJournal, AsksLength, ReadsJournal};
+    ghost use Rattle.site_file.specs.Device.{CallsJournal, AsksLength, GoesBehind, ReadsJournal};
     ghost use Rattle.site_wire.specs.Following.{WireFollows};
 
     ghost follows = { WireFollows };
@@ -567,10 +566,10 @@ impl<'f, L: Reach, F: RandomAccessFile, C: Clock> Device for WireDevice<'f, L, F
     ghost well = { λ device. device.is_over ≡ false };
 
     /// What the journal is asked is noted from here on, as is what is sent. Behind a shadow that has seen a call the device would not know what the
-    /// slaves and the journal are: it sends and asks nothing. Nor does it where it has sent anything before, which is forgotten.
+    /// slaves and the journal are: it sends and asks nothing. Nor does it where it has asked or sent anything before, which is forgotten.
     fn begin(&mut self, is_new: bool)
-        ensures begins { Begins self.old.journal.asking.calls self.new.journal.asking.calls }
-        ensures sound { self.new.journal.has_failed ≡ (self.old.journal.has_failed || not is_new) }
+        ensures begins { self.new.journal.log.calls ≡ [] }
+        ensures sound { self.new.journal.has_failed ≡ false ↔ GoesBehind is_new self.old.journal }
         ensures follows { (seen : Seen) → (IsTrue is_new ↔ seen.past ≡ []) → WireFollows self.new seen }
     {
         self.journal.begin(is_new);
@@ -703,12 +702,15 @@ impl<'f, L: Reach + Copy + Drop, F: RandomAccessFile + Drop, C: Clock> Lends
 
     ghost tells = { TellsWire };
 
+    ghost is_of = { λ part reported. reported.journal.part ≡ Some part };
+
     /// The journal goes with the device of the disk.
     fn lend(&mut self, part: LinePart) -> WireDevice<'f, L, F, C>
         ensures files { Takes part self.old.journal.held result.journal.held self.new.journal.held }
         ensures sent { (result.sender.log.all ≡ []) × (self.new.sender ≡ self.old.sender) }
         ensures over { (result.is_over ≡ self.old.is_over) × (self.new.is_over ≡ self.old.is_over) }
-        ensures part { result.journal.asking.part ≡ Some part }
+        ensures well { self.new.is_over ≡ false → self.old.is_over ≡ false }
+        ensures part { result.journal.log.part ≡ Some part }
         ensures same { (self.new.writes ≡ self.old.writes) × (self.new.is_unconfirmed ≡ self.old.is_unconfirmed) }
         ensures lent { (result.writes ≡ self.old.writes) × (result.is_unconfirmed ≡ self.old.is_unconfirmed) }
     {
@@ -724,10 +726,13 @@ impl<'f, L: Reach + Copy + Drop, F: RandomAccessFile + Drop, C: Clock> Lends
         }
     }
 
-    fn take_back(&mut self, lent: WireDevice<'f, L, F, C>) -> WireLog
+    fn take_back(&mut self, lent: WireDevice<'f, L, F, C>, part: LinePart) -> WireLog
         ensures tells { TellsWire lent.entry result }
         ensures files { PutsBack self.old.journal.held lent.entry.journal.held self.new.journal.held }
-        ensures over { self.new.is_over ≡ (self.old.is_over || lent.entry.is_over) }
+        ensures well { self.new.is_over ≡ false → (self.old.is_over ≡ false) × (lent.entry.is_over ≡ false) × (result.journal.part ≡ Some part) }
+        ensures over { self.new.is_over ≡ ((self.old.is_over || lent.entry.is_over) || self.new.journal.has_failed) }
+        ensures journal { self.new.journal.has_failed ≡ false
+            ↔ ((self.old.journal.has_failed ≡ false) × (lent.entry.journal.has_failed ≡ false) × (lent.entry.journal.log.part ≡ Some part)) }
         ensures sent { self.new.sender.log.all ≡ self.old.sender.log.all }
     {
         let WireDevice {
@@ -736,9 +741,10 @@ impl<'f, L: Reach + Copy + Drop, F: RandomAccessFile + Drop, C: Clock> Lends
             is_over,
             ..
         } = lent;
-        self.is_over = self.is_over || is_over;
+        let journal = self.journal.take_back(journal, part);
+        self.is_over = self.is_over || is_over || self.journal.has_failed();
         WireLog {
-            journal: self.journal.take_back(journal),
+            journal,
             sent: sender.into_sent(),
         }
     }
@@ -747,6 +753,7 @@ impl<'f, L: Reach + Copy + Drop, F: RandomAccessFile + Drop, C: Clock> Lends
         ensures tells { TellsWire self.old result }
         ensures files { self.new.journal.held ≡ self.old.journal.held }
         ensures over { self.new.is_over ≡ self.old.is_over }
+        ensures well { self.new.is_over ≡ false → self.old.is_over ≡ false }
         ensures sent { self.new.sender.log.all ≡ [] }
     {
         WireLog {

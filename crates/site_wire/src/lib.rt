@@ -11,7 +11,6 @@ mod joining;
 mod laws;
 mod order;
 mod ordering;
-mod parts;
 mod reach;
 mod sending;
 
@@ -22,6 +21,5 @@ pub use laws::{
     moments_leave_no_more, slaves_follow,
 };
 pub use order::Order;
-pub use parts::TellsPart;
 pub use reach::{LiveLine, LockedLine, Reach, SharedLine};
 pub use sending::Exchange;

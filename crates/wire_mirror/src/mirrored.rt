@@ -10,7 +10,6 @@ use esc_model::{RomHalf, WordWrite};
 use sii_words::History;
 use site_file::RandomAccessFile;
 use site_shadow::{Device, Lends, LinePart, Passing, Pattern, Resting};
-use site_wire::TellsPart;
 
 /// A device, and the image files of its slaves. It answers each call as the device does. A word that comes to rest without an error is written to
 /// its slave's image file; the device must let it rest only once the slave has shown it. Before the journal is written, each image file that isn't synced
@@ -153,28 +152,23 @@ impl<'m, D: Lends, F: RandomAccessFile> Lends for Mirrored<'m, D, F> {
 
     ghost tells = { λ mirrored. D.tells mirrored.device };
 
+    ghost is_of = { D.is_of };
+
     fn lend(&mut self, part: LinePart) -> Self
         ensures nothing { result.calls ≡ [] }
         ensures images { result.images.now ≡ self.old.images.now }
         ensures calls { self.new.calls ≡ self.old.calls }
+        ensures well { D.well self.new.device → D.well self.old.device }
     {
         Mirrored::new(self.device.lend(part), self.images)
     }
 
-    fn take_back(&mut self, lent: Self) -> D::Logged {
+    fn take_back(&mut self, lent: Self, part: LinePart) -> D::Logged {
         let Mirrored { device, .. } = lent;
-        self.device.take_back(device)
+        self.device.take_back(device, part)
     }
 
     fn tell(&mut self) -> D::Logged {
         self.device.tell()
-    }
-}
-
-impl<'m, D: TellsPart, F: RandomAccessFile> TellsPart for Mirrored<'m, D, F> {
-    ghost is_of = { D.is_of };
-
-    fn is_reported_of(reported: &D::Logged, part: LinePart) -> bool {
-        D::is_reported_of(reported, part)
     }
 }
