@@ -10,7 +10,6 @@ use Rattle.station_files.specs.Files.{Known}
 use Rattle.station_line.specs.declared.answered.Answered.{Answered}
 use Rattle.station_line.specs.declared.answered.Answered.TheVariants.{AllAccepted}
 use Rattle.station_line.specs.Site.{IsFollowed}
-use Rattle.script_session.specs.declared.logs.PartLog.{PartLog}
 use Rattle.script_session.specs.Parts.{IsLineOf, Telling}
 use Rattle.script_session.specs.Saving.{HoldsAfter, IsReportedLine, KeepsReported, SavesAfter, SavesServed}
 
@@ -63,13 +62,7 @@ pub in_each : {V E : Type 0} {P : Type 0} (result : Result V E) → P → OnOk r
 in_each (Ok value) holds = holds
 in_each (Err fault) holds = tt
 
-module _ {D T : Type 0} (follows : D → Seen → Type 0) (well : D → Type 0) (tells : D → T → Type 0) where
-  -- a device that ended soundly
-  pub keeps_reported : (part : PartLog T) (seen : Seen) → IsTrue part.is_sound → IsFollowed (Telling follows well tells part) seen
-      → IsFollowed (KeepsReported follows well tells part.reported) seen
-  keeps_reported part seen sound is = let both = is.1.2 sound in (is.0, ((is.1.0, both.0, both.1), is.1.1))
-
-  -- a site whose device has told this, and has ended soundly
-  pub reported_line : (part : PartLog T) (device : D) (seen : Seen) (slaves : ℕ) → Telling follows well tells part device seen → IsTrue part.is_sound
-      → slaves ≡ length seen.state.halves → IsReportedLine follows well tells part.reported slaves seen
-  reported_line part device seen slaves telling sound count = record { ends = keeps_reported part seen sound (device, telling); count = count }
+-- a device that ended soundly
+pub keeps_reported : {D T : Type 0} (follows : D → Seen → Type 0) (well : D → Type 0) (tells : D → T → Type 0) (Sound : Type 0) (log : T) (seen : Seen) → Sound
+    → IsFollowed (Telling follows well tells Sound log) seen → IsFollowed (KeepsReported follows well tells log) seen
+keeps_reported follows well tells Sound log seen sound is = let both = is.1.2 sound in (is.0, ((is.1.0, both.0, both.1), is.1.1))

@@ -17,7 +17,9 @@ use Rattle.station_jobs.specs.Jobs.{DoneInTurn, IsDone, IsLast, MayEnd}
 use Rattle.station_threads.specs.declared.closing.Ends.{Ends}
 use Rattle.station_alone.specs.Station.{Station}
 use Rattle.station_files.specs.declared.faults.Fault.{Fault}
-use Rattle.script_session.specs.Parts.{Sites, IsSeparate, AreEndsOfParts, AreSound, EndsSynced, IsSynced}
+use Rattle.script_session.specs.Parts.{Sites, IsSeparate, AreEndsOfParts, EndsSynced, IsSynced}
+use Rattle.site_shadow.specs.declared.lending.LinePart.{LinePart}
+use Rattle.script_session.proofs.ReportedLaws.{followed_weaker, reported_weaker}
 use Rattle.sii_edit.specs.declared.command.Command.{Command}
 use Rattle.script_session.specs.declared.threads.Left.{Left}
 use Rattle.script_session.specs.AtDesk.{IsServedReported, ServesFollowed}
@@ -107,21 +109,29 @@ on_oks (Ok value) step one other = step one other
 on_oks (Err fault) step one other = tt
 
 -- the parts that were served and ended soundly
-pub served_soundly : {D T : Type 0} (follows : D → Seen → Type 0) (well : D → Type 0) (tells : D → T → Type 0) (turns : Bool) (opened : Station) (commands : List Command) (left : Left SiteValue T) → ServesFollowed follows well tells turns opened commands left → left.sound ≡ Ok tt
-    → IsServedReported follows well tells turns opened left.reported left.site
-served_soundly follows well tells turns opened commands left serves sound =
-    let both = subst (λ (r : Result (Unit {0}) Fault). OnOk r (AreSound left.reported × IsSynced serves.parts.desk.ends)) sound serves.sound in
+pub served_soundly : {D T : Type 0} (follows : D → Seen → Type 0) (well : D → Type 0) (tells : D → T → Type 0) (is_of : LinePart → T → Type 0) (turns : Bool)
+    (opened : Station) (commands : List Command) (left : Left SiteValue T)
+    (serves : ServesFollowed follows well tells is_of turns opened commands left) → left.sound ≡ Ok tt
+    → IsServedReported follows well tells is_of turns opened serves.tell.desk left.site
+served_soundly follows well tells is_of turns opened commands left serves sound =
+    let tell = serves.tell.reported in
+    let ends = serves.parts.desk.ends in
     record {
       served = record {
         sites = serves.parts.desk.sites;
         separate = serves.parts.desk.separate;
-        ends = serves.parts.desk.ends;
+        ends = ends;
         of_sites = serves.parts.desk.of_sites;
         together = serves.parts.together;
       };
       turning = serves.turning;
       count = serves.count;
-      synced = both.1;
-      devices = serves.reported;
-      sound = both.0;
+      synced = serves.synced sound;
+      devices = record {
+        before = followed_weaker follows well tells (left.sound ≡ Ok tt) (Unit {0}) (λ any. sound) serves.tell.desk.line opened.seen tell.before;
+        flushed = tell.flushed;
+        disk = followed_weaker follows well tells (left.sound ≡ Ok tt) (Unit {0}) (λ any. sound) serves.tell.desk.disk ends.flusher.site.seen tell.disk;
+        slaves = reported_weaker follows well tells (left.sound ≡ Ok tt) (Unit {0}) (λ any. sound) serves.tell.desk.slaves ends.workers.items tell.slaves;
+        own = λ any. tell.own sound;
+      };
     }

@@ -35,12 +35,10 @@ use Rattle.script_session.specs.declared.closing.AtDesk.{AtDesk}
 use Rattle.script_session.specs.declared.closing.Ending.{Ending}
 use Rattle.script_session.specs.declared.threads.Opening.{Opening}
 use Rattle.script_session.specs.declared.threads.Left.{Left}
-use Rattle.script_session.specs.declared.logs.DeskLog.{DeskLog}
-use Rattle.script_session.specs.declared.logs.PartLog.{PartLog}
-use Rattle.script_session.specs.declared.logs.UnservedLog.{UnservedLog}
-use Rattle.script_session.specs.declared.logs.UnservedLog.TheVariants as unserved
+use Rattle.site_shadow.specs.declared.lending.LinePart.{LinePart}
+use Rattle.script_session.specs.Told.{DeskLogs}
 use Rattle.script_session.specs.Asking.{commands_of, no_counts, GivesUp}
-use Rattle.script_session.specs.Parts.{Sites, IsSeparate, AreEndsOfParts, AreSound, AreUnserved, IsCount, IsDeskReported, IsSynced, IsTogether, Telling}
+use Rattle.script_session.specs.Parts.{Sites, IsSeparate, AreEndsOfParts, AreUnserved, EndsTell, IsCount, IsDeskReported, IsSynced, IsTogether}
 use Rattle.script_session.specs.Parts.{issues_of}
 use Rattle.station_line.specs.Site.{IsFollowed}
 
@@ -176,33 +174,32 @@ pub record PartsAreServed (opened : Station) (site : SiteValue) : Type 0 where
 
 -- The parts were served so, one for process data among them exactly where `turns` says so, and this is told of devices that have followed them: each
 -- part ended soundly. The site has a half for each slave, and the disk's part ends with all bytes synced.
-pub record IsServedReported {D T : Type 0} (follows : D → Seen → Type 0) (well : D → Type 0) (tells : D → T → Type 0) (turns : Bool)
-    (opened : Station) (reported : DeskLog T) (site : SiteValue) : Type 0 where
+pub record IsServedReported {D T : Type 0} (follows : D → Seen → Type 0) (well : D → Type 0) (tells : D → T → Type 0) (is_of : LinePart → T → Type 0)
+    (turns : Bool) (opened : Station) (desk : DeskLogs T) (site : SiteValue) : Type 0 where
   pub served : PartsAreServed opened site
   pub turning : is_some served.sites.cycle ≡ turns
   pub count : length opened.line.sizes ≡ length opened.seen.state.halves
   pub synced : IsSynced served.ends
-  pub devices : IsDeskReported follows well tells opened.seen reported served.ends
-  pub sound : AreSound reported
+  pub devices : IsDeskReported follows well tells is_of (Unit {0}) opened.seen desk served.ends
 
 -- The parts were served with this ending, one for process data among them exactly where `turns` says so, and this is told of devices that have followed
 -- them. Where no fault is told, each part ended soundly, with the disk synced. The words are the issues in their logs.
-pub record ServesFollowed {D T : Type 0} (follows : D → Seen → Type 0) (well : D → Type 0) (tells : D → T → Type 0) (turns : Bool)
-    (opened : Station) (commands : List Command) (left : Left SiteValue T) : Type 0 where
+pub record ServesFollowed {D T : Type 0} (follows : D → Seen → Type 0) (well : D → Type 0) (tells : D → T → Type 0) (is_of : LinePart → T → Type 0)
+    (turns : Bool) (opened : Station) (commands : List Command) (left : Left SiteValue T) : Type 0 where
   pub parts : ServesParts opened commands left.ending left.site
   pub turning : is_some parts.desk.sites.cycle ≡ turns
   pub count : length opened.line.sizes ≡ length opened.seen.state.halves
-  pub reported : IsDeskReported follows well tells opened.seen left.reported parts.desk.ends
-  pub sound : OnOk left.sound (AreSound left.reported × IsSynced parts.desk.ends)
+  pub tell : EndsTell follows well tells is_of (left.sound ≡ Ok tt) opened.seen left.told parts.desk.ends
+  pub synced : left.sound ≡ Ok tt → IsSynced parts.desk.ends
   pub words : IsCount (issues_of parts.desk.ends.workers.items) left.words
 
 -- A line was not served, or not put together again after that, and this is told: of the line's device, where no part had one yet; of the devices
 -- of the parts, where no desk has served them; or of the devices at a desk of this book, which served the parts with this ending.
-pub data IsUnservedReported {D T : Type 0} (follows : D → Seen → Type 0) (well : D → Type 0) (tells : D → T → Type 0) (opened : Station)
-    (commands : List Command) : UnservedLog T → Type 0 where
-  line : (part : PartLog T) → IsFollowed (Telling follows well tells part) opened.seen
-      → IsUnservedReported follows well tells opened commands (unserved.Line part)
-  separate : (reported : DeskLog T) (parts : PartsEnd opened) → AreUnserved parts.ends → IsDeskReported follows well tells opened.seen reported parts.ends
-      → IsUnservedReported follows well tells opened commands (unserved.Separate reported)
-  desk : (reported : DeskLog T) (ending : Ending) (desk : DeskServes opened commands ending)
-      → IsDeskReported follows well tells opened.seen reported desk.ends → IsUnservedReported follows well tells opened commands (unserved.Desk reported)
+pub data IsUnservedTold {D T : Type 0} (follows : D → Seen → Type 0) (well : D → Type 0) (tells : D → T → Type 0) (is_of : LinePart → T → Type 0)
+    (opened : Station) (commands : List Command) (told : List T) : Type 0 where
+  line : (log : T) → told ≡ log ∷ [] → IsFollowed (λ device seen. follows device seen × tells device log) opened.seen
+      → IsUnservedTold follows well tells is_of opened commands told
+  separate : (parts : PartsEnd opened) → AreUnserved parts.ends → EndsTell follows well tells is_of ⊥ opened.seen told parts.ends
+      → IsUnservedTold follows well tells is_of opened commands told
+  desk : (ending : Ending) (desk : DeskServes opened commands ending) → EndsTell follows well tells is_of ⊥ opened.seen told desk.ends
+      → IsUnservedTold follows well tells is_of opened commands told

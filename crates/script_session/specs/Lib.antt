@@ -1,4 +1,5 @@
 pub mod Asking
+pub mod Told
 pub mod Parts
 pub mod AtDesk
 pub mod Recovering

@@ -1,7 +1,7 @@
 -- A line that is taken apart into sites, and put together again.
 use Rattle.std.specs.Prelude.{◌≡◌, ◌⊎◌, ◌<◌, ◌≤◌, ◌+◌, ◌^◌, ℕ, Bool, List, [], ◌∷◌, true, length, Ok, IfOk, Option, Some}
 use Rattle.std.specs.Prelude.{slice_get, IsTrue, None, count_by, false, sum_by}
-use Rattle.std.specs.List.{AllByRecursion}
+use Rattle.std.specs.List.{AllByRecursion, AllZip}
 use Rattle.std.specs.Global.{Vec}
 use Rattle.esc_model.specs.SlaveHalf.{SlaveHalf}
 use Rattle.site_core.specs.Line as lines
@@ -21,11 +21,10 @@ use Rattle.station_jobs.specs.Flushing.{IsFlushed}
 use Rattle.station_jobs.specs.Working.{IsWorked}
 use Rattle.station_threads.specs.declared.sites.Sites.{Sites as SitesOf}
 use Rattle.station_threads.specs.declared.closing.Ends.{Ends}
-use Rattle.script_session.specs.declared.logs.PartLog.{PartLog}
-use Rattle.script_session.specs.declared.logs.DeskLog.{DeskLog}
-use Rattle.script_session.specs.declared.logs.UnservedLog.{UnservedLog}
-use Rattle.script_session.specs.declared.logs.UnservedLog.TheVariants as unserved
-use Rattle.script_session.specs.declared.together.OfSlaves.{OfSlaves}
+use Rattle.site_shadow.specs.declared.lending.LinePart.{LinePart}
+use Rattle.site_shadow.specs.declared.lending.LinePart.TheVariants as part
+use Rattle.script_session.specs.declared.together.Complete.{Complete}
+use Rattle.script_session.specs.Told.{AreOfParts, DeskLogs, desk_told}
 use Rattle.station_threads.specs.Places.{AllPlaced}
 use Rattle.station_threads.specs.Sites.{OwnParts, AreEndsOfSites, IsEndOfTurns}
 
@@ -84,10 +83,9 @@ pub record AreUnserved (ends : Ends SiteValue) : Type 0 where
 abbrev pub Soundly : {D : Type 0} → (D → Seen → Type 0) → (D → Type 0) → D → Seen → Type 0
 Soundly follows well device seen = follows device seen × well device × (seen.is_stopped ≡ false)
 
--- A device keeps this of a site, and this is told of it. Where it is called sound, nothing has failed that it was asked, and the site goes on.
-abbrev pub Telling : {D T : Type 0} → (D → Seen → Type 0) → (D → Type 0) → (D → T → Type 0) → PartLog T → D → Seen → Type 0
-Telling follows well tells reported device seen =
-    follows device seen × tells device reported.reported × (IsTrue reported.is_sound → well device × (seen.is_stopped ≡ false))
+-- A device keeps this of a site, and this is told of it. If all is sound, nothing has failed that it was asked, and the site goes on.
+abbrev pub Telling : {D T : Type 0} → (D → Seen → Type 0) → (D → Type 0) → (D → T → Type 0) → (Sound : Type 0) → T → D → Seen → Type 0
+Telling follows well tells Sound log device seen = follows device seen × tells device log × (Sound → well device × (seen.is_stopped ≡ false))
 
 -- The jobs of its log led the site of a slave's end there, and a device keeps this of it.
 pub record IsWorkFollowed {D : Type 0} (follows : D → Seen → Type 0) (end : Stay SiteValue SlaveLog) : Type 0 where
@@ -95,12 +93,12 @@ pub record IsWorkFollowed {D : Type 0} (follows : D → Seen → Type 0) (end : 
   pub followed : IsFollowed follows end.site.seen
 
 -- Each of these is told of the device behind the end at its place.
-abbrev pub AreReportedOf : {D T : Type 0} → (D → Seen → Type 0) → (D → Type 0) → (D → T → Type 0) → List (PartLog T)
+abbrev pub AreReportedOf : {D T : Type 0} → (D → Seen → Type 0) → (D → Type 0) → (D → T → Type 0) → (Sound : Type 0) → List T
     → List (Stay SiteValue SlaveLog) → Type 0
-AreReportedOf follows well tells [] [] = Unit {0}
-AreReportedOf follows well tells (reported ∷ rest) (end ∷ ends) =
-    IsWorkFollowed (Telling follows well tells reported) end × AreReportedOf follows well tells rest ends
-AreReportedOf follows well tells tellings ends = ⊥
+AreReportedOf follows well tells Sound [] [] = Unit {0}
+AreReportedOf follows well tells Sound (log ∷ logs) (end ∷ ends) =
+    IsWorkFollowed (Telling follows well tells Sound log) end × AreReportedOf follows well tells Sound logs ends
+AreReportedOf follows well tells Sound logs ends = ⊥
 
 -- The log is empty, or its last action is a sync that succeeded.
 abbrev pub EndsSynced : List DiskEntry → Type 0
@@ -112,48 +110,62 @@ abbrev pub IsSynced : Ends SiteValue → Type 0
 IsSynced ends = ends.flusher.site.seen.state.disk ≡ of_bytes ends.flusher.site.seen.state.disk.bytes
 
 -- This is told of the devices of a line that was served at a desk: of the line's, whose site was this before it was taken apart, and of those
--- after the ends of the disk and of each slave.
-pub record IsDeskReported {D T : Type 0} (follows : D → Seen → Type 0) (well : D → Type 0) (tells : D → T → Type 0) (opened : Seen)
-    (reported : DeskLog T) (ends : Ends SiteValue) : Type 0 where
-  pub before : IsFollowed (Telling follows well tells reported.line) opened
+-- after the ends of the disk and of each slave. If all is sound, each was the device of its part.
+pub record IsDeskReported {D T : Type 0} (follows : D → Seen → Type 0) (well : D → Type 0) (tells : D → T → Type 0) (is_of : LinePart → T → Type 0)
+    (Sound : Type 0) (opened : Seen) (desk : DeskLogs T) (ends : Ends SiteValue) : Type 0 where
+  pub before : IsFollowed (Telling follows well tells Sound desk.line) opened
   pub flushed : IsFlushed ends.flusher.log ends.flusher.start.seen ends.flusher.site.seen
-  pub disk : IsFollowed (Telling follows well tells reported.disk) ends.flusher.site.seen
-  pub slaves : AreReportedOf follows well tells reported.slaves.items ends.workers.items
+  pub disk : IsFollowed (Telling follows well tells Sound desk.disk) ends.flusher.site.seen
+  pub slaves : AreReportedOf follows well tells Sound desk.slaves ends.workers.items
+  pub own : Sound → AreOfParts is_of desk
 
--- The line began soundly, and each part of it ended so.
-pub record AreSound {T : Type 0} (reported : DeskLog T) : Type 0 where
-  pub line : IsTrue reported.line.is_sound
-  pub disk : IsTrue reported.disk.is_sound
-  pub slaves : AllByRecursion (λ (part : PartLog T). IsTrue part.is_sound) reported.slaves.items
+-- The same, in order.
+pub record EndsTell {D T : Type 0} (follows : D → Seen → Type 0) (well : D → Type 0) (tells : D → T → Type 0) (is_of : LinePart → T → Type 0)
+    (Sound : Type 0) (opened : Seen) (told : List T) (ends : Ends SiteValue) : Type 0 where
+  pub desk : DeskLogs T
+  pub told_is : told ≡ desk_told desk
+  pub reported : IsDeskReported follows well tells is_of Sound opened desk ends
+
+-- ---- as devices are taken back
+
+-- No site has stopped whose device has told, and the line's device is well.
+abbrev pub IsSound : {D T : Type 0} → (D → Type 0) → Complete D T → Type 0
+IsSound well entire = IsTrue entire.goes_on × well entire.device
+
+-- A device keeps this of a site, and what is told of it is all that is told yet.
+abbrev pub TellsFirst : {D T : Type 0} → (D → Seen → Type 0) → (D → Type 0) → (D → T → Type 0) → Complete D T → D → Seen → Type 0
+TellsFirst {D} {T} follows well tells entire device seen =
+    (log : T) × (entire.told ≡ log ∷ []) × Telling follows well tells (IsSound well entire) log device seen
+
+-- The device of a part is taken back, which tells this. If all is sound after that, so it was before, and the device was the part's.
+pub record TakesBack {D T : Type 0} (follows : D → Seen → Type 0) (well : D → Type 0) (tells : D → T → Type 0) (is_of : LinePart → T → Type 0)
+    (part : LinePart) (seen : Seen) (old new : Complete D T) : Type 0 where
+  pub log : T
+  pub told : new.told ≡ old.told ++ log ∷ []
+  pub tells_it : IsFollowed (Telling follows well tells (IsSound well new) log) seen
+  pub sound : IsSound well new → IsSound well old × is_of part log
+
+-- The same of the devices of all slaves, in order.
+pub record TakesAllBack {D T : Type 0} (follows : D → Seen → Type 0) (well : D → Type 0) (tells : D → T → Type 0) (is_of : LinePart → T → Type 0)
+    (workers : List (Stay SiteValue SlaveLog)) (old new : Complete D T) : Type 0 where
+  pub logs : List T
+  pub told : new.told ≡ old.told ++ logs
+  pub tell : AreReportedOf follows well tells (IsSound well new) logs workers
+  pub sound : IsSound well new → IsSound well old
+  pub own : IsSound well new → (slave : ℕ) (log : T) → slice_get logs slave ≡ Some log → is_of (part.Slave slave) log
+
+-- Behind what was told before this is told of the devices of these sites, which no desk has served.
+pub record SitesTell {D T : Type 0} (follows : D → Seen → Type 0) (tells : D → T → Type 0) (before told : List T) (sites : Sites) : Type 0 where
+  pub disk : T
+  pub slaves : List T
+  pub told_is : told ≡ before ++ disk ∷ slaves
+  pub of_disk : IsFollowed (λ device seen. follows device seen × tells device disk) sites.disk.seen
+  pub of_slaves : AllZip (λ (site : SiteValue) (log : T). IsFollowed (λ device seen. follows device seen × tells device log) site.seen)
+      sites.slaves.items slaves
 
 -- this is the EEPROM half of this slave at the end of its worker
 abbrev pub EndsWith : ℕ → Stay SiteValue SlaveLog → SlaveHalf → Type 0
 EndsWith slave end half = HasHalf slave half end.site
-
--- The EEPROM halves of the slaves, where none is missing, are those at the ends of their workers, in order, and this is told of the devices behind
--- these.
-pub record AreLeftBy {D T : Type 0} (follows : D → Seen → Type 0) (well : D → Type 0) (tells : D → T → Type 0)
-    (workers : List (Stay SiteValue SlaveLog)) (left : OfSlaves T) : Type 0 where
-  pub halves : IfOk left.halves (λ halves. AllPlaced EndsWith 0 workers (halves_of halves.items))
-  pub reported : AreReportedOf follows well tells left.reported.items workers
-
--- There is nothing in these lists yet.
-abbrev pub IsRoom : {T : Type 0} → OfSlaves T → Type 0
-IsRoom room = IfOk room.halves (λ halves. halves.items ≡ []) × (room.reported.items ≡ [])
-
--- This is told of the line's device, which keeps this of the line.
-pub record IsLineReported {D T : Type 0} (follows : D → Seen → Type 0) (well : D → Type 0) (tells : D → T → Type 0) (seen : Seen)
-    (reported : UnservedLog T) : Type 0 where
-  pub part : PartLog T
-  pub line : reported ≡ unserved.Line part
-  pub tells_it : IsFollowed (Telling follows well tells part) seen
-
--- This is told of the devices at a desk with these ends; of the line's, what was told before.
-pub record IsDeskLeft {D T : Type 0} (follows : D → Seen → Type 0) (well : D → Type 0) (tells : D → T → Type 0) (line : PartLog T)
-    (ends : Ends SiteValue) (reported : UnservedLog T) : Type 0 where
-  pub devices : DeskLog T
-  pub desk : reported ≡ unserved.Desk devices
-  pub tells_them : (opened : Seen) → IsFollowed (Telling follows well tells line) opened → IsDeskReported follows well tells opened devices ends
 
 -- The site's disk has the bytes that the flusher left, all of them synced, and each slave's EEPROM half is as its worker left it. It has seen no
 -- call.

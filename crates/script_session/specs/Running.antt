@@ -16,15 +16,12 @@ use Rattle.station_files.specs.declared.faults.Fault.{Fault}
 use Rattle.station_line.specs.Rounds.{AreAmong}
 use Rattle.station_line.specs.Site.{IsFollowed}
 use Rattle.script_session.specs.declared.closing.Ending.{Ending}
-use Rattle.script_session.specs.declared.logs.DeskLog.{DeskLog}
-use Rattle.script_session.specs.declared.logs.LineLog.{LineLog}
-use Rattle.script_session.specs.declared.logs.RunLog.{RunLog}
-use Rattle.script_session.specs.declared.logs.UnservedLog.{UnservedLog}
-use Rattle.script_session.specs.declared.logs.UnservedLog.TheVariants as unserved
+use Rattle.site_shadow.specs.declared.lending.LinePart.{LinePart}
+use Rattle.script_session.specs.Told.{LineLogs, RunLogs, after_of, desk_of, opening_of, run_told, whole}
 use Rattle.script_session.specs.declared.running.LineRun.{LineRun}
 use Rattle.script_session.specs.After.{GoesFollowed, SavesRecovered}
 use Rattle.script_session.specs.AtDesk.{DeskServes, IsServedReported, PartsEnd, ServesParts}
-use Rattle.script_session.specs.Parts.{AreSound, AreUnserved, IsDeskReported, IsSynced}
+use Rattle.script_session.specs.Parts.{AreUnserved, IsDeskReported, IsSynced}
 use Rattle.script_session.specs.Recovering.{BeginsSessions, StaysKept}
 use Rattle.script_session.specs.Saving.{IsReportedLine, SavesRun, Serves}
 
@@ -95,67 +92,53 @@ pub record ServesOn {D : Type 0} (follows : D → Seen → Type 0) (commands : L
   pub keeps : KeepsServing commands before now
   pub followed : IsFollowed follows now
 
--- what is told of the line's device as the station was opened: with those of its parts, if it was taken apart
-abbrev pub line_reported : {T : Type 0} → Option (DeskLog T) → Option T → Option T
-line_reported (Some desk) other = Some desk.line.reported
-line_reported None other = other
-
--- the same, and what is told of devices at a desk, by what is told where a line was not served
-abbrev pub opening_of : {T : Type 0} → UnservedLog T → Option T
-opening_of (unserved.Line part) = Some part.reported
-opening_of (unserved.Separate desk) = None
-opening_of (unserved.Desk desk) = None
-
-abbrev pub desk_of : {T : Type 0} → UnservedLog T → Option (DeskLog T)
-desk_of (unserved.Line part) = None
-desk_of (unserved.Separate desk) = Some desk
-desk_of (unserved.Desk desk) = Some desk
-
 -- A device keeps this of a site, and what is told, if something is, is told of it.
 abbrev pub TellsOf : {D T : Type 0} → (D → Seen → Type 0) → (D → T → Type 0) → Option T → D → Seen → Type 0
-TellsOf follows tells reported device seen = follows device seen × IfSome reported (tells device)
-
--- This is told of devices that have followed the parts of a line at a desk. Where these ended soundly, so is told of each, and the disk is synced.
-abbrev pub DeskTells : {D T : Type 0} → (D → Seen → Type 0) → (D → Type 0) → (D → T → Type 0) → Option (DeskLog T) → Station
-    → Result (Unit {0}) Fault → Ends SiteValue → Type 0
-DeskTells follows well tells reported station sound ends =
-    IsSomeAnd reported (λ desk. IsDeskReported follows well tells station.seen desk ends × OnOk sound (AreSound desk × IsSynced ends))
+TellsOf follows tells log device seen = follows device seen × IfSome log (tells device)
 
 -- what devices that keep this say of a run of which this is told
-abbrev pub OfDevices : {D T : Type 0} → (D → Seen → Type 0) → (D → Type 0) → (D → T → Type 0) → RunLog T → Says
-OfDevices follows well tells reported = record {
-  opening = GoesFollowed (TellsOf follows tells (line_reported reported.desk reported.opening));
-  after = GoesFollowed (TellsOf follows tells reported.after);
-  serving = ServesOn (TellsOf follows tells reported.after);
-  parts = λ station ends. IsSomeAnd reported.desk (λ desk. IsDeskReported follows well tells station.seen desk ends);
-  desk = λ station sound ends site. DeskTells follows well tells reported.desk station sound ends;
-  unbegun = reported.desk ≡ None;
+abbrev pub OfDevices : {D T : Type 0} → (D → Seen → Type 0) → (D → Type 0) → (D → T → Type 0) → (LinePart → T → Type 0) → RunLogs T → Says
+OfDevices follows well tells is_of logs = record {
+  opening = GoesFollowed (λ device seen. follows device seen × tells device (opening_of logs));
+  after = GoesFollowed (TellsOf follows tells (after_of logs));
+  serving = ServesOn (TellsOf follows tells (after_of logs));
+  parts = λ station ends. IsSomeAnd (desk_of logs) (λ desk. IsDeskReported follows well tells is_of ⊥ station.seen desk ends);
+  desk = λ station sound ends site.
+      IsSomeAnd (desk_of logs) (λ desk. IsDeskReported follows well tells is_of (sound ≡ Ok tt) station.seen desk ends × (sound ≡ Ok tt → IsSynced ends));
+  unbegun = desk_of logs ≡ None;
 }
+
+-- All that is told is told of a run of which this is said by its devices.
+pub record RunTells {D T : Type 0} (follows : D → Seen → Type 0) (well : D → Type 0) (tells : D → T → Type 0) (is_of : LinePart → T → Type 0)
+    (told : List T) (So : Says → Type 0) : Type 0 where
+  pub logs : RunLogs T
+  pub told_is : told ≡ run_told logs
+  pub says : So (OfDevices follows well tells is_of logs)
+
+-- All that is told is told of a line that was served at a desk, and of its device after that, of which this is said.
+pub record TellsWhole {T : Type 0} (told : List T) (So : LineLogs T → Type 0) : Type 0 where
+  pub line : LineLogs T
+  pub told_is : told ≡ run_told (whole line)
+  pub so : So line
 
 -- ---- by what is told of all devices
 
 -- The line of this station was served at a desk, with a part for process data as `turns` says, and calls alone led on after it. This is told of the
 -- devices of the station's site before the desk, of each part there, which ended soundly, and of the site after it.
-pub record LedAtDesk {D T : Type 0} (follows : D → Seen → Type 0) (well : D → Type 0) (tells : D → T → Type 0) (turns : Bool)
-    (slaves : ℕ) (opened : Station) (reported : LineLog T) (last : Seen) : Type 0 where
+pub record LedAtDesk {D T : Type 0} (follows : D → Seen → Type 0) (well : D → Type 0) (tells : D → T → Type 0) (is_of : LinePart → T → Type 0)
+    (turns : Bool) (slaves : ℕ) (opened : Station) (reported : LineLogs T) (last : Seen) : Type 0 where
   pub left : SiteValue
-  pub served : IsServedReported follows well tells turns opened reported.desk left
+  pub served : IsServedReported follows well tells is_of turns opened reported.desk left
   pub after : Follows left.seen last
   pub ends : IsReportedLine follows well tells reported.after slaves last
 
 -- A station was opened on this site before that, by calls alone.
-pub record EndsReported {D T : Type 0} (follows : D → Seen → Type 0) (well : D → Type 0) (tells : D → T → Type 0) (turns : Bool)
-    (site : SiteValue) (slaves : ℕ) (reported : LineLog T) (last : Seen) : Type 0 where
+pub record EndsReported {D T : Type 0} (follows : D → Seen → Type 0) (well : D → Type 0) (tells : D → T → Type 0) (is_of : LinePart → T → Type 0)
+    (turns : Bool) (site : SiteValue) (slaves : ℕ) (reported : LineLogs T) (last : Seen) : Type 0 where
   pub opened : Station
   pub line : opened.line ≡ site.line
   pub opens : Follows site.seen opened.seen
-  pub desk : LedAtDesk follows well tells turns slaves opened reported last
-
--- what is told of the devices at a desk and of the line's after it, if both is told
-abbrev pub whole_of : {T : Type 0} → Option (DeskLog T) → Option T → Option (LineLog T)
-whole_of (Some desk) (Some after) = Some (record { desk = desk; after = after })
-whole_of None other = None
-whole_of (Some desk) None = None
+  pub desk : LedAtDesk follows well tells is_of turns slaves opened reported last
 
 -- ---- what the files hold after it
 

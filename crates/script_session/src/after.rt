@@ -1,5 +1,5 @@
 //! What comes after a desk on its line: a recovery, the commands that weren't submitted there, on this thread, and saving.
-ghost use Rattle.std.specs.Prelude.{◌≡◌, length, IfErr, IfOk, IsTrue, OnOk};
+ghost use Rattle.std.specs.Prelude.{◌≡◌, ◌∷◌, [], length, IfErr, IfOk, IsTrue, OnOk};
 ghost use Rattle.station_files.specs.Files.{ChangesAmong};
 ghost use Rattle.station_line.specs.Site.{HoldsSite, IsFollowed, files_of};
 ghost use Rattle.script_session.specs.After.{GoesAfterDesk, LedOn, SavesRecovered, ServesSome, Tells};
@@ -8,6 +8,7 @@ ghost use Rattle.script_session.specs.Saving.{IsReportedLine, MayFail, SavesAfte
 
 use crate::saving::save_reported;
 use sii_edit::Command;
+use sii_words::History;
 use site_shadow::{Lends, ShadowSite};
 use station_alone::{Alone, Recovered, recover};
 use station_files::{Fault, Store};
@@ -145,8 +146,17 @@ fn save_station<D: Lends, S: Store>(
     }
 }
 
+/// What is told of the device of a line that isn't worked on any more, as all that is told of its run.
+pub(crate) fn told_alone<D: Lends>(site: ShadowSite<D>) -> History<D::Logged>
+    ensures { (log : D.Logged) × (result ≡ log ∷ []) × IsFollowed (Tells D.follows D.tells log) site.seen }
+{
+    let mut told = History::new();
+    told.note(&reported_of(site));
+    told
+}
+
 /// What is reported of the device of a line that isn't worked on any more.
-pub(crate) fn reported_of<D: Lends>(site: ShadowSite<D>) -> D::Logged
+fn reported_of<D: Lends>(site: ShadowSite<D>) -> D::Logged
     ensures { IsFollowed (Tells D.follows D.tells result) site.seen }
 {
     let (parts, mut device) = site.into_parts();

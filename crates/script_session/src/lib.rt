@@ -7,7 +7,6 @@ mod asked;
 mod closing;
 mod events;
 mod issues;
-mod logs;
 mod recovering;
 mod running;
 mod saving;
@@ -20,7 +19,6 @@ mod together;
 mod work;
 
 pub use closing::Ending;
-pub use logs::{DeskLog, LineLog, PartLog, RunLog, UnservedLog};
 pub use recovering::recover_by_threads;
 pub use running::{LineRun, Start, run_line};
 pub use threads::{Left, NotServed, serve_task};

@@ -5,15 +5,15 @@ ghost use Rattle.esc_rom.specs.Owned.{OwnsAll};
 ghost use Rattle.site_core.specs.State.{Seen};
 ghost use Rattle.station_alone.specs.Opening.{BeginsSession};
 ghost use Rattle.station_files.specs.Files.{ChangesAmong};
-ghost use Rattle.station_line.specs.Site.{files_of, IsFollowed};
+ghost use Rattle.station_line.specs.Opened.{GoesKept};
+ghost use Rattle.station_line.specs.Site.{files_of};
 ghost use Rattle.script_session.specs.After.{SavesRecovered};
 ghost use Rattle.script_session.specs.Recovering.{CountsAll, IsOpenedHere, RecoversByThreads, RedoesOpened};
-ghost use Rattle.script_session.specs.Running.{DeskGoes, EndsReported, LedAtDesk, OfDevices, OfRecovery, RunGoes, TellsOf, line_reported};
-ghost use Rattle.script_session.specs.Running.{whole_of};
+ghost use Rattle.script_session.specs.Running.{DeskGoes, EndsReported, LedAtDesk, OfRecovery, RunGoes, RunTells, TellsWhole};
 ghost use Rattle.script_session.specs.Saving.{MayFail};
+ghost use Rattle.script_session.specs.Told.{AreOfParts};
 
-use crate::after::reported_of;
-use crate::logs::RunLog;
+use crate::after::told_alone;
 use crate::running::{LineRun, end_left};
 use crate::threads::{Left, serve_task};
 use crate::work::{Task, Work};
@@ -45,10 +45,12 @@ pub fn recover_by_threads<D: Lends + Send, S: Store, R: Wait + Threads + AllocGl
     ensures others { ChangesAmong (S.files store.old) (S.files store.new) (files_of line.now) }
     ensures failed { IfErr result.ended (MayFail (S.files store.old) (S.files store.new)) }
     ensures closed { result.closed ≡ Ok tt }
-    ensures goes { RunGoes (OfRecovery site.seen (OfDevices D.follows D.well D.tells result.reported)) site.seen [] (IsErr result.ended) }
-    ensures saved { OnOk result.ended (SavesRecovered (λ s. IsSomeAnd (whole_of result.reported.desk result.reported.after) (λ whole.
+    ensures goes { RunTells D.follows D.well D.tells D.is_of result.told (λ says. RunGoes (OfRecovery site.seen says) site.seen [] (IsErr result.ended)) }
+    ensures whole { OnOk result.ended (TellsWhole result.told (λ whole. AreOfParts D.is_of whole.desk)) }
+    ensures saved { OnOk result.ended (SavesRecovered (λ s. TellsWhole result.told (λ whole.
         IsSomeAnd result.recovered (λ all. RecoversByThreads site all s)
-        × EndsReported D.follows D.well D.tells false site (length line.now.images.items) whole s.seen)) (S.files store.new) line.now site.seen) }
+        × EndsReported D.follows D.well D.tells D.is_of false site (length line.now.images.items) whole s.seen)) (S.files store.new) line.now
+        site.seen) }
 {
     match Alone::open_counted(rt.alloc(), site) {
         Ok((alone, found)) => redo_opened(rt, line, alone, found, store),
@@ -57,7 +59,7 @@ pub fn recover_by_threads<D: Lends + Send, S: Store, R: Wait + Threads + AllocGl
             closed: Ok(()),
             ended: Err(of_open(fault)),
             recovered: None,
-            reported: RunLog::of_opening(reported_of(left)),
+            told: told_alone(left),
         },
     }
 }
@@ -75,13 +77,13 @@ fn redo_opened<D: Lends + Send, S: Store, R: Wait + Threads + AllocGlobal + Sync
     ensures others { ChangesAmong (S.files store.old) (S.files store.new) (files_of line.now) }
     ensures failed { IfErr result.ended (MayFail (S.files store.old) (S.files store.new)) }
     ensures closed { result.closed ≡ Ok tt }
-    ensures followed { IsFollowed (TellsOf D.follows D.tells (line_reported result.reported.desk result.reported.opening)) alone.seen }
-    ensures goes { (before : Seen) → BeginsSession before alone
-        → DeskGoes (OfRecovery before (OfDevices D.follows D.well D.tells result.reported)) alone [] (IsErr result.ended) }
+    ensures goes { RunTells D.follows D.well D.tells D.is_of result.told (λ says. ((before : Seen) → GoesKept before alone.seen → says.opening before alone.seen)
+        × ((before : Seen) → BeginsSession before alone → DeskGoes (OfRecovery before says) alone [] (IsErr result.ended))) }
+    ensures whole { OnOk result.ended (TellsWhole result.told (λ whole. AreOfParts D.is_of whole.desk)) }
     ensures saved { (before : Seen) → BeginsSession before alone
-        → OnOk result.ended (SavesRecovered (λ s. IsSomeAnd (whole_of result.reported.desk result.reported.after) (λ whole.
+        → OnOk result.ended (SavesRecovered (λ s. TellsWhole result.told (λ whole.
         IsSomeAnd result.recovered (λ all. RedoesOpened alone found all s)
-        × LedAtDesk D.follows D.well D.tells false (length line.now.images.items) alone whole s.seen)) (S.files store.new) line.now before) }
+        × LedAtDesk D.follows D.well D.tells D.is_of false (length line.now.images.items) alone whole s.seen)) (S.files store.new) line.now before) }
 {
     // Its contract says that the station stands.
     let _capacity = alone.core().capacity();
@@ -109,7 +111,7 @@ fn redo_opened<D: Lends + Send, S: Store, R: Wait + Threads + AllocGlobal + Sync
                 closed: Ok(()),
                 ended: Err(fault),
                 recovered: None,
-                reported: RunLog::of_desk(left.reported, None),
+                told: left.told,
             },
         },
         Err(why) => LineRun {
@@ -117,7 +119,7 @@ fn redo_opened<D: Lends + Send, S: Store, R: Wait + Threads + AllocGlobal + Sync
             closed: Ok(()),
             ended: Err(why.fault),
             recovered: None,
-            reported: RunLog::of_unserved(why.reported),
+            told: why.told,
         },
     }
 }

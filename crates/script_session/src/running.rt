@@ -3,19 +3,21 @@
 ghost use Rattle.std.specs.Prelude.{◌≡◌, [], length, IfErr, IsErr, IsSomeAnd, IsTrue, Ok, OnOk, Some};
 ghost use Rattle.esc_rom.specs.Owned.{OwnsAll};
 ghost use Rattle.station_files.specs.Files.{ChangesAmong};
-ghost use Rattle.station_line.specs.Opened.{is_old};
+ghost use Rattle.site_core.specs.State.{Seen};
+ghost use Rattle.station_line.specs.Opened.{GoesKept, is_old};
 ghost use Rattle.station_line.specs.Site.{files_of, IsFollowed};
 ghost use Rattle.script_session.specs.After.{LedOn, SavesRecovered};
 ghost use Rattle.script_session.specs.Parts.{IsLineOf};
 ghost use Rattle.script_session.specs.Running.{DeskGoes, EndsReported, GoesAfter, HasEnded, LedAtDesk, OfDevices, RunGoes, SavesDesk, SavesSite};
-ghost use Rattle.script_session.specs.Running.{TellsOf, line_reported, whole_of};
+ghost use Rattle.script_session.specs.Running.{RunTells, TellsWhole};
+ghost use Rattle.script_session.specs.Told.{AreOfParts, DeskLogs, RunLogs, desk_of, desk_told, run_told};
 ghost use Rattle.script_session.specs.Saving.{MayFail, SavesLeft};
 
-use crate::after::{DeskLeft, end_line, reported_of};
+use crate::after::{DeskLeft, end_line, told_alone};
 use crate::closing::Ending;
-use crate::logs::RunLog;
 use crate::threads::{Left, serve_task};
 use crate::work::Task;
+use sii_words::History;
 use site_shadow::{Lends, ShadowSite};
 use station_alone::{Alone, Recovered};
 use station_files::{Fault, Store};
@@ -36,7 +38,7 @@ pub struct Start<S> {
     pub is_old: bool,
 }
 
-/// How a run on a line ended, and what is reported of the line's devices. `T` is what one device tells.
+/// How a run on a line ended, and what was told of the line's devices. `T` is what one device tells.
 #[derive(Drop)]
 pub struct LineRun<T> {
     /// How the commands were answered at the desk.
@@ -48,8 +50,9 @@ pub struct LineRun<T> {
     pub ended: Result<Answered, Fault>,
     /// What was recovered after the desk, if that came to its end.
     pub recovered: Option<Recovered>,
-    /// What is reported of the devices.
-    pub reported: RunLog<T>,
+    /// What was told of the devices, in order: of the line's as the station was opened; of the disk's and of each slave's, if there was a desk for
+    /// them; and of the line's after it, if the run came so far. In contracts alone: it takes no memory.
+    pub told: History<T>,
 }
 
 /// Opens the station on this line, a journal that isn't of version 2 being recovered and migrated first, serves the commands by threads, recovers the
@@ -71,10 +74,12 @@ pub fn run_line<D: Lends + Send, S: Store, O: Write, R: Wait + Threads + AllocGl
     requires old { start.is_old ≡ is_old start.site.seen.state.disk.bytes }
     ensures others { ChangesAmong (S.files store.old) (S.files store.new) (files_of line.now) }
     ensures failed { IfErr result.ended (MayFail (S.files store.old) (S.files store.new)) }
-    ensures goes { RunGoes (OfDevices D.follows D.well D.tells result.reported) start.site.seen task.work.commands.items (IsErr result.ended) }
+    ensures goes { RunTells D.follows D.well D.tells D.is_of result.told
+        (λ says. RunGoes says start.site.seen task.work.commands.items (IsErr result.ended)) }
+    ensures whole { OnOk result.ended (TellsWhole result.told (λ whole. AreOfParts D.is_of whole.desk)) }
     ensures saved { (answered : Answered) → HasEnded result answered → SavesSite
-        (λ last. IsSomeAnd (whole_of result.reported.desk result.reported.after)
-        (λ whole. EndsReported D.follows D.well D.tells task.turns start.site (length line.now.images.items) whole last.seen))
+        (λ last. TellsWhole result.told
+        (λ whole. EndsReported D.follows D.well D.tells D.is_of task.turns start.site (length line.now.images.items) whole last.seen))
         (S.files store.new) line.now start.site task.work.commands.items answered }
 {
     let Start { site, is_old } = start;
@@ -87,7 +92,7 @@ pub fn run_line<D: Lends + Send, S: Store, O: Write, R: Wait + Threads + AllocGl
                 closed: Ok(()),
                 ended: Err(of_open(fault)),
                 recovered: None,
-                reported: RunLog::of_opening(reported_of(left)),
+                told: told_alone(left),
             }
         }
     }
@@ -106,11 +111,13 @@ fn run_opened<D: Lends + Send, S: Store, O: Write, R: Wait + Threads + AllocGlob
     requires none { alone.book.accepted ≡ [] }
     ensures others { ChangesAmong (S.files store.old) (S.files store.new) (files_of line.now) }
     ensures failed { IfErr result.ended (MayFail (S.files store.old) (S.files store.new)) }
-    ensures followed { IsFollowed (TellsOf D.follows D.tells (line_reported result.reported.desk result.reported.opening)) alone.seen }
-    ensures goes { DeskGoes (OfDevices D.follows D.well D.tells result.reported) alone task.work.commands.items (IsErr result.ended) }
+    ensures goes { RunTells D.follows D.well D.tells D.is_of result.told
+        (λ says. ((before : Seen) → GoesKept before alone.seen → says.opening before alone.seen)
+        × DeskGoes says alone task.work.commands.items (IsErr result.ended)) }
+    ensures whole { OnOk result.ended (TellsWhole result.told (λ whole. AreOfParts D.is_of whole.desk)) }
     ensures saved { (answered : Answered) → HasEnded result answered → SavesDesk
-        (λ last. IsSomeAnd (whole_of result.reported.desk result.reported.after)
-        (λ whole. LedAtDesk D.follows D.well D.tells task.turns (length line.now.images.items) alone whole last.seen))
+        (λ last. TellsWhole result.told
+        (λ whole. LedAtDesk D.follows D.well D.tells D.is_of task.turns (length line.now.images.items) alone whole last.seen))
         (S.files store.new) line.now alone task.work.commands.items answered }
 {
     match serve_task(rt, rt.alloc(), alone, line.images.len(), task, output) {
@@ -120,7 +127,7 @@ fn run_opened<D: Lends + Send, S: Store, O: Write, R: Wait + Threads + AllocGlob
             closed: Ok(()),
             ended: Err(why.fault),
             recovered: None,
-            reported: RunLog::of_unserved(why.reported),
+            told: why.told,
         },
     }
 }
@@ -139,14 +146,15 @@ pub(crate) fn end_left<D: Lends, S: Store, O: Write>(
     ensures others { ChangesAmong (S.files store.old) (S.files store.new) (files_of line.now) }
     ensures failed { IfErr result.ended (MayFail (S.files store.old) (S.files store.new)) }
     ensures closed { left.ending.reported ≡ Ok tt → result.closed ≡ Ok tt }
-    ensures desk { result.reported.desk ≡ Some left.reported }
     ensures sound { OnOk result.ended (left.sound ≡ Ok tt) }
-    ensures goes { left.ending.closed ≡ Ok tt → GoesAfter (OfDevices D.follows D.well D.tells result.reported) left.ending.is_driven left.sound
-        left.unserved.items left.site.seen (IsErr result.ended) }
+    ensures goes { (desk : DeskLogs D.Logged) → left.told ≡ desk_told desk → (logs : RunLogs D.Logged) × (result.told ≡ run_told logs)
+        × (desk_of logs ≡ Some desk) × (left.ending.closed ≡ Ok tt → GoesAfter (OfDevices D.follows D.well D.tells D.is_of logs)
+        left.ending.is_driven left.sound left.unserved.items left.site.seen (IsErr result.ended)) }
+    ensures after { OnOk result.ended ((after : D.Logged) × (result.told ≡ left.told ++ after ∷ [])) }
     ensures saved { (answered : Answered) → HasEnded result answered → SavesLeft (S.files store.new) line.now left answered }
-    ensures followed { OnOk result.ended (IsTrue left.ending.is_driven → IsSomeAnd result.reported.after (λ after. SavesRecovered
-        (LedOn D.follows D.well D.tells after (length line.now.images.items) result.recovered left.site) (S.files store.new) line.now
-        left.site.seen)) }
+    ensures followed { OnOk result.ended (IsTrue left.ending.is_driven → (after : D.Logged) × (result.told ≡ left.told ++ after ∷ [])
+        × SavesRecovered (LedOn D.follows D.well D.tells after (length line.now.images.items) result.recovered left.site) (S.files store.new)
+        line.now left.site.seen) }
 {
     let Left {
         site,
@@ -154,7 +162,7 @@ pub(crate) fn end_left<D: Lends, S: Store, O: Write>(
         ending,
         sound,
         words: _,
-        reported: desk,
+        mut told,
     } = left;
     let Ending {
         is_driven,
@@ -171,12 +179,13 @@ pub(crate) fn end_left<D: Lends, S: Store, O: Write>(
                 commands: unserved,
             };
             let (after, recovered) = end_line(alloc, line, left, store, output);
+            told.note(&after.reported);
             LineRun {
                 answers: answered,
                 closed,
                 ended: after.ended,
                 recovered,
-                reported: RunLog::of_desk(desk, Some(after.reported)),
+                told,
             }
         }
         Err(fault) => {
@@ -187,7 +196,7 @@ pub(crate) fn end_left<D: Lends, S: Store, O: Write>(
                 closed,
                 ended: Err(fault),
                 recovered: None,
-                reported: RunLog::of_desk(desk, None),
+                told,
             }
         }
     }

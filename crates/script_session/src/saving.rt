@@ -4,7 +4,6 @@ ghost use Rattle.station_files.specs.Files.{ChangesAmong};
 ghost use Rattle.station_line.specs.Site.{HoldsSite, IsFollowed, files_of};
 ghost use Rattle.script_session.specs.Saving.{IsReportedLine, MayFail};
 
-use crate::logs::{PartLog, reported_by};
 use site_core::Site;
 use site_shadow::{Lends, Parts, ShadowSite};
 use station_files::{Fault, Store};
@@ -34,13 +33,14 @@ pub(crate) fn save_reported<D: Lends, S: Store>(
 {
     // Its contract says that there is a half for each slave.
     let _slaves = site.slaves();
-    let has_stopped = site.has_stopped();
+    let goes_on = !site.has_stopped();
     let (parts, mut device) = site.into_parts();
-    let PartLog { reported, is_sound } = reported_by(&mut device, has_stopped);
+    let is_sound = goes_on && device.is_well();
+    let told = device.tell();
     drop(device);
     if !is_sound {
         drop(parts);
-        return (Err(Fault::Unserved), reported);
+        return (Err(Fault::Unserved), told);
     }
     let Parts {
         sizes: _,
@@ -50,5 +50,5 @@ pub(crate) fn save_reported<D: Lends, S: Store>(
     } = parts;
     let journal = disk.unwrap();
     let saved = save_parts(alloc, line, &journal, &halves, store);
-    (saved, reported)
+    (saved, told)
 }

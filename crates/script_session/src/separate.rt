@@ -235,7 +235,8 @@ pub(crate) fn lent_sites<D: Lends>(
 ) -> Sites<ShadowSite<D>>
     requires empty { room.items ≡ [] }
     requires room { length sites.slaves.items ≤ vec_capacity room }
-    ensures { AreSame sites result }
+    ensures same { AreSame sites result }
+    ensures well { D.well entire.new → D.well entire.old }
 {
     let Sites {
         disk,
@@ -266,7 +267,8 @@ fn lent_slaves<D: Lends>(
 ) -> Vec<ShadowSite<D>>
     requires empty { room.items ≡ [] }
     requires room { length sites.items ≤ vec_capacity room }
-    ensures { result.items ≡ sites.items }
+    ensures same { result.items ≡ sites.items }
+    ensures well { D.well entire.new → D.well entire.old }
 {
     let mut lent = room;
     for site in sites {

@@ -1,31 +1,25 @@
 //! Whether the parts of a line ended soundly at a desk, as far as their devices and the log of the disk tell.
 
 ghost use Rattle.std.specs.Prelude.{◌≡◌, Ok, Some, IsTrue, OnOk};
-ghost use Rattle.std.specs.List.{AllByRecursion};
 ghost use Rattle.book_model.specs.declared.next.DiskNext.TheVariants as next;
-ghost use Rattle.script_session.specs.Parts.{AreSound, EndsSynced};
+ghost use Rattle.script_session.specs.Parts.{EndsSynced};
 
-use crate::logs::{DeskLog, PartLog};
 use book_model::DiskNext;
 use site_shadow::{Device, ShadowSite};
 use station_files::Fault;
 use station_jobs::DiskEntry;
 use station_threads::Ends;
 
-/// Whether the parts of a line ended soundly whose site did so before, by what is reported of their devices. `is_synced` says whether the disk's log
-/// ends with a sync (`disk_is_synced`).
+/// How the parts of a line ended: whether each ended soundly, and whether the disk's log ends with a sync (`disk_is_synced`).
 ///
 /// # Errors
 ///
 /// `Unserved` where a site has stopped, or something has failed that a device was asked; else `Memory` where the disk's log doesn't end with a
 /// sync, since its jobs stopped for want of memory.
-pub(crate) fn validate_ends<T>(reported: &DeskLog<T>, is_synced: bool) -> Result<(), Fault>
-    ensures { OnOk result (AreSound reported.now × IsTrue is_synced) }
+pub(crate) fn validate_ends(are_sound: bool, is_synced: bool) -> Result<(), Fault>
+    ensures { OnOk result (IsTrue are_sound × IsTrue is_synced) }
 {
-    if !reported.line.is_sound
-        || !reported.disk.is_sound
-        || !are_sound(reported.slaves.as_slice())
-    {
+    if !are_sound {
         return Err(Fault::Unserved);
     }
     if is_synced {
@@ -33,18 +27,6 @@ pub(crate) fn validate_ends<T>(reported: &DeskLog<T>, is_synced: bool) -> Result
     } else {
         Err(Fault::Memory)
     }
-}
-
-/// Whether all these parts ended soundly.
-fn are_sound<T>(parts: &[PartLog<T>]) -> bool
-    ensures { IsTrue result → AllByRecursion (λ part. IsTrue part.is_sound) parts.now }
-{
-    for place in 0..parts.len() {
-        if !parts[place].is_sound {
-            return false;
-        }
-    }
-    true
 }
 
 /// Whether the log of the disk's part is empty, or ends with a sync that succeeded.

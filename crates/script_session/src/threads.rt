@@ -1,38 +1,26 @@
 //! Serves a line by threads.
 
-ghost use Rattle.std.specs.Prelude.{◌≡◌, ◌+◌, ◌≤◌, [], true, false, is_some, length, vec_capacity, IfErr, IfOk, IfSome, IsTrue, OnOk};
+ghost use Rattle.std.specs.Prelude.{◌≡◌, ◌+◌, ◌≤◌, ◌∷◌, [], true, false, is_some, length, vec_capacity, IfErr, IfOk, IfSome, IsTrue, OnOk};
 ghost use Rattle.site_core.specs.State.{Seen, State};
 ghost use Rattle.site_shadow.specs.Line.{halves_of};
 ghost use Rattle.script_session.specs.Asking.{no_counts};
-ghost use Rattle.script_session.specs.AtDesk.{IsUnservedReported, OpensDesk, ServesFollowed, ServesSites};
-ghost use Rattle.script_session.specs.Parts.{
-  AreSound,
-  EndsSynced,
-  IsCount,
-  IsDeskLeft,
-  IsDeskReported,
-  IsLineOf,
-  IsLineReported,
-  IsRoom,
-  IsServable,
-  IsTogether,
-  OwnUpTo,
-  Telling,
-  issues_of,
-};
+ghost use Rattle.script_session.specs.AtDesk.{IsUnservedTold, OpensDesk, ServesFollowed, ServesSites};
+ghost use Rattle.script_session.specs.After.{Tells};
+ghost use Rattle.script_session.specs.Parts.{EndsSynced, EndsTell, IsCount, IsLineOf, IsServable, IsTogether, OwnUpTo, TellsFirst, issues_of};
 ghost use Rattle.station_line.specs.Site.{IsFollowed};
 
 use crate::asked::NamesCommands;
 use crate::closing::{AtDesk, Ending, hand_in};
 use crate::issues::issues_of;
-use crate::logs::{DeskLog, PartLog, UnservedLog, reported_by};
 use crate::separate::{InMemory, lent_sites, servable_sites};
 use crate::soundness::{disk_is_synced, validate_ends};
 use crate::submitter::Submitter;
-use crate::together::{Complete, OfSlaves, put_together, reported_unserved};
+use crate::together::{Complete, Joined, put_together};
 use crate::work::{Task, Work};
 use book_core::Core;
+use esc_model::RomHalf;
 use sii_edit::Command;
+use sii_words::History;
 use site_core::Site;
 use site_shadow::{Device, Lends, Parts, ShadowSite};
 use station_alone::Alone;
@@ -61,8 +49,8 @@ pub struct Left<S, T> {
     pub sound: Result<(), Fault>,
     /// Number of issues: words sent to slaves, each counted as often as it was sent. `u64::MAX` where there were more.
     pub words: u64,
-    /// What is reported of the devices of the line and its parts.
-    pub reported: DeskLog<T>,
+    /// What was told of the devices: of the line's as the station was opened, of the disk's, and of each slave's, in order. In contracts alone.
+    pub told: History<T>,
 }
 
 /// Why a line was not served, or not put together again after that. `T` is what its devices tell.
@@ -70,8 +58,8 @@ pub struct Left<S, T> {
 pub struct NotServed<T> {
     /// The fault.
     pub fault: Fault,
-    /// What is reported of the devices.
-    pub reported: UnservedLog<T>,
+    /// What was told of the devices: of the line's, and of those of its parts, where these had one. In contracts alone.
+    pub told: History<T>,
 }
 
 /// Serves the commands of this task by threads on the line of this station, which has `slaves` slaves, and puts the line together again. Prints the
@@ -95,13 +83,17 @@ pub fn serve_task<D: Lends + Send, O: Write, W: Wait + Threads + Sync>(
 ) -> Result<Left<ShadowSite<D>, D::Logged>, NotServed<D::Logged>>
     requires none { alone.book.accepted ≡ [] }
     ensures line { IfOk result (λ left. IsLineOf slaves left.site.line) }
-    ensures parts { IfOk result (λ left. ServesFollowed D.follows D.well D.tells task.turns alone task.work.commands.items left) }
-    ensures failed { IfErr result (λ why. IsUnservedReported D.follows D.well D.tells alone task.work.commands.items why.reported) }
+    ensures parts { IfOk result (λ left. ServesFollowed D.follows D.well D.tells D.is_of task.turns alone task.work.commands.items left) }
+    ensures failed { IfErr result (λ why. IsUnservedTold D.follows D.well D.tells D.is_of alone task.work.commands.items why.told) }
     ensures unserved { IfOk result (λ left. left.ending.is_driven ≡ false → left.unserved.items ≡ task.work.commands.items) }
 {
     let Task { work, turns } = task;
     let (core, site) = alone.into_parts();
-    let Prepared { sites, entire } = match prepare(alloc, site, core.capacity(), turns) {
+    let Prepared {
+        sites,
+        entire,
+        room,
+    } = match prepare(alloc, site, core.capacity(), turns) {
         Ok(prepared) => prepared,
         Err(why) => {
             drop(core);
@@ -111,10 +103,10 @@ pub fn serve_task<D: Lends + Send, O: Write, W: Wait + Threads + Sync>(
     };
     let opening = Opening::of(core);
     match serve_at_desk::<Brand, Brand, Brand, D, O, W>(rt, alloc, opening, sites, work, output) {
-        Ok(at) => put_back(alloc, entire, slaves, at),
+        Ok(at) => put_back(alloc, entire, room, slaves, at),
         Err(sites) => Err(NotServed {
             fault: Fault::Memory,
-            reported: UnservedLog::Separate(reported_unserved(entire, sites)),
+            told: entire.end_unserved(sites),
         }),
     }
 }
@@ -124,31 +116,33 @@ pub fn serve_task<D: Lends + Send, O: Write, W: Wait + Threads + Sync>(
 struct Prepared<D: Device, T> {
     sites: Sites<ShadowSite<D>>,
     entire: Complete<D, T>,
+    /// An empty list with room for the half of each slave.
+    room: Vec<Option<RomHalf>>,
 }
 
 /// A line taken apart in memory, whose device has lent no part one yet.
 #[derive(Drop)]
-struct Separate<D: Device, T> {
+struct Separate<D: Device> {
     sites: Sites<InMemory>,
     /// An empty list with room for the sites of the slaves, each with its device.
     lent: Vec<ShadowSite<D>>,
-    /// Empty lists with room for what the workers leave.
-    room: OfSlaves<T>,
+    /// An empty list with room for the half of each slave.
+    room: Vec<Option<RomHalf>>,
 }
 
 /// The sites of the line's parts in memory, one for process data only if they are exchanged, and room for all that follows. No device has a share in
 /// it.
-fn taken_apart<D: Device + Drop, T: Drop>(
+fn taken_apart<D: Device + Drop>(
     alloc: Global,
     line: Parts,
     capacity: u32,
     turns: bool,
-) -> Result<Separate<D, T>, Fault>
+) -> Result<Separate<D>, Fault>
     ensures turning { IfOk result (λ separate. is_some separate.sites.cycle ≡ turns) }
     ensures sites { (state : State) → IfSome line.disk (λ bytes. bytes.items ≡ state.disk.bytes) → halves_of line.halves.items ≡ state.halves
         → IfOk result (λ separate. IsServable capacity state separate.sites) }
     ensures lent { IfOk result (λ separate. (separate.lent.items ≡ []) × (length separate.sites.slaves.items ≤ vec_capacity separate.lent)) }
-    ensures room { IfOk result (λ separate. IsRoom separate.room × (length separate.sites.slaves.items ≤ vec_capacity separate.room.reported)) }
+    ensures room { IfOk result (λ separate. separate.room.items ≡ []) }
 {
     let sites = servable_sites(alloc, line, capacity, turns)?;
     match room_for(alloc, sites.slaves.len()) {
@@ -161,15 +155,15 @@ fn taken_apart<D: Device + Drop, T: Drop>(
 }
 
 /// Empty lists with room for the sites of so many slaves, each with its device, and for what the workers leave.
-fn room_for<D: Device + Drop, T: Drop>(
+fn room_for<D: Device + Drop>(
     alloc: Global,
     slaves: usize,
-) -> Result<(Vec<ShadowSite<D>>, OfSlaves<T>), AllocError>
+) -> Result<(Vec<ShadowSite<D>>, Vec<Option<RomHalf>>), AllocError>
     ensures lent { IfOk result (λ room. (room.0.items ≡ []) × (slaves ≤ vec_capacity room.0)) }
-    ensures room { IfOk result (λ room. IsRoom room.1 × (slaves ≤ vec_capacity room.1.reported)) }
+    ensures room { IfOk result (λ room. room.1.items ≡ []) }
 {
     let lent = Vec::with_capacity(alloc, slaves)?;
-    let room = OfSlaves::room(alloc, slaves)?;
+    let room = Vec::with_capacity(alloc, slaves)?;
     Ok((lent, room))
 }
 
@@ -188,35 +182,28 @@ fn prepare<D: Lends>(
 ) -> Result<Prepared<D, D::Logged>, NotServed<D::Logged>>
     ensures turning { IfOk result (λ prepared. is_some prepared.sites.cycle ≡ turns) }
     ensures sites { IfOk result (λ prepared. IsServable capacity site.seen.state prepared.sites) }
-    ensures room { IfOk result (λ prepared. IsRoom prepared.entire.room) }
-    ensures reserved { IfOk result (λ prepared. length prepared.sites.slaves.items ≤ vec_capacity prepared.entire.room.reported) }
-    ensures reported { IfOk result (λ prepared. IsFollowed (Telling D.follows D.well D.tells prepared.entire.reported) site.seen) }
-    ensures failed { IfErr result (λ why. IsLineReported D.follows D.well D.tells site.seen why.reported) }
+    ensures room { IfOk result (λ prepared. prepared.room.items ≡ []) }
+    ensures told { IfOk result (λ prepared. IsFollowed (TellsFirst D.follows D.well D.tells prepared.entire) site.seen) }
+    ensures failed { IfErr result (λ why. (log : D.Logged) × (why.told ≡ log ∷ []) × IsFollowed (Tells D.follows D.tells log) site.seen) }
     ensures count { length site.line.sizes ≡ length site.seen.state.halves }
 {
     // Its contract says that there is a half for each slave.
     let _slaves = site.slaves();
     let has_stopped = site.has_stopped();
-    let (parts, mut device) = site.into_parts();
-    let reported = reported_by(&mut device, has_stopped);
+    let (parts, device) = site.into_parts();
+    let mut entire = Complete::of(device, has_stopped);
     match taken_apart(alloc, parts, capacity, turns) {
         Ok(Separate { sites, lent, room }) => {
-            let sites = lent_sites(&mut device, sites, lent);
+            let sites = lent_sites(&mut entire.device, sites, lent);
             Ok(Prepared {
                 sites,
-                entire: Complete {
-                    device,
-                    reported,
-                    room,
-                },
+                entire,
+                room,
             })
         }
         Err(fault) => {
-            drop(device);
-            Err(NotServed {
-                fault,
-                reported: UnservedLog::Line(reported),
-            })
+            let Complete { told, .. } = entire;
+            Err(NotServed { fault, told })
         }
     }
 }
@@ -225,19 +212,20 @@ fn prepare<D: Lends>(
 fn put_back<D: Lends>(
     alloc: Global,
     entire: Complete<D, D::Logged>,
+    room: Vec<Option<RomHalf>>,
     slaves: usize,
     at: AtDesk<ShadowSite<D>>,
 ) -> Result<Left<ShadowSite<D>, D::Logged>, NotServed<D::Logged>>
-    requires room { IsRoom entire.room }
-    requires reserved { length at.ends.workers.items ≤ vec_capacity entire.room.reported }
+    requires { room.items ≡ [] }
     ensures line { IfOk result (λ left. IsLineOf slaves left.site.line) }
     ensures left { IfOk result (λ left. IsTogether at.ends left.site × (left.ending ≡ at.ending)) }
     ensures unserved { IfOk result (λ left. left.unserved ≡ at.unserved) }
-    ensures reported { IfOk result (λ left. (opened : Seen) → IsFollowed (Telling D.follows D.well D.tells entire.reported) opened
-        → IsDeskReported D.follows D.well D.tells opened left.reported at.ends) }
-    ensures sound { IfOk result (λ left. OnOk left.sound (AreSound left.reported × EndsSynced at.ends.flusher.log)) }
+    ensures told { IfOk result (λ left. (opened : Seen) → IsFollowed (TellsFirst D.follows D.well D.tells entire) opened
+        → EndsTell D.follows D.well D.tells D.is_of (left.sound ≡ Ok tt) opened left.told at.ends) }
+    ensures sound { IfOk result (λ left. OnOk left.sound (EndsSynced at.ends.flusher.log)) }
     ensures words { IfOk result (λ left. IsCount (issues_of at.ends.workers.items) left.words) }
-    ensures failed { IfErr result (λ why. IsDeskLeft D.follows D.well D.tells entire.reported at.ends why.reported) }
+    ensures failed { IfErr result (λ why. (opened : Seen) → IsFollowed (TellsFirst D.follows D.well D.tells entire) opened
+        → EndsTell D.follows D.well D.tells D.is_of ⊥ opened why.told at.ends) }
 {
     let AtDesk {
         ends,
@@ -246,25 +234,23 @@ fn put_back<D: Lends>(
     } = at;
     let is_synced = disk_is_synced(&ends);
     let words = issues_of(ends.workers.as_slice());
-    let (put, reported) = put_together(alloc, entire, slaves, ends);
-    match put {
-        Ok(site) => {
-            let sound = validate_ends(&reported, is_synced);
-            Ok(Left {
-                site,
-                unserved,
-                ending,
-                sound,
-                words,
-                reported,
-            })
-        }
+    let Joined {
+        site,
+        told,
+        is_sound,
+    } = put_together(alloc, entire, room, slaves, ends);
+    match site {
+        Ok(site) => Ok(Left {
+            site,
+            unserved,
+            ending,
+            sound: validate_ends(is_sound, is_synced),
+            words,
+            told,
+        }),
         Err(fault) => {
             drop(unserved);
-            Err(NotServed {
-                fault,
-                reported: UnservedLog::Desk(reported),
-            })
+            Err(NotServed { fault, told })
         }
     }
 }

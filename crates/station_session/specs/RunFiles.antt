@@ -13,7 +13,6 @@ use Rattle.site_file.specs.declared.asking.FileLog.{FileLog}
 use Rattle.site_file.specs.Parts.{AreOf}
 use Rattle.site_shadow.specs.declared.lending.LinePart.{LinePart}
 use Rattle.site_shadow.specs.declared.lending.LinePart.TheVariants as parts
-use Rattle.site_file.specs.Asking.{TellsLog}
 use Rattle.site_file.specs.Files.{BecomesBy, File, IsBytes}
 use Rattle.site_file.specs.Held.{of_file}
 use Rattle.site_file.specs.AllFiles.{calls_of, Holds, Shows}
@@ -36,11 +35,9 @@ use Rattle.station_files.specs.ScriptFiles.{SpellsCommands}
 use Rattle.station_files.specs.declared.faults.ExitStatus.{ExitStatus}
 use Rattle.station_files.specs.declared.faults.Fault.{Fault}
 use Rattle.script_session.specs.AtDesk.{BeginsAs, seen_of}
-use Rattle.script_session.specs.declared.logs.DeskLog.{DeskLog}
-use Rattle.script_session.specs.declared.logs.PartLog.{PartLog}
-use Rattle.script_session.specs.declared.logs.RunLog.{RunLog}
+use Rattle.script_session.specs.Told.{AreOfParts, DeskLogs, RunLogs, after_of, desk_of, opening_of, run_told}
 use Rattle.script_session.specs.Recovering.{StaysKept}
-use Rattle.script_session.specs.Running.{RunGoes, Says, line_reported}
+use Rattle.script_session.specs.Running.{RunGoes, Says, TellsWhole}
 use Rattle.station_line.specs.Opened.{Loads}
 
 -- ---- on files
@@ -81,55 +78,51 @@ pub record KeepsAtDesk (F : Type 0) (station : Station) (sound : Result (Unit {0
   pub parts : KeepsParts F station ends
   pub together : OnOk sound (HoldTogether ends parts.desk site)
 
--- What is told of the calls of a device, if something is.
-abbrev pub IsReported : Option FileLog → (List Asked → Type 0) → Type 0
-IsReported reported so = IfSome reported (λ file. IfSome file.calls so)
-
 -- As `KeepsOn`, by the calls that are told.
-pub record KeepsAsReported (F : Type 0) (reported : Option FileLog) (before now : Seen) : Type 0 where
+pub record KeepsAsTold (F : Type 0) (log : Option FileLog) (before now : Seen) : Type 0 where
   pub keeps : KeepsOn F before now
-  pub asked : IsReported reported (λ calls. calls ≡ keeps.calls)
+  pub asked : IfSome log (λ file. file.calls ≡ keeps.calls)
 
 -- As `KeepsOnServing`, by the calls that are told.
-pub record ServesAsReported (F : Type 0) (reported : Option FileLog) (commands : List Command) (before now : Seen) : Type 0 where
+pub record ServesAsTold (F : Type 0) (log : Option FileLog) (commands : List Command) (before now : Seen) : Type 0 where
   pub keeps : KeepsOnServing F commands before now
-  pub asked : IsReported reported (λ calls. calls ≡ keeps.calls)
+  pub asked : IfSome log (λ file. file.calls ≡ keeps.calls)
 
 -- The devices behind the parts of a desk have asked their files what is told of them.
-pub record HaveAsked {F : Type 0} (reported : DeskLog FileLog) (ends : Ends SiteValue)
+pub record HaveAsked {F : Type 0} (told : DeskLogs FileLog) (ends : Ends SiteValue)
     (desk : DeskOnFiles F seen_of ends.flusher ends.workers.items) : Type 0 where
-  pub journal : TellsLog desk.journal.device.asking.calls reported.disk.reported.calls
+  pub journal : desk.journal.device.log.calls ≡ told.disk.calls
   pub images : (slave : ℕ) (end : Stay SiteValue SlaveLog) (is : slice_get ends.workers.items slave ≡ Some end)
-      → (part : PartLog FileLog) × (slice_get reported.slaves.items slave ≡ Some part)
-      × TellsLog (desk.images slave end is).device.asking.calls part.reported.calls
+      → (log : FileLog) × (slice_get told.slaves slave ≡ Some log) × ((desk.images slave end is).device.log.calls ≡ log.calls)
 
 -- As `KeepsParts`, by the calls that are told.
-pub record KeepsPartsAsReported (F : Type 0) (reported : Option (DeskLog FileLog)) (station : Station) (ends : Ends SiteValue) : Type 0 where
+pub record KeepsPartsAsTold (F : Type 0) (told : Option (DeskLogs FileLog)) (station : Station) (ends : Ends SiteValue) : Type 0 where
   pub keeps : KeepsParts F station ends
-  pub asked : IsSomeAnd reported (λ desk. HaveAsked desk ends keeps.desk)
+  pub asked : IsSomeAnd told (λ desk. HaveAsked desk ends keeps.desk)
 
 -- As `KeepsAtDesk`, by the calls that are told.
-pub record KeepsDeskAsReported (F : Type 0) (reported : Option (DeskLog FileLog)) (station : Station) (sound : Result (Unit {0}) Fault)
+pub record KeepsDeskAsTold (F : Type 0) (told : Option (DeskLogs FileLog)) (station : Station) (sound : Result (Unit {0}) Fault)
     (ends : Ends SiteValue) (site : SiteValue) : Type 0 where
   pub keeps : KeepsAtDesk F station sound ends site
-  pub asked : IsSomeAnd reported (λ desk. HaveAsked desk ends keeps.parts.desk)
+  pub asked : IsSomeAnd told (λ desk. HaveAsked desk ends keeps.parts.desk)
 
 -- what the files of a run keep of which this is told
-abbrev pub OfFiles : Type 0 → RunLog FileLog → Says
-OfFiles F reported = record {
-  opening = KeepsAsReported F (line_reported reported.desk reported.opening);
-  after = KeepsAsReported F reported.after;
-  serving = ServesAsReported F reported.after;
-  parts = KeepsPartsAsReported F reported.desk;
-  desk = KeepsDeskAsReported F reported.desk;
-  unbegun = reported.desk ≡ None;
+abbrev pub OfFiles : Type 0 → RunLogs FileLog → Says
+OfFiles F logs = record {
+  opening = KeepsAsTold F (Some (opening_of logs));
+  after = KeepsAsTold F (after_of logs);
+  serving = ServesAsTold F (after_of logs);
+  parts = KeepsPartsAsTold F (desk_of logs);
+  desk = KeepsDeskAsTold F (desk_of logs);
+  unbegun = desk_of logs ≡ None;
 }
 
 -- What a power cut has left in the files of a run is kept, as far as the run came, however it ended: as the station was opened, at its desk, and in
 -- what went after the desk, each since the log of its device began. Each begins with the files as the one before left them. The logs are those
 -- that the run tells.
-abbrev pub RunKeepsFiles : (F : Type 0) → (before : Seen) → List Command → ExitStatus → RunLog FileLog → Type 0
-RunKeepsFiles F before commands status reported = RunGoes (OfFiles F reported) before commands (¬ IsFaultless status)
+abbrev pub RunKeepsFiles : (F : Type 0) → (before : Seen) → List Command → ExitStatus → (told : List FileLog) → Type 0
+RunKeepsFiles F before commands status told =
+    (logs : RunLogs FileLog) × (told ≡ run_told logs) × RunGoes (OfFiles F logs) before commands (¬ IsFaultless status)
 
 -- For each machine that was kept before the station was opened: whatever calls of a desk to which no command was submitted its book has answered by
 -- then, a power cut, each device anywhere in its job, leaves in the files, all at once, only what is kept for it.
@@ -141,51 +134,35 @@ KeepsEach before station ends desk = (machine : Machine) (calls : List Call) (be
     → (pair : Pair) × KeptFor machine pair × ((name : FileName) → IsTrue (has_file station.seen.state name) → Shows pair name (images name))
 
 -- what the files of a recovery keep of which this is told
-abbrev pub OfRecovered : (F : Type 0) → (before : Seen) → RunLog FileLog → Says
-OfRecovered F before reported = record {
-  opening = KeepsAsReported F (line_reported reported.desk reported.opening);
-  after = λ left last. StaysKept before left × KeepsAsReported F reported.after left last;
-  serving = ServesAsReported F reported.after;
-  parts = λ station ends. (so : KeepsPartsAsReported F reported.desk station ends) × KeepsEach before station ends so.keeps.desk;
-  desk = λ station sound ends site. (so : KeepsDeskAsReported F reported.desk station sound ends site) × KeepsEach before station ends so.keeps.parts.desk;
-  unbegun = reported.desk ≡ None;
+abbrev pub OfRecovered : (F : Type 0) → (before : Seen) → RunLogs FileLog → Says
+OfRecovered F before logs = record {
+  opening = KeepsAsTold F (Some (opening_of logs));
+  after = λ left last. StaysKept before left × KeepsAsTold F (after_of logs) left last;
+  serving = ServesAsTold F (after_of logs);
+  parts = λ station ends. (so : KeepsPartsAsTold F (desk_of logs) station ends) × KeepsEach before station ends so.keeps.desk;
+  desk = λ station sound ends site. (so : KeepsDeskAsTold F (desk_of logs) station sound ends site) × KeepsEach before station ends so.keeps.parts.desk;
+  unbegun = desk_of logs ≡ None;
 }
 
 -- What a power cut has left in the files of a recovery is kept for each machine for which it was kept before, as far as the recovery came.
-abbrev pub RecoveryKeepsFiles : (F : Type 0) → (before : Seen) → ExitStatus → RunLog FileLog → Type 0
-RecoveryKeepsFiles F before status reported = RunGoes (OfRecovered F before reported) before [] (¬ IsFaultless status)
+abbrev pub RecoveryKeepsFiles : (F : Type 0) → (before : Seen) → ExitStatus → (told : List FileLog) → Type 0
+RecoveryKeepsFiles F before status told =
+    (logs : RunLogs FileLog) × (told ≡ run_told logs) × RunGoes (OfRecovered F before logs) before [] (¬ IsFaultless status)
 
 -- The line and the script were read, and what a power cut has left in the line's files as the commands were run on them is kept so.
-pub record KeepsRunFiles (F : Type 0) (old : Known) (name script : List ℕ) (status : ExitStatus) (reported : RunLog FileLog) : Type 0 where
+pub record KeepsRunFiles (F : Type 0) (old : Known) (name script : List ℕ) (status : ExitStatus) (told : List FileLog) : Type 0 where
   pub line : LineFile
   pub site : SiteValue
   pub loaded : Loads old name line site
   pub commands : List Command
   pub spelt : SpellsCommands old script commands
-  pub kept : RunKeepsFiles F site.seen commands status reported
+  pub kept : RunKeepsFiles F site.seen commands status told
 
--- All that a device asked of its files is told, and it was the device of this part: it asked no other file.
-pub record IsPartReported (part : LinePart) (reported : FileLog) : Type 0 where
-  pub log : IsTrue (is_some reported.calls)
-  pub own : IfSome reported.calls (AreOf (Some part))
+-- This is told of the device of this part: it asked no other file.
+abbrev pub IsOfPart : LinePart → FileLog → Type 0
+IsOfPart part log = log.part ≡ Some part
 
--- The same of the device behind the worker of each slave, in order.
-abbrev pub AreSlavesReported : List (PartLog FileLog) → Type 0
-AreSlavesReported reported = (slave : ℕ) (part : PartLog FileLog) → slice_get reported slave ≡ Some part → IsPartReported (parts.Slave slave) part.reported
-
--- The logs of the line's device before it was taken apart, and of the device of each part are told, each of its own part.
-pub record AreLogsReported (reported : DeskLog FileLog) : Type 0 where
-  pub line : IsTrue (is_some reported.line.reported.calls)
-  pub disk : IsPartReported parts.Disk reported.disk.reported
-  pub slaves : AreSlavesReported reported.slaves.items
-
--- The logs of the line's device as the station was opened, of the devices at the desk, and of the line's after it are told.
-pub record IsAllReported (reported : RunLog FileLog) : Type 0 where
-  pub desk : IsSomeAnd reported.desk AreLogsReported
-  pub after : IsSomeAnd reported.after (λ file. IsTrue (is_some file.calls))
-
--- No device is told of: none has had a file of the line.
-pub record IsNoneReported {T : Type 0} (reported : RunLog T) : Type 0 where
-  pub opening : reported.opening ≡ None
-  pub desk : reported.desk ≡ None
-  pub after : reported.after ≡ None
+-- All that was asked of the files is told: by the line's device as the station was opened, at the desk by those of the parts, each of its own, and by the
+-- line's after it.
+abbrev pub IsAllTold : (told : List FileLog) → Type 0
+IsAllTold told = TellsWhole told (λ line. AreOfParts IsOfPart line.desk)

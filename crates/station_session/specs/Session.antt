@@ -1,5 +1,5 @@
 -- `run` and `recover`: what is read from the files of a line, how the station starts, and what the files hold in the end.
-use Rattle.std.specs.Prelude.{◌≡◌, Bool, false, List, [], Some, unwrap_or, ℕ, ⊤, slice_get, IsSomeAnd, IsTrue}
+use Rattle.std.specs.Prelude.{◌≡◌, Bool, false, List, [], Some, ℕ, ⊤, slice_get, IsSomeAnd, IsTrue}
 use Rattle.sii_edit.specs.declared.command.Command.{Command}
 use Rattle.site_core.specs.State.{Seen, State}
 use Rattle.site_shadow.specs.Site.{SiteValue}
@@ -22,13 +22,12 @@ use Rattle.station_files.specs.declared.faults.ExitStatus.{ExitStatus}
 use Rattle.station_files.specs.declared.faults.ExitStatus.TheVariants.{Done}
 use Rattle.station_line.specs.Answers.{AnswersGive}
 use Rattle.station_line.specs.Opened.{Loads}
-use Rattle.script_session.specs.declared.logs.LineLog.{LineLog}
-use Rattle.script_session.specs.declared.logs.PartLog.{PartLog}
+use Rattle.script_session.specs.Told.{LineLogs}
 use Rattle.script_session.specs.After.{SavesRecovered}
-use Rattle.script_session.specs.Running.{whole_of}
+use Rattle.script_session.specs.Running.{TellsWhole}
 use Rattle.script_session.specs.Saving.{SavesRun}
 use Rattle.station_session.specs.declared.run.Ran.{Ran}
-use Rattle.station_session.specs.RunFiles.{IsAllReported, IsNoneReported, RecoveryKeepsFiles}
+use Rattle.station_session.specs.RunFiles.{IsAllTold, RecoveryKeepsFiles}
 use Rattle.station_line.specs.Validating.{HasJournal, IsRunSeparate}
 use Rattle.station_line.specs.Site.{files_of}
 
@@ -43,25 +42,25 @@ IsRefusal fault = ⊥
 
 -- the image of a slave, by what is told of a device
 abbrev pub ImageBecomes : (slave : ℕ) → FileLog → File → File → Type 0
-ImageBecomes slave reported old new = BecomesBy (of_file (Image slave) (unwrap_or reported.calls [])) old new
+ImageBecomes slave log old new = BecomesBy (of_file (Image slave) log.calls) old new
 
 -- Each image has the contents, by what was asked of it since the files held the state before: as the station was opened, at the desk by the device of
 -- its slave, and after it.
-abbrev pub HaveContents : (before : State) → Book → LineLog FileLog → Type 0
+abbrev pub HaveContents : (before : State) → Book → LineLogs FileLog → Type 0
 HaveContents before book whole = (slave : ℕ) → IsTrue (has_file before (Image slave))
-    → (part : PartLog FileLog) × (slice_get whole.desk.slaves.items slave ≡ Some part)
-    × ((opened left later : File) → ImageBecomes slave whole.desk.line.reported (holding before (Image slave)) opened
-    → ImageBecomes slave part.reported opened left → ImageBecomes slave whole.after left later → HasContents book (Image slave) later)
+    → (log : FileLog) × (slice_get whole.desk.slaves slave ≡ Some log)
+    × ((opened left later : File) → ImageBecomes slave whole.desk.line (holding before (Image slave)) opened
+    → ImageBecomes slave log opened left → ImageBecomes slave whole.after left later → HasContents book (Image slave) later)
 
 -- No other files than the line's changed. If the recovery began, what a power cut has left in them is kept, as far as it came; otherwise no file was asked
 -- anything. If the status is `Done`, they hold the state of a complete recovery; by what was asked of the open files, that alone has left the contents in
 -- them.
 pub record EndsRecovery (F : Type 0) (old new : Known) (line : LineFile) (before : Seen) (ran : Ran) : Type 0 where
   pub others : ChangesAmong old new (files_of line)
-  pub kept : IsTrue ran.is_begun → RecoveryKeepsFiles F before ran.status ran.reported
-  pub unbegun : ran.is_begun ≡ false → IsNoneReported ran.reported
-  pub saved : ran.status ≡ Done → IsAllReported ran.reported
-      × SavesRecovered (λ s. IsSomeAnd (whole_of ran.reported.desk ran.reported.after) (HaveContents before.state s.book)) new line before
+  pub kept : IsTrue ran.is_begun → RecoveryKeepsFiles F before ran.status ran.told
+  pub unbegun : ran.is_begun ≡ false → ran.told ≡ []
+  pub saved : ran.status ≡ Done → IsAllTold ran.told
+      × SavesRecovered (λ s. TellsWhole ran.told (HaveContents before.state s.book)) new line before
 
 -- The line was read, its files stand apart, its journal is one, and it was recovered as far as the status says.
 pub record RecoversFiles (F : Type 0) (leads : Leads) (old new : Known) (name : List ℕ) (ran : Ran) : Type 0 where

@@ -3,11 +3,9 @@
 #![tactic(auto)]
 
 mod fused;
-mod logs;
 mod recovery;
 mod run;
 
 pub use fused::Fuse;
-pub use logs::FilesLog;
 pub use recovery::recover_line;
 pub use run::{Ran, RunNames, run_script};

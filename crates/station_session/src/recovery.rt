@@ -6,7 +6,6 @@ ghost use Rattle.station_line.specs.Refusals.{RefusesRecovery};
 ghost use Rattle.station_session.specs.Noting.{NotesWhy};
 ghost use Rattle.station_session.specs.Session.{EndsRecovery, RecoversFiles};
 
-use crate::logs::with_all_reported;
 use crate::run::Ran;
 use line_watch::{Cleared, Watch, Watched};
 use script_session::{LineRun, recover_by_threads};
@@ -120,16 +119,16 @@ fn recover_opened<
     let LineRun {
         ended,
         recovered,
-        reported,
+        told,
         ..
     } = recover_by_threads(rt, &line, site, store);
-    let told = with_all_reported(note_ended(ended, failures), &reported, failures);
+    let noted = note_ended(ended, failures);
     let printed = print_recovered(recovered, &mut Cleared::new(output, progress, rt), failures);
     watch.erase();
     Ran {
         is_begun: true,
-        status: worse(told, printed),
-        reported,
+        status: worse(noted, printed),
+        told,
     }
 }
 

@@ -1,18 +1,18 @@
 //! The subcommand `run`.
-ghost use Rattle.std.specs.Prelude.{◌≡◌, is_some, false, IfErr, IfOk, IsTrue, OnErr};
+ghost use Rattle.std.specs.Prelude.{◌≡◌, [], is_some, false, IfErr, IfOk, IsTrue, OnErr};
 ghost use Rattle.station_files.specs.Faults.{IsFaultless};
 ghost use Rattle.station_line.specs.Answers.{IsOfAnswers, exit_status};
 ghost use Rattle.station_line.specs.Opened.{is_old, IsFresh};
 ghost use Rattle.station_line.specs.Refusals.{RefusesRun};
 ghost use Rattle.station_session.specs.Noting.{NotesWhy};
-ghost use Rattle.station_session.specs.RunFiles.{IsAllReported, IsNoneReported, KeepsRunFiles, RunKeepsFiles};
+ghost use Rattle.station_session.specs.RunFiles.{IsAllTold, KeepsRunFiles, RunKeepsFiles};
 ghost use Rattle.station_session.specs.Session.{EndsRun, RunsFiles};
 
 use crate::fused::{Fuse, run_fused};
-use crate::logs::{FilesLog, with_all_reported};
 use line_watch::{Cleared, Watch, Watched};
-use script_session::{LineRun, RunLog, Start, Task, Work, run_line};
-use site_file::{FileDevice, OpenFiles};
+use script_session::{LineRun, Start, Task, Work, run_line};
+use sii_words::History;
+use site_file::{FileDevice, FileLog, OpenFiles};
 use station_files::{ExitStatus, Failures, Fault, Store, worse};
 use station_line::{Answered, LoadedLine, Session, load, open_files};
 use std::io::Write;
@@ -36,8 +36,8 @@ pub struct Ran {
     pub is_begun: bool,
     /// The exit status.
     pub status: ExitStatus,
-    /// What was asked of the files.
-    pub reported: FilesLog,
+    /// What was asked of the files, device by device. In contracts alone: it takes no memory.
+    pub told: History<FileLog>,
 }
 
 impl Ran {
@@ -45,16 +45,12 @@ impl Ran {
     pub(crate) fn without_files(is_begun: bool, status: ExitStatus) -> Ran
         ensures begun { result.is_begun ≡ is_begun }
         ensures status { result.status ≡ status }
-        ensures reported { IsNoneReported result.reported }
+        ensures told { result.told ≡ [] }
     {
         Ran {
             is_begun,
             status,
-            reported: RunLog {
-                opening: None,
-                desk: None,
-                after: None,
-            },
+            told: History::new(),
         }
     }
 }
@@ -90,9 +86,9 @@ pub fn run_script<
         names.entry.script.now ran.status) }
     ensures begun { IfOk result (λ ran. IsFaultless ran.status → IsTrue ran.is_begun) }
     ensures kept { is_some fuse ≡ false → IfOk result (λ ran. IsTrue ran.is_begun
-        → KeepsRunFiles S.File (S.files store.old) names.entry.line.now names.entry.script.now ran.status ran.reported) }
-    ensures reported { is_some fuse ≡ false → IfOk result (λ ran. IsFaultless ran.status → IsAllReported ran.reported) }
-    ensures unbegun { IfOk result (λ ran. ran.is_begun ≡ false → IsNoneReported ran.reported) }
+        → KeepsRunFiles S.File (S.files store.old) names.entry.line.now names.entry.script.now ran.status ran.told) }
+    ensures told { is_some fuse ≡ false → IfOk result (λ ran. IsFaultless ran.status → IsAllTold ran.told) }
+    ensures unbegun { IfOk result (λ ran. ran.is_begun ≡ false → ran.told ≡ []) }
     ensures refused { IfErr result (RefusesRun (S.files store.old) S.leads names.entry.line.now names.entry.script.now) }
     ensures same { OnErr result (S.files store.new ≡ S.files store.old) }
     ensures noted { IfOk result (λ ran. NotesWhy (IsOfAnswers ran.status) ran.status failures.old failures.new) }
@@ -120,9 +116,9 @@ fn run_given<S: Store, W: Write, T: Write + Send, R: Wait + Threads + Clock + Al
         result.status }
     ensures begun { IsFaultless result.status → IsTrue result.is_begun }
     ensures kept { is_some fuse ≡ false → IsTrue result.is_begun
-        → RunKeepsFiles S.File given.session.site.seen given.commands.items result.status result.reported }
-    ensures reported { is_some fuse ≡ false → IsFaultless result.status → IsAllReported result.reported }
-    ensures unbegun { result.is_begun ≡ false → IsNoneReported result.reported }
+        → RunKeepsFiles S.File given.session.site.seen given.commands.items result.status result.told }
+    ensures told { is_some fuse ≡ false → IsFaultless result.status → IsAllTold result.told }
+    ensures unbegun { result.is_begun ≡ false → result.told ≡ [] }
     ensures noted { NotesWhy (IsOfAnswers result.status) result.status failures.old failures.new }
 {
     match fuse {
@@ -158,8 +154,8 @@ fn run_opened<S: Store, W: Write, T: Write + Send, R: Wait + Threads + Clock + A
     requires old { given.session.is_old ≡ is_old given.session.site.seen.state.disk.bytes }
     ensures ends { EndsRun false (S.files store.old) (S.files store.new) given.session.line given.session.site given.commands.items result.status }
     ensures begun { IsTrue result.is_begun }
-    ensures kept { RunKeepsFiles S.File given.session.site.seen given.commands.items result.status result.reported }
-    ensures reported { IsFaultless result.status → IsAllReported result.reported }
+    ensures kept { RunKeepsFiles S.File given.session.site.seen given.commands.items result.status result.told }
+    ensures told { IsFaultless result.status → IsAllTold result.told }
     ensures noted { NotesWhy (IsOfAnswers result.status) result.status failures.old failures.new }
 {
     let Watch { rt, progress } = watch;
@@ -187,7 +183,7 @@ fn run_opened<S: Store, W: Write, T: Write + Send, R: Wait + Threads + Clock + A
         answers,
         closed,
         ended,
-        reported,
+        told,
         ..
     } = run_line(
         rt,
@@ -198,12 +194,11 @@ fn run_opened<S: Store, W: Write, T: Write + Send, R: Wait + Threads + Clock + A
         &mut Cleared::new(output, progress, rt),
     );
     let noted = worse(failures.note_end(closed), note_answered(ended, failures));
-    let status = with_all_reported(worse(answers.status(), noted), &reported, failures);
     watch.erase();
     Ran {
         is_begun: true,
-        status,
-        reported,
+        status: worse(answers.status(), noted),
+        told,
     }
 }
 

@@ -1,5 +1,5 @@
 -- `init` and `recover` on a wire: what the files hold in the end.
-use Rattle.std.specs.Prelude.{◌≡◌, ◌⊎◌, ℕ, List, map, length, string_bytes, None, Result, IsErr, IsSomeAnd, ⊤}
+use Rattle.std.specs.Prelude.{◌≡◌, ◌⊎◌, ℕ, List, map, length, string_bytes, [], Result, IsErr, ⊤}
 use Rattle.site_core.specs.State.{Seen}
 use Rattle.station_text.specs.declared.line_file.LineFile.{LineFile}
 use Rattle.station_files.specs.Files.{Known, Holds}
@@ -20,6 +20,7 @@ use Rattle.site_wire.specs.declared.device.WireLog.{WireLog}
 use Rattle.script_session.specs.After.{SavesRecovered}
 use Rattle.wire_session.specs.declared.logs.Worked.{Worked}
 use Rattle.wire_session.specs.Ending.{EndsOpened}
+use Rattle.script_session.specs.Running.{TellsWhole}
 use Rattle.wire_session.specs.Slaves.{SlavesHold}
 
 -- If the result is `Ok`, the files hold the state of a complete recovery of this site, and so do the slaves.
@@ -36,11 +37,11 @@ pub record RecoversFound (worked : Worked (Unit {0}) WireLog) (said : List Mend)
   pub validated : HasJournal (map length plant) bytes
   pub kept : AreOfImages old line said bytes plant
   pub separate : IsLineSeparate leads line name
-  pub ends : EndsOpenedRecovery (λ s. IsSomeAnd worked.reported (SlavesHold plant s)) worked.ended old new line (switched_on plant bytes)
+  pub ends : EndsOpenedRecovery (λ s. TellsWhole worked.told (SlavesHold plant s)) worked.ended old new line (switched_on plant bytes)
 
 -- what `recover` does: it stops before it writes and before the line has a device, as where the journal is refused; or it recovers the line
 abbrev pub Recovers : Worked (Unit {0}) WireLog → List Mend → Leads → Known → Known → List ℕ → Type 0
-Recovers worked said leads old new name = (IsErr worked.ended × (worked.reported ≡ None) × (new ≡ old)) ⊎ RecoversFound worked said leads old new name
+Recovers worked said leads old new name = (IsErr worked.ended × (worked.told ≡ []) × (new ≡ old)) ⊎ RecoversFound worked said leads old new name
 
 -- `init` is refused as by the station, or before: then nothing was written.
 abbrev pub RefusesInit : Known → Known → Leads → List ℕ → WireFault → Type 0

@@ -1,5 +1,5 @@
 -- `run` on a wire: how the line that was found is served by threads, and what the files hold in the end.
-use Rattle.std.specs.Prelude.{◌≡◌, ◌⊎◌, ◌++◌, ℕ, false, List, length, map, Option, None, IsErr, IsTrue}
+use Rattle.std.specs.Prelude.{◌≡◌, ◌⊎◌, ◌++◌, ℕ, false, List, [], length, map, IsErr, IsTrue}
 use Rattle.sii_edit.specs.declared.command.Command.{Command}
 use Rattle.site_shadow.specs.Site.{SiteValue}
 use Rattle.station_text.specs.declared.line_file.LineFile.{LineFile}
@@ -16,7 +16,6 @@ use Rattle.wire_scan.specs.Keeping.{AreMends, AreOfImages, MendsFiles}
 use Rattle.wire_scan.specs.Opening.{IsFound}
 use Rattle.wire_scan.specs.declared.asked.Mend.{Mend}
 use Rattle.site_wire.specs.declared.device.WireLog.{WireLog}
-use Rattle.script_session.specs.declared.logs.LineLog.{LineLog}
 use Rattle.wire_session.specs.declared.logs.Worked.{Worked}
 use Rattle.wire_session.specs.Ending.{EndsOpened}
 use Rattle.wire_session.specs.Slaves.{SlavesAreSaved}
@@ -24,16 +23,16 @@ use Rattle.wire_session.specs.Slaves.{SlavesAreSaved}
 -- The files hold the state of a station that was served on a site of slaves with these words and a journal with these bytes, and the answers to the
 -- commands give the status. Where threads could be made, so that the commands were submitted at a desk, so do the slaves, by what is told of the devices.
 pub record SavesFound (files : Known) (line : LineFile) (plant : List (List ℕ)) (bytes : List ℕ) (commands : List Command)
-    (reported : Option (LineLog WireLog)) (status : ExitStatus) : Type 0 where
+    (told : List WireLog) (status : ExitStatus) : Type 0 where
   pub site : SiteValue
   pub made : IsSiteOf plant bytes site
   pub saves : AnswersGive (SavesRun false files line site commands) status
-  pub slaves : IsTrue saves.so.serves.is_driven → SlavesAreSaved plant files line reported
+  pub slaves : IsTrue saves.so.serves.is_driven → SlavesAreSaved plant files line told
 
 -- The same of the words that were found on the wire and the bytes of the journal.
 abbrev pub EndsFound : Worked ExitStatus WireLog → Known → Known → LineFile → List (List ℕ) → List ℕ → List Command → Type 0
 EndsFound worked old new line plant bytes commands =
-    EndsOpened (λ status. SavesFound new line plant bytes commands worked.reported status) worked.ended old new line
+    EndsOpened (λ status. SavesFound new line plant bytes commands worked.told status) worked.ended old new line
 
 -- These are commands that write the words of image files to the slaves of which that was said, and to no others, and then those of the script.
 pub record BeginsWithMends (files : Known) (line : LineFile) (said : List Mend) (bytes : List ℕ) (plant : List (List ℕ)) (script : List ℕ)
@@ -62,7 +61,7 @@ pub record RunsFound (worked : Worked ExitStatus WireLog) (said : List Mend) (le
 
 -- what `run` does: it stops before it writes and before the line has a device, as where the journal is refused; or it runs the commands
 abbrev pub RunsScript : Worked ExitStatus WireLog → List Mend → Leads → Known → Known → List ℕ → List ℕ → Type 0
-RunsScript worked said leads old new name script = (IsErr worked.ended × (worked.reported ≡ None) × (new ≡ old)) ⊎ RunsFound worked said leads old new name script
+RunsScript worked said leads old new name script = (IsErr worked.ended × (worked.told ≡ []) × (new ≡ old)) ⊎ RunsFound worked said leads old new name script
 
 -- The line was found, each slave has the words of its image file, but for what was said, and the image files that were to be written to their slaves were,
 -- as commands, as far as the result says.
@@ -82,4 +81,4 @@ pub record MendsFound (worked : Worked ExitStatus WireLog) (said : List Mend) (l
 
 -- what `recover` does where image files are to be written to their slaves
 abbrev pub MendsLine : Worked ExitStatus WireLog → List Mend → Leads → Known → Known → List ℕ → Type 0
-MendsLine worked said leads old new name = (IsErr worked.ended × (worked.reported ≡ None) × (new ≡ old)) ⊎ MendsFound worked said leads old new name
+MendsLine worked said leads old new name = (IsErr worked.ended × (worked.told ≡ []) × (new ≡ old)) ⊎ MendsFound worked said leads old new name

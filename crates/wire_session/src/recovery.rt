@@ -1,24 +1,25 @@
 //! The subcommand `recover`.
-ghost use Rattle.std.specs.Prelude.{◌≡◌, ◌≤◌, false, length, IfOk, IfSome, IsSomeAnd, IsTrue};
+ghost use Rattle.std.specs.Prelude.{◌≡◌, ◌≤◌, false, length, IfOk, IsTrue, OnOk};
 ghost use Rattle.esc_rom.specs.Owned.{OwnsAll};
 ghost use Rattle.station_files.specs.Files.{ChangesAmong};
 ghost use Rattle.station_line.specs.Site.{files_of, switched_on};
 ghost use Rattle.script_session.specs.After.{SavesRecovered};
 ghost use Rattle.wire_session.specs.Recovery.{EndsOpenedRecovery, Recovers};
-ghost use Rattle.script_session.specs.Running.{EndsReported};
-ghost use Rattle.wire_session.specs.Slaves.{AreOfParts, SlavesHold};
+ghost use Rattle.script_session.specs.Running.{EndsReported, TellsWhole};
+ghost use Rattle.script_session.specs.Told.{AreOfParts};
+ghost use Rattle.wire_session.specs.Slaves.{SlavesHold};
 ghost use Rattle.wire_session.specs.Reporting.{IsPrinted};
 
 use crate::as_found::AsFound;
 use crate::followed::followed;
-use crate::logs::{Worked, of_own_parts};
+use crate::logs::Worked;
 use crate::reporting::{report_end, tell_why};
 use crate::running::end_of;
 use line_changes::Before;
 use script_session::{LineRun, recover_by_threads};
 use sii_words::Plant;
-use site_shadow::ShadowSite;
-use site_wire::{LiveLine, LockedLine, TellsPart, WireLog};
+use site_shadow::{Lends, ShadowSite};
+use site_wire::{LiveLine, LockedLine, WireLog};
 use station_alone::Recovered;
 use station_files::{ExitStatus, Fault, Store};
 use station_line::{site_of, write_recovered};
@@ -92,7 +93,7 @@ fn recover_found<
     requires most { length found.slaves.items ≤ 64 }
     requires count { length found.slaves.items ≡ length found.line.images.items }
     requires images { length found.images.items ≡ length found.line.images.items }
-    ensures { EndsOpenedRecovery (λ s. IsSomeAnd result.reported (SlavesHold found.slaves.items s)) result.ended
+    ensures { EndsOpenedRecovery (λ s. TellsWhole result.told (SlavesHold found.slaves.items s)) result.ended
         (S.files store.old) (S.files store.new) found.line (switched_on found.slaves.items found.journal.items) }
 {
     let FoundWire {
@@ -112,7 +113,7 @@ fn recover_found<
         images: &images,
         journal,
     };
-    let Worked { ended, reported } = recover_opened(rt, as_found, &locked, store, output);
+    let Worked { ended, told } = recover_opened(rt, as_found, &locked, store, output);
     let explained = tell_why(rt, &locked, ended);
     let mut wire = locked.into_line().into_wire();
     hand_back(&mut wire, &states);
@@ -121,7 +122,7 @@ fn recover_found<
     let before = Before { line, words };
     Worked {
         ended: report_end(rt.alloc(), tells, &before, explained, store, output),
-        reported,
+        told,
     }
 }
 
@@ -142,7 +143,7 @@ fn recover_opened<
     requires most { length found.slaves.now ≤ 64 }
     requires count { length found.slaves.now ≡ length found.line.now.images.items }
     requires images { length found.images.now ≡ length found.line.now.images.items }
-    ensures { EndsOpenedRecovery (λ s. IsSomeAnd result.reported (SlavesHold found.entry.slaves.now s)) result.ended
+    ensures { EndsOpenedRecovery (λ s. TellsWhole result.told (SlavesHold found.entry.slaves.now s)) result.ended
         (S.files store.old) (S.files store.new) found.entry.line.now (switched_on found.entry.slaves.now found.entry.journal.items) }
 {
     let AsFound {
@@ -166,9 +167,8 @@ fn recover_opened<
     }
 }
 
-/// Recovers a line by threads, saves what its slaves hold to their image files, and prints what was recovered. `Unserved` where a part's device isn't
-/// reported as its own.
-fn recover_site<R: Wait + Threads + AllocGlobal + Sync, D: TellsPart + Send, S: Store, O: Write>(
+/// Recovers a line by threads, saves what its slaves hold to their image files, and prints what was recovered.
+fn recover_site<R: Wait + Threads + AllocGlobal + Sync, D: Lends + Send, S: Store, O: Write>(
     rt: &R,
     line: &LineFile,
     site: ShadowSite<D>,
@@ -177,22 +177,21 @@ fn recover_site<R: Wait + Threads + AllocGlobal + Sync, D: TellsPart + Send, S: 
 ) -> Worked<(), D::Logged>
     requires disk { IsTrue site.line.has_disk }
     requires owned { OwnsAll site.line }
-    ensures own { IfSome result.reported (λ reported. AreOfParts D.is_of reported.desk) }
+    ensures own { OnOk result.ended (TellsWhole result.told (λ whole. AreOfParts D.is_of whole.desk)) }
     ensures others { ChangesAmong (S.files store.old) (S.files store.new) (files_of line.now) }
-    ensures saved { IfOk result.ended (λ done. SavesRecovered (λ s. IsSomeAnd result.reported (λ reported.
-        EndsReported D.follows D.well D.tells false site (length line.now.images.items) reported s.seen)) (S.files store.new) line.now site.seen) }
+    ensures saved { IfOk result.ended (λ done. SavesRecovered (λ s. TellsWhole result.told (λ whole.
+        EndsReported D.follows D.well D.tells D.is_of false site (length line.now.images.items) whole s.seen)) (S.files store.new) line.now site.seen) }
 {
     let LineRun {
         answers,
         closed,
         ended,
         recovered,
-        reported,
+        told,
     } = recover_by_threads(rt, line, site, store);
-    let Worked { ended, reported } = of_own_parts::<D>(end_of(answers, closed, ended), reported);
     Worked {
-        ended: print_recovered(ended, recovered, output),
-        reported,
+        ended: print_recovered(end_of(answers, closed, ended), recovered, output),
+        told,
     }
 }
 

@@ -1,5 +1,5 @@
 //! The subcommand `run`.
-ghost use Rattle.std.specs.Prelude.{◌≡◌, ◌≤◌, ◌∷◌, ◌++◌, [], false, length, map, None, Ok, IfOk, IfSome, IsOkAnd, IsSomeAnd, IsTrue, OnOk};
+ghost use Rattle.std.specs.Prelude.{◌≡◌, ◌≤◌, ◌∷◌, ◌++◌, [], false, length, map, None, Ok, IfOk, IsOkAnd, IsTrue, OnOk};
 ghost use Rattle.esc_rom.specs.Owned.{OwnsAll};
 ghost use Rattle.station_files.specs.Files.{ChangesAmong};
 ghost use Rattle.station_files.specs.FileNames.{files_with, written_of};
@@ -8,24 +8,24 @@ ghost use Rattle.station_line.specs.Answers.{AnswersGive};
 ghost use Rattle.station_line.specs.Validating.{HasJournal, IsRunSeparate};
 ghost use Rattle.station_line.specs.Opened.{is_old};
 ghost use Rattle.station_line.specs.Site.{files_of};
-ghost use Rattle.script_session.specs.Running.{EndsReported, SavesSite};
+ghost use Rattle.script_session.specs.Running.{EndsReported, SavesSite, TellsWhole};
+ghost use Rattle.script_session.specs.Told.{AreOfParts};
 ghost use Rattle.wire_scan.specs.Opening.{IsFound};
 ghost use Rattle.wire_scan.specs.Keeping.{AreOfImages};
 ghost use Rattle.wire_session.specs.Running.{BeginsWithMends, EndsFound, RunsScript};
-ghost use Rattle.wire_session.specs.Slaves.{AreOfParts};
 
 use crate::as_found::AsFound;
 use crate::expecting::expect_words;
 use crate::followed::followed;
-use crate::logs::{Worked, of_own_parts};
+use crate::logs::Worked;
 use crate::reporting::{report_end, tell_handed, tell_why};
 use line_changes::Before;
 use line_watch::Watch;
 use script_session::{LineRun, Start, Task, Work, run_line};
 use sii_edit::Command;
 use sii_words::Plant;
-use site_shadow::ShadowSite;
-use site_wire::{LiveLine, LockedLine, TellsPart, WireLog};
+use site_shadow::{Lends, ShadowSite};
+use site_wire::{LiveLine, LockedLine, WireLog};
 use station_files::{ExitStatus, Fault, Script, Store, load_script, worse};
 use station_line::{Answered, is_old, site_of};
 use station_text::LineFile;
@@ -243,10 +243,7 @@ pub(crate) fn run_found<
         images: &images,
         journal,
     };
-    let Worked {
-        ended,
-        reported: of_devices,
-    } = run_opened(watch.rt, as_found, &locked, task, store, output);
+    let Worked { ended, told } = run_opened(watch.rt, as_found, &locked, task, store, output);
     let explained = tell_why(watch.rt, &locked, ended);
     let mut wire = locked.into_line().into_wire();
     hand_back(&mut wire, &states);
@@ -256,7 +253,7 @@ pub(crate) fn run_found<
     let before = Before { line, words };
     Worked {
         ended: report_end(watch.rt.alloc(), tells, &before, reported, store, output),
-        reported: of_devices,
+        told,
     }
 }
 
@@ -308,8 +305,8 @@ fn run_opened<
     }
 }
 
-/// Runs the commands on this line. `Unserved` where a part's device isn't reported as its own.
-fn run_site<R: Wait + Threads + AllocGlobal + Sync, D: TellsPart + Send, S: Store, O: Write>(
+/// Runs the commands on this line.
+fn run_site<R: Wait + Threads + AllocGlobal + Sync, D: Lends + Send, S: Store, O: Write>(
     rt: &R,
     line: &LineFile,
     start: Start<ShadowSite<D>>,
@@ -320,10 +317,10 @@ fn run_site<R: Wait + Threads + AllocGlobal + Sync, D: TellsPart + Send, S: Stor
     requires disk { IsTrue start.site.line.has_disk }
     requires owned { OwnsAll start.site.line }
     requires old { start.is_old ≡ is_old start.site.seen.state.disk.bytes }
-    ensures own { IfSome result.reported (λ reported. AreOfParts D.is_of reported.desk) }
+    ensures own { OnOk result.ended (TellsWhole result.told (λ whole. AreOfParts D.is_of whole.desk)) }
     ensures others { ChangesAmong (S.files store.old) (S.files store.new) (files_of line.now) }
-    ensures saved { IfOk result.ended (AnswersGive (SavesSite (λ last. IsSomeAnd result.reported (λ reported.
-        EndsReported D.follows D.well D.tells task.turns start.site (length line.now.images.items) reported last.seen)) (S.files store.new) line.now
+    ensures saved { IfOk result.ended (AnswersGive (SavesSite (λ last. TellsWhole result.told (λ whole.
+        EndsReported D.follows D.well D.tells D.is_of task.turns start.site (length line.now.images.items) whole last.seen)) (S.files store.new) line.now
         start.site task.work.commands.items)) }
 {
     let LineRun {
@@ -331,9 +328,12 @@ fn run_site<R: Wait + Threads + AllocGlobal + Sync, D: TellsPart + Send, S: Stor
         closed,
         ended,
         recovered: _,
-        reported,
+        told,
     } = run_line(rt, line, start, task, store, output);
-    of_own_parts::<D>(end_of(answers, closed, ended), reported)
+    Worked {
+        ended: end_of(answers, closed, ended),
+        told,
+    }
 }
 
 /// How a run ended: with the exit status that its answers give, or a fault, that of its desk first.
