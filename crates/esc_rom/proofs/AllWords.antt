@@ -7,16 +7,15 @@ use Rattle.esc_model.specs.WordAccess.{IsAt, IsIdle, OnlyRests}
 use Rattle.esc_model.proofs.OnlyResting.{OnlyRests-then, OnlyRests-none, OnlyRests-length, MayRest-only}
 use Rattle.site_core.specs.State.{Seen, HalfGoes, clock, words_held}
 use Rattle.site_core.proofs.Times.{Follows-clock}
-use Rattle.esc_rom.specs.declared.poll.Rested.{Rested}
-use Rattle.esc_rom.specs.declared.poll.Rested.TheVariants.{Well, Failed}
+use Rattle.rom_steps.specs.declared.back.Rested.{Rested}
 use Rattle.esc_rom.specs.declared.fault.RomFault.{RomFault}
 use Rattle.esc_rom.specs.declared.fault.RomFault.TheVariants as rom
-use Rattle.esc_rom.specs.declared.reading.WordPair.{WordPair}
-use Rattle.esc_rom.specs.Runs.{Quiet, Ran, StopsQuietly, IsSeen, Waited}
+use Rattle.rom_steps.specs.declared.back.WordPair.{WordPair}
+use Rattle.esc_rom.specs.Runs.{Quiet, Ran, StopsQuietly, Waited}
 use Rattle.esc_rom.specs.WordPairs.{ReadsPair, ReadsAll}
 use Rattle.esc_rom.specs.Access.{BecomesRead, BecomesUnread, ReadsWords}
 use Rattle.esc_rom.proofs.Runs.{Quiet-none, Ran-then, Ran-weaker}
-use Rattle.esc_rom.proofs.Past.{Ran-tied, never_idle, NeverIdle-after}
+use Rattle.esc_rom.proofs.Past.{Ran-tied, NeverIdle-waited, NeverIdle-after}
 use Rattle.esc_rom.proofs.SettledWords.{seen_idle, seen_here}
 use Rattle.esc_rom.proofs.States.{HalfGoes-weaker}
 
@@ -101,7 +100,7 @@ filled_all {words = words} all within ran = Ran-weaker within (λ half now here 
 )) ran
 
 pub never_rests : {a b : Seen} {slave : ℕ} (words : List ℕ) {most : ℕ} → 10000 ≤ most → Ran (Waited a slave b None) a slave 10000 b → Ran (ReadsAll a slave b words false) a slave most b
-never_rests {a} {b} {slave} words within ran = Ran-weaker within (λ half later here there waited. (MayRest-only half later waited.0, inl (never_idle a a b slave (omega arith) waited.1))) ran
+never_rests {a} {b} {slave} words within ran = Ran-weaker within (λ half later here there waited. (MayRest-only half later waited.0, inl (NeverIdle-waited a a b slave (omega arith) waited.1))) ran
 
 -- THE ANSWERS
 

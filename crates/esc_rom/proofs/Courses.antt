@@ -1,14 +1,14 @@
--- Courses in a row, and rounds.
-use Rattle.std.proofs.Common.{◌≡◌, ◌≢◌, ℕ, ◌+◌, ◌<◌, Bool, true, false, List, [], ◌∷◌, ◌++◌, Some, slice_get, Result, Ok, Err, IsErr, IsErrAnd, refl, sym, ap, subst, inl, inr}
+-- Courses that a call takes: one after another, rounds, and the end of an access.
+use Rattle.std.proofs.Common.{◌≡◌, ◌≢◌, ℕ, ◌+◌, ◌<◌, List, [], ◌∷◌, ◌++◌, Result, Ok, Err, IsErr, IsErrAnd, refl, sym, ap, subst, ◌∙◌, inl, inr}
 use Rattle.std.proofs.lemmas.Bool.{false≢true}
-use Rattle.ecat_frame.specs.Frame.{Pdu}
-use Rattle.site_core.specs.declared.fault.DeviceFault.TheVariants as device
+use Rattle.std.proofs.lemmas.List.{append-nil}
 use Rattle.site_core.specs.State.{Seen}
-use Rattle.site_core.specs.Calls.{ExchangesFrame}
-use Rattle.esc_rom.specs.declared.fault.Stop.{Stop}
-use Rattle.esc_rom.specs.Sending.{Sends}
-use Rattle.esc_rom.specs.Courses.{Asked, AskedInTurn, Course, Takes, Asks, Ends, Then, OnlyIf, Rounds, no_round, one_more, UpTo, AsCourse}
-use Rattle.esc_rom.proofs.Exchanges.{one_answer}
+use Rattle.rom_steps.specs.declared.step.End.{End}
+use Rattle.rom_steps.specs.declared.step.Step.{Step}
+use Rattle.rom_steps.specs.declared.step.Stop.{Stop}
+use Rattle.rom_steps.specs.Courses.{Asked, Course, Ends, Then, Rounds, no_round, one_more, InTurn}
+use Rattle.rom_steps.specs.Remaining.{Remains}
+use Rattle.esc_rom.specs.Courses.{AskedInTurn, Takes, AsCourse}
 
 -- one after another
 pub asked-then : (front after : List Asked) (a b c : Seen) → AskedInTurn front a b → AskedInTurn after b c → AskedInTurn (front ++ after) a c
@@ -19,29 +19,6 @@ asked-then (first ∷ rest) after a b c some second = (some.0, some.1, asked-the
 pub same-stop : {T : Type 0} (result : Result T Stop) (stop : Stop) → IsErrAnd result (λ other. other ≡ stop) → result ≡ Err stop
 same-stop (Ok value) stop is = absurd is
 same-stop (Err other) stop is = ap Err is
-
--- ONE DATAGRAM
-
-module _ {T : Type 0} (reported : Pdu → T) (lost : T) {old : Seen} {slave : ℕ} {order : Pdu} {new : Seen} where
-  pub asks-back : (answer : List Pdu) {came : Bool} {datagram : Pdu} → came ≡ true → slice_get answer 0 ≡ Some datagram → Sends old slave order (Ok came) answer new
-      → (result : T) → result ≡ reported datagram → Takes (Asks slave order reported lost) old (Ok result) new
-  asks-back answer {datagram = datagram} is first sent result gives =
-      let sends = subst (λ (b : Bool). Sends old slave order (Ok b) answer new) is sent in
-      let only : answer ≡ datagram ∷ [] = one_answer old slave order answer new datagram first sends in
-      record {
-        log = record { slave = slave; order = order; back = Ok datagram } ∷ [];
-        asked = (new, subst (λ (l : List Pdu). ExchangesFrame old slave (order ∷ []) (Ok tt) l new) only sends, refl);
-        took = (Ok datagram, refl, ap Ok gives);
-      }
-
-  pub asks-lost : (answer : List Pdu) {came : Bool} → came ≡ false → Sends old slave order (Ok came) answer new → Takes (Asks slave order reported lost) old (Ok lost) new
-  asks-lost answer is sent =
-      let sends = subst (λ (b : Bool). Sends old slave order (Ok b) answer new) is sent in
-      record { log = record { slave = slave; order = order; back = Err device.Lost } ∷ []; asked = (new, sends, refl); took = (Err device.Lost, refl, refl) }
-
-  pub asks-cut : (answer : List Pdu) {stop : Stop} → Sends old slave order (Err stop) answer new → (result : Result T Stop) → IsErr result → Takes (Asks slave order reported lost) old result new
-  asks-cut answer sends result cut =
-      record { log = record { slave = slave; order = order; back = Err device.Stopped } ∷ []; asked = (new, sends, refl); took = (Err device.Stopped, refl, cut) }
 
 -- IN A ROW
 
@@ -62,14 +39,6 @@ module _ {T V : Type 0} (first : Course T) (next : T → Course V) {a b : Seen} 
 
   pub takes-cut : {stop : Stop} (result : Result V Stop) → IsErr result → Takes first a (Err stop) b → Takes (Then first next) a result b
   takes-cut {stop} result cut one = record { log = one.log; asked = one.asked; took = inr (stop, one.took, cut) }
-
--- a course that is taken only where the first one came to `true`
-module _ (first rest : Course Bool) {a b : Seen} {went : Bool} where
-  pub takes-on : {c : Seen} {result : Result Bool Stop} → went ≡ true → Takes first a (Ok went) b → Takes rest b result c → Takes (Then first (λ it. OnlyIf it rest)) a result c
-  takes-on is one two = takes-then first (λ it. OnlyIf it rest) true (takes-value first is one) two
-
-  pub takes-off : went ≡ false → Takes first a (Ok went) b → Takes (Then first (λ it. OnlyIf it rest)) a (Ok false) b
-  takes-off is one = takes-then first (λ it. OnlyIf it rest) false (takes-value first is one) (takes-none false b)
 
 -- a course whose faults are of another kind
 module _ {T E : Type 0} (course : Course T) {a b : Seen} where
@@ -102,12 +71,12 @@ module _ {T : Type 0} (round : ℕ → Course T) (again : T) where
         let one = takes-value (round times) is takes in
         record { log = so.log ++ one.log; asked = asked-then so.log one.log a b c so.asked one.asked; rounds = one_more so.rounds one.took }
 
-    pub rounds-all : (most times : ℕ) → times ≡ most → RoundsSo round again times a b → Takes (UpTo most round again) a (Ok again) b
+    pub rounds-all : (most times : ℕ) → times ≡ most → RoundsSo round again times a b → Takes (InTurn most round again) a (Ok again) b
     rounds-all most times all so =
         record { log = so.log; asked = so.asked; took = inl (subst (λ (n : ℕ). Rounds round again n so.log) all so.rounds, refl) }
 
     pub rounds-end : {c : Seen} (most times : ℕ) (result : Result T Stop) → times < most → result ≢ Ok again → RoundsSo round again times a b → Takes (round times) b result c
-        → Takes (UpTo most round again) a result c
+        → Takes (InTurn most round again) a result c
     rounds-end {c} most times result few other so takes = record {
       log = so.log ++ takes.log;
       asked = asked-then so.log takes.log a b c so.asked takes.asked;
@@ -116,11 +85,59 @@ module _ {T : Type 0} (round : ℕ → Course T) (again : T) where
 
     -- the site stopped in a round
     pub rounds-err : {c : Seen} (most times : ℕ) (result : Result T Stop) → times < most → IsErr result → RoundsSo round again times a b → Takes (round times) b result c
-        → Takes (UpTo most round again) a result c
+        → Takes (InTurn most round again) a result c
     rounds-err most times result few cut so takes = rounds-end most times result few (never-ok result again cut) so takes
 
-    pub rounds-cut : {c : Seen} (most times : ℕ) (result : Result T Stop) (stop : Stop) → times < most → IsErrAnd result (λ other. other ≡ stop) → RoundsSo round again times a b
-        → Takes (round times) b (Err stop) c → Takes (UpTo most round again) a result c
-    rounds-cut {c} most times result stop few is so takes =
-        let same = same-stop result stop is in
-        subst (λ (r : Result T Stop). Takes (UpTo most round again) a r c) (sym same) (rounds-end most times (Err stop) few (λ e. absurd cc) so takes)
+-- THE END OF AN ACCESS
+
+-- The end tells the value of a course.
+pub record EndsBy {T : Type 0} (wrap : T → End) (course : List Asked → Result T Stop → Type 0) (end : End) (a b : Seen) : Type 0 where
+  pub value : T
+  pub is : end ≡ wrap value
+  pub takes : Takes course a (Ok value) b
+
+-- there is one stop
+only : (one other : Stop) → one ≡ other
+only one other = refl
+
+module _ {T : Type 0} (wrap : T → End) (course : Course T) {a b : Seen} where
+  ends : (end : End) (log : List Asked) → AskedInTurn log a b → Then course (λ value. Ends (wrap value)) log (Ok end) → EndsBy wrap course end a b
+  ends end log asked (inl so) = record {
+    value = so.value;
+    is = let last : Ok end ≡ Ok (wrap so.value) = so.goes_on.1 in cc;
+    takes = record {
+      log = log;
+      asked = asked;
+      took = subst (λ (l : List Asked). course l (Ok so.value))
+          (sym (so.log_is ∙ ap (λ (l : List Asked). so.front ++ l) so.goes_on.0 ∙ append-nil so.front)) so.came_to;
+    };
+  }
+  ends end log asked (inr cut) = absurd (false≢true cut.2)
+
+  cuts : (stop : Stop) (log : List Asked) → AskedInTurn log a b → Then course (λ value. Ends (wrap value)) log (Err stop) → Takes course a (Err stop) b
+  cuts stop log asked (inl so) = absurd (let last = so.goes_on.1 in cc)
+  cuts stop log asked (inr cut) =
+      record { log = log; asked = asked; took = subst (λ (s : Stop). course log (Err s)) (only cut.0 stop) cut.1 }
+
+  pub ends-by : {end : End} → Takes (Then course (λ value. Ends (wrap value))) a (Ok end) b → EndsBy wrap course end a b
+  ends-by {end} takes = ends end takes.log takes.asked takes.took
+
+  -- what a driver sent from the first step of that access on
+  module _ (slave : ℕ) (first : Step)
+      (begins : (log : List Asked) → (result : Result End Stop) → Remains slave first log result → Then course (λ value. Ends (wrap value)) log result)
+    where
+      pub driven : {end : End} → Takes (Remains slave first) a (Ok end) b → EndsBy wrap course end a b
+      driven {end} takes = ends end takes.log takes.asked (begins takes.log (Ok end) takes.took)
+
+      pub driven-cut : {stop : Stop} → Takes (Remains slave first) a (Err stop) b → Takes course a (Err stop) b
+      driven-cut {stop} takes = cuts stop takes.log takes.asked (begins takes.log (Err stop) takes.took)
+
+-- the value at that end
+pub took : {T : Type 0} {wrap : T → End} {course : Course T} {end : End} {a b : Seen} (value : T) → ((other : T) → wrap other ≡ wrap value → other ≡ value)
+    → EndsBy wrap course end a b → end ≡ wrap value → Takes course a (Ok value) b
+took {course = course} value same so is = takes-value course (same so.value (sym so.is ∙ is)) so.takes
+
+-- what the end tells of it
+pub told : {T : Type 0} {wrap : T → End} {course : Course T} {end : End} {a b : Seen} (tell : End → T) → ((value : T) → tell (wrap value) ≡ value)
+    → EndsBy wrap course end a b → Takes course a (Ok (tell end)) b
+told {course = course} tell same so = takes-value course (sym (ap tell so.is ∙ same so.value)) so.takes

@@ -1,82 +1,58 @@
 -- The datagrams of an access that were sent so far.
-use Rattle.std.proofs.Common.{◌≡◌, ℕ, ◌+◌, ◌<◌, Bool, true, false, List, [], ◌∷◌, ◌++◌, length, map, take, Some, slice_get, Result, Ok, Err, IsErr, refl, sym, ap, subst, ◌∙◌, arith, length-append}
+use Rattle.std.proofs.Common.{◌≡◌, ℕ, ◌+◌, ◌<◌, Bool, true, false, List, [], ◌∷◌, ◌++◌, length, Option, Some, None, Result, Ok, Err, IsErr, refl, sym, subst, ◌∙◌, arith, length-append}
 use Rattle.std.proofs.lemmas.Bool.{false≢true}
-use Rattle.std.proofs.lemmas.List.{map-append}
-use Rattle.ecat_frame.specs.Frame.{Pdu, sent}
-use Rattle.ecat_frame.specs.Command.{command_of}
-use Rattle.ecat_frame.specs.declared.command.Command.{Command}
-use Rattle.ecat_frame.proofs.Front.{code_of-command_of}
-use Rattle.esc_model.specs.Orders.{address_of}
+use Rattle.ecat_frame.specs.Frame.{Pdu}
 use Rattle.site_core.specs.declared.fault.DeviceFault.{DeviceFault}
 use Rattle.site_core.specs.declared.fault.DeviceFault.TheVariants as device
 use Rattle.site_core.specs.State.{Seen}
 use Rattle.site_core.specs.Calls.{ExchangesFrame}
-use Rattle.rom_steps.specs.Courses as steps
-use Rattle.rom_steps.specs.Back.{IsBack}
-use Rattle.rom_steps.specs.declared.back.Back.{Back}
+use Rattle.rom_steps.specs.Courses.{Asked}
 use Rattle.rom_steps.specs.declared.back.Back.TheVariants as backs
-use Rattle.rom_steps.specs.declared.datagram.ToSend.{ToSend}
+use Rattle.rom_steps.specs.declared.back.Rested.{Rested}
+use Rattle.rom_steps.specs.declared.back.WordPair.{WordPair}
 use Rattle.rom_steps.specs.declared.step.End.{End}
 use Rattle.rom_steps.specs.declared.step.Step.{Step}
-use Rattle.rom_steps.specs.declared.step.Step.TheVariants.{Forces, Frees, WaitsToClear, Clears, Commands, WaitsToFetch, Fetches, Issues, WaitsToSettle, Tidies, Ended, Stopped}
-use Rattle.rom_steps.specs.Remaining.{IsNext, Moves, left, pdu_to}
+use Rattle.rom_steps.specs.declared.step.Step.TheVariants.{Forces, Frees, WaitsToClear, Clears, Waits, Commands, WaitsToFetch, Fetches, Issues, WaitsToSettle, Tidies, Ended, Stopped}
+use Rattle.rom_steps.specs.Remaining.{opening_end, waiting_end, reading_end, IsNext, Moves, Remains, left}
 use Rattle.rom_steps.specs.Complete.{Went, nothing_sent, one_more_sent}
 use Rattle.rom_steps.proofs.Stopping.{sends-some, stopped-moves}
 use Rattle.rom_steps.proofs.CompleteLaws.{went-ended, went-stopped, went-bounded}
-use Rattle.esc_rom.specs.declared.fault.Stop.{Stop}
-use Rattle.esc_rom.specs.Sending.{Sends}
-use Rattle.esc_rom.specs.Courses.{Asked, AskedInTurn, outcome_of, frame_after}
-use Rattle.esc_rom.specs.Driving.{here, AsksOnce, IsEndOf, Drives}
+use Rattle.rom_steps.specs.declared.step.Stop.{Stop}
+use Rattle.esc_rom.specs.Courses.{AskedInTurn, Takes, outcome_of, frame_after}
+use Rattle.esc_rom.specs.Driving.{AsksOnce, IsEndOf, is_open, rest_at, words_at}
 use Rattle.esc_rom.proofs.Courses.{asked-then}
-use Rattle.esc_rom.proofs.Exchanges.{one_answer}
+
+-- WHAT AN END TELLS
+
+pub open-is : (opened : Bool) → is_open (opening_end opened) ≡ opened
+open-is true = refl
+open-is false = refl
+
+pub rest-is : (found : Option Rested) → rest_at (waiting_end found) ≡ found
+rest-is None = refl
+rest-is (Some rested) = refl
+
+pub words-are : (pair : Option WordPair) → words_at (reading_end pair) ≡ pair
+words-are None = refl
+words-are (Some pair) = refl
 
 -- ONE DATAGRAM
 
--- the datagram that is sent is that of the step
-pub order-is : (slave : ℕ) (datagram : ToSend) (command : Command) (content : List ℕ) → command ≡ command_of datagram.command
-    → content ≡ take datagram.length datagram.content
-    → sent command 0 (address_of slave datagram.register) content ≡ pdu_to slave datagram
-order-is slave datagram command content is bytes =
-    ap (λ (it : Command). sent it 0 (address_of slave datagram.register) content) is
-    ∙ ap (λ (it : List ℕ). sent (command_of datagram.command) 0 (address_of slave datagram.register) it) bytes
-    ∙ ap (λ (it : ℕ). coded it) (code_of-command_of datagram.command)
-  where
-    coded : ℕ → Pdu
-    coded code = record {
-      command = code;
-      index = 0;
-      address = address_of slave datagram.register;
-      content = take datagram.length datagram.content;
-      counter = 0;
-    }
-
-module _ {old : Seen} {slave : ℕ} {order wanted : Pdu} (answer : List Pdu) {new : Seen} (is : order ≡ wanted) where
-  pub once-lost : {came : Bool} → came ≡ false → Sends old slave order (Ok came) answer new → AsksOnce old slave wanted (Ok backs.Lost) new
-  once-lost lost sends =
-      subst (λ (o : Pdu). AsksOnce old slave o (Ok backs.Lost) new) is
-      (record { came = Err device.Lost; sent = subst (λ (b : Bool). Sends old slave order (Ok b) answer new) lost sends; is = refl })
-
-  pub once-cut : {stop : Stop} (result : Result Back Stop) → IsErr result → Sends old slave order (Err stop) answer new
-      → AsksOnce old slave wanted result new
-  once-cut (Ok back) cut sends = absurd (false≢true cut)
-  once-cut (Err other) cut sends = subst (λ (o : Pdu). AsksOnce old slave o (Err other) new) is
-      (record { came = Err device.Stopped; sent = sends; is = refl })
-
-  pub once-back : {came : Bool} {datagram : Pdu} (back : Back) → came ≡ true → slice_get answer 0 ≡ Some datagram → IsBack back (Ok datagram)
-      → Sends old slave order (Ok came) answer new
-      → AsksOnce old slave wanted (Ok back) new
-  once-back {datagram = datagram} back came first so sends =
-      let exchange = subst (λ (b : Bool). Sends old slave order (Ok b) answer new) came sends in
-      let only = one_answer old slave order answer new datagram first exchange in
-      subst (λ (o : Pdu). AsksOnce old slave o (Ok back) new) is
-      (record { came = Ok datagram; sent = subst (λ (l : List Pdu). ExchangesFrame old slave (order ∷ []) (Ok tt) l new) only exchange; is = so })
+pub once-lost : {old : Seen} {slave : ℕ} {order : Pdu} {sent answer : List Pdu} {fault : DeviceFault} {new : Seen} → sent ≡ order ∷ [] → fault ≡ device.Lost
+    → ExchangesFrame old slave sent (Err fault) answer new → AsksOnce old slave order (Ok backs.Lost) new
+once-lost {old} {slave} {order} {answer = answer} {fault = fault} {new = new} is lost sends = record {
+  came = Err fault;
+  sent = subst (λ (l : List Pdu). ExchangesFrame old slave (order ∷ []) (Err fault) l new) (sends.failed ∙ is)
+      (subst (λ (l : List Pdu). ExchangesFrame old slave l (Err fault) answer new) is sends);
+  is = lost;
+}
 
 -- DATAGRAMS IN A ROW
 
 -- So many datagrams led from the first step to this one.
 pub record WentSo (slave : ℕ) (first : Step) (turns : ℕ) (a : Seen) (step : Step) (b : Seen) : Type 0 where
-  pub log : List steps.Asked
-  pub asked : AskedInTurn (map here log) a b
+  pub log : List Asked
+  pub asked : AskedInTurn log a b
   pub went : Went slave first log step
   pub turns_are : length log ≡ turns
 
@@ -89,13 +65,12 @@ module _ (slave : ℕ) (first : Step) (turns : ℕ) (a : Seen) (step : Step) (b 
       → WentSo slave first (turns + 1) a later c
   went-more order came later c next sent moves = record {
     log = so.log ++ one ∷ [];
-    asked = subst (λ (l : List Asked). AskedInTurn l a c) (sym (map-append here so.log (one ∷ [])))
-        (asked-then (map here so.log) (here one ∷ []) a b c so.asked (c, sent, refl));
+    asked = asked-then so.log (one ∷ []) a b c so.asked (c, sent, refl);
     went = one_more_sent order came later so.went next moves;
     turns_are = let long = length-append so.log (one ∷ []) in let before = so.turns_are in omega arith;
   }
     where
-      one : steps.Asked
+      one : Asked
       one = record { slave = slave; order = order; back = came }
 
   -- nothing is left when all turns are over
@@ -104,17 +79,18 @@ module _ (slave : ℕ) (first : Step) (turns : ℕ) (a : Seen) (step : Step) (b 
 
 over-by : (slave : ℕ) (first : Step) (turns : ℕ) (a : Seen) (step : Step) (b : Seen) → WentSo slave first turns a step b → left step ≡ 0
     → (result : Result End Stop) → IsEndOf step result
-    → Drives slave first a result b
+    → Takes (Remains slave first) a result b
 over-by slave first turns a (Ended end) b so over result is =
-    subst (λ (r : Result End Stop). Drives slave first a r b) (sym is)
+    subst (λ (r : Result End Stop). Takes (Remains slave first) a r b) (sym is)
     (record { log = so.log; asked = so.asked; took = went-ended slave first so.log end so.went })
 over-by slave first turns a Stopped b so over (Ok end) is = absurd (false≢true is)
 over-by slave first turns a Stopped b so over
-    (Err stop) is = record { log = so.log; asked = so.asked; took = went-stopped slave first so.log so.went (Err tt) refl }
+    (Err stop) is = record { log = so.log; asked = so.asked; took = went-stopped slave first so.log so.went (Err stop) refl }
 over-by slave first turns a (Forces more) b so over result is = absurd (omega arith)
 over-by slave first turns a (Frees more) b so over result is = absurd (omega arith)
 over-by slave first turns a (WaitsToClear more) b so over result is = absurd (omega arith)
 over-by slave first turns a (Clears more) b so over result is = absurd (omega arith)
+over-by slave first turns a (Waits more) b so over result is = absurd (omega arith)
 over-by slave first turns a (Commands word tries) b so over result is = absurd (omega arith)
 over-by slave first turns a (WaitsToFetch word tries more) b so over result is = absurd (omega arith)
 over-by slave first turns a (Fetches word tries) b so over result is = absurd (omega arith)
@@ -123,12 +99,12 @@ over-by slave first turns a (WaitsToSettle taken more) b so over result is = abs
 over-by slave first turns a Tidies b so over result is = absurd (omega arith)
 
 module _ {slave : ℕ} {first : Step} {turns : ℕ} {a : Seen} {step : Step} {b : Seen} (so : WentSo slave first turns a step b) where
-  pub drives-over : left step ≡ 0 → (result : Result End Stop) → IsEndOf step result → Drives slave first a result b
+  pub drives-over : left step ≡ 0 → (result : Result End Stop) → IsEndOf step result → Takes (Remains slave first) a result b
   drives-over over result is = over-by slave first turns a step b so over result is
 
   -- the site stopped at this datagram
   pub drives-cut : (order : Pdu) (came : Result Pdu DeviceFault) (c : Seen) (result : Result End Stop) → IsErr result → IsNext slave step order
-      → ExchangesFrame b slave (order ∷ []) (outcome_of came) (frame_after order came) c → came ≡ Err device.Stopped → Drives slave first a result c
+      → ExchangesFrame b slave (order ∷ []) (outcome_of came) (frame_after order came) c → came ≡ Err device.Stopped → Takes (Remains slave first) a result c
   drives-cut order came c result cut next sent is =
       over-by slave first (turns + 1) a Stopped c
       (went-more slave first turns a step b so order came Stopped c next sent

@@ -1,5 +1,5 @@
 -- A frame of one datagram for the EEPROM half of one slave.
-use Rattle.std.proofs.Common.{◌≡◌, ◌⊎◌, ℕ, Bool, true, false, List, [], ◌∷◌, ◌++◌, map, Some, slice_get, Result, Ok, Err, refl, sym, ap, subst, ◌∙◌, inl, inr, arith}
+use Rattle.std.proofs.Common.{◌≡◌, ◌⊎◌, ℕ, List, [], ◌∷◌, ◌++◌, map, Some, slice_get, Result, Ok, Err, refl, sym, ap, subst, ◌∙◌, inl, inr, arith}
 use Rattle.std.specs.List.{AllByRecursion}
 use Rattle.ecat_frame.specs.Frame.{Pdu}
 use Rattle.esc_model.specs.SlaveHalf.{SlaveHalf, MayRest}
@@ -16,10 +16,8 @@ use Rattle.site_core.proofs.Moments.{Leaves-less}
 use Rattle.site_core.proofs.Runs.{Passes-call, Passes-stays, last_of_all}
 use Rattle.site_core.proofs.DeviceCalls.{is_stopped_or, LeavesOnly-stopped}
 use Rattle.site_core.proofs.Times.{Calls-follows, Calls-clock}
-use Rattle.esc_rom.specs.declared.fault.Stop.{Stop}
-use Rattle.esc_rom.specs.Sending.{Sends}
 use Rattle.esc_rom.specs.Runs.{Quiet, Ran, StopsQuietly, WasLost}
-use Rattle.esc_rom.proofs.States.{same_some, with_half-same}
+use Rattle.esc_rom.proofs.States.{with_half-same}
 use Rattle.esc_rom.proofs.Past.{FailsAt-last}
 
 -- the half took the one datagram
@@ -112,9 +110,9 @@ pub record Answers (order datagram : Pdu) (half later : SlaveHalf) : Type 0 wher
   pub is : later ≡ (served_datagram rested order).half
   pub reply : reply_of order (served_datagram rested order) ≡ datagram
 
-pub back_half : (old : Seen) (slave : ℕ) (order : Pdu) (answer : List Pdu) (new : Seen) (datagram : Pdu) → slice_get answer 0 ≡ Some datagram
-    → ExchangesFrame old slave (order ∷ []) (Ok tt) answer new → HalfGoes (Answers order datagram) old.state slave new.state
-back_half old slave order answer new datagram first sends =
+pub back_half : (old : Seen) (slave : ℕ) (order : Pdu) (new : Seen) (datagram : Pdu)
+    → ExchangesFrame old slave (order ∷ []) (Ok tt) (datagram ∷ []) new → HalfGoes (Answers order datagram) old.state slave new.state
+back_half old slave order new datagram sends =
     elim (took_none_or_one order sends.half sends.passed sends.left sends.laters sends.replies sends.split sends.through) [
       | inl none ↦ absurd (let e : order ∷ [] ≡ [] = sends.split ∙ ap (λ (p : List Pdu). p ++ sends.left) none.0 ∙ sends.ok.0 in absurd cc)
       | inr t ↦ record {
@@ -126,7 +124,7 @@ back_half old slave order answer new datagram first sends =
           rested = t.rested;
           rests = t.rests;
           is = refl;
-          reply = same_some (reply_of order (served_datagram t.rested order)) datagram (sym (ap (λ (ds : List Pdu). slice_get ds 0) (sends.ok.1 ∙ t.replies_are)) ∙ first);
+          reply = let only : datagram ∷ [] ≡ reply_of order (served_datagram t.rested order) ∷ [] = sends.ok.1 ∙ t.replies_are in cc;
         };
       }
     ]
@@ -158,38 +156,21 @@ lost_half old slave order new sends =
 -- A DATAGRAM THAT BRINGS NO WORD INTO FLIGHT
 
 module _ (old : Seen) (slave : ℕ) (order : Pdu) (new : Seen) (gentle : IsGentle order) where
-  pub back : (answer : List Pdu) {came : Bool} {datagram : Pdu} → came ≡ true → slice_get answer 0 ≡ Some datagram → Sends old slave order (Ok came) answer new
-      → Ran (Answers order datagram) old slave 1 new
-  back answer {datagram = datagram} is first sent =
-      let sends = subst (λ (b : Bool). Sends old slave order (Ok b) answer new) is sent in
-      record {
-        quiet = exchange_quiet old slave order (Ok tt) answer new gentle sends;
-        some = let one = Calls-clock old (map (with_half old.state slave) sends.laters) (Ok tt) new sends.call in omega arith;
-        going = λ stopped. let e = sends.call.stopped.0 stopped in absurd cc;
-        half = back_half old slave order answer new datagram first sends;
-      }
+  pub back : {datagram : Pdu} → ExchangesFrame old slave (order ∷ []) (Ok tt) (datagram ∷ []) new → Ran (Answers order datagram) old slave 1 new
+  back {datagram} sends = record {
+    quiet = exchange_quiet old slave order (Ok tt) (datagram ∷ []) new gentle sends;
+    some = let one = Calls-clock old (map (with_half old.state slave) sends.laters) (Ok tt) new sends.call in omega arith;
+    going = λ stopped. let e = sends.call.stopped.0 stopped in absurd cc;
+    half = back_half old slave order new datagram sends;
+  }
 
-  pub lost : (answer : List Pdu) {came : Bool} → came ≡ false → Sends old slave order (Ok came) answer new → Ran (WasLost order old new) old slave 1 new
-  lost answer is sent =
-      let sends = subst (λ (b : Bool). Sends old slave order (Ok b) answer new) is sent in
-      record {
-        quiet = exchange_quiet old slave order (Err device.Lost) (order ∷ []) new gentle sends;
-        some = let one = Calls-clock old (map (with_half old.state slave) sends.laters) (Err device.Lost) new sends.call in omega arith;
-        going = λ stopped. let e = sends.call.stopped.0 stopped in absurd cc;
-        half = lost_half old slave order new sends;
-      }
+  pub lost : ExchangesFrame old slave (order ∷ []) (Err device.Lost) (order ∷ []) new → Ran (WasLost order old new) old slave 1 new
+  lost sends = record {
+    quiet = exchange_quiet old slave order (Err device.Lost) (order ∷ []) new gentle sends;
+    some = let one = Calls-clock old (map (with_half old.state slave) sends.laters) (Err device.Lost) new sends.call in omega arith;
+    going = λ stopped. let e = sends.call.stopped.0 stopped in absurd cc;
+    half = lost_half old slave order new sends;
+  }
 
-  pub cut : (answer : List Pdu) {stop : Stop} → Sends old slave order (Err stop) answer new → StopsQuietly old 1 new
-  cut answer sends = record { quiet = exchange_quiet old slave order (Err device.Stopped) (order ∷ []) new gentle sends; stopped = sends.call.stopped.1 refl }
-
--- what came back is this one datagram
-pub one_answer : (old : Seen) (slave : ℕ) (order : Pdu) (answer : List Pdu) (new : Seen) (datagram : Pdu) → slice_get answer 0 ≡ Some datagram
-    → ExchangesFrame old slave (order ∷ []) (Ok tt) answer new → answer ≡ datagram ∷ []
-one_answer old slave order answer new datagram first sends =
-    elim (took_none_or_one order sends.half sends.passed sends.left sends.laters sends.replies sends.split sends.through) [
-      | inl none ↦ absurd (let e : order ∷ [] ≡ [] = sends.split ∙ ap (λ (p : List Pdu). p ++ sends.left) none.0 ∙ sends.ok.0 in absurd cc)
-      | inr t ↦
-          let reply = reply_of order (served_datagram t.rested order) in
-          let is : answer ≡ reply ∷ [] = sends.ok.1 ∙ t.replies_are in
-          is ∙ ap (λ (d : Pdu). d ∷ []) (same_some reply datagram (sym (ap (λ (ds : List Pdu). slice_get ds 0) is) ∙ first))
-    ]
+  pub cut : ExchangesFrame old slave (order ∷ []) (Err device.Stopped) (order ∷ []) new → StopsQuietly old 1 new
+  cut sends = record { quiet = exchange_quiet old slave order (Err device.Stopped) (order ∷ []) new gentle sends; stopped = sends.call.stopped.1 refl }

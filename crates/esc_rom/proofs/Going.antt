@@ -5,6 +5,7 @@ use Rattle.std.proofs.lemmas.Bool.{false≢true}
 use Rattle.ecat_frame.specs.Frame.{Pdu, sent}
 use Rattle.ecat_frame.specs.declared.command.Command.TheVariants.{Fpwr}
 use Rattle.esc_model.specs.Orders.{address_of, access_order, poll_order, clear_order, read_order, fetch_order, write_order}
+use Rattle.esc_model.specs.SlaveHalf.{SlaveHalf}
 use Rattle.esc_model.specs.WordAccess.{IsGentle}
 use Rattle.esc_model.proofs.Writing.{access_gentle, clear_gentle}
 use Rattle.esc_model.proofs.WordReading.{read_gentle}
@@ -16,23 +17,22 @@ use Rattle.site_core.specs.declared.answers.Settled.{Settled}
 use Rattle.site_core.specs.declared.answers.Settled.TheVariants as settled
 use Rattle.site_core.specs.State.{Seen}
 use Rattle.site_core.specs.Calls.{ExchangesFrame}
-use Rattle.esc_rom.specs.declared.fault.Stop.{Stop}
-use Rattle.esc_rom.specs.declared.poll.Rested.{Rested}
-use Rattle.esc_rom.specs.declared.poll.Rested.TheVariants.{Well, Failed}
-use Rattle.esc_rom.specs.declared.reading.WordPair.{WordPair}
-use Rattle.esc_rom.specs.Status.{found_in}
-use Rattle.esc_rom.specs.WordPairs.{Tried, pair_of, Fetched, TriesRead, ReadsPair}
-use Rattle.esc_rom.specs.WordPairs.Tried.{words_read, try_failed, not_seen_idle}
-use Rattle.esc_rom.specs.Runs.{Ran, StopsQuietly, Performs, Polled, Waited, Wrote, Insists}
+use Rattle.rom_steps.specs.declared.step.Stop.{Stop}
+use Rattle.rom_steps.specs.declared.back.Rested.{Rested}
+use Rattle.rom_steps.specs.declared.back.Rested.TheVariants.{Well, Failed}
+use Rattle.rom_steps.specs.declared.back.WordPair.{WordPair}
+use Rattle.rom_steps.specs.Accesses.Tried.{words_read, try_failed, never_idle}
+use Rattle.rom_steps.specs.Accesses.{Tried, pair_of, found_in, is_counted, issued_by, WritesBy, PollsBy, FetchesBy, WaitsBy, InsistsBy, IssuesBy, SettlesAfter, SettlesBy, ClearsBy, FreesBy, OpensBy, tried_of, FetchesAfter, WaitsAfter, TriesBy, pair_tried, ReadsPairBy}
+use Rattle.rom_steps.specs.Courses.{Asked, IsHeard, Asks, Ends, Then, OnlyIf, Rounds, no_round, one_more, UpTo}
+use Rattle.esc_rom.specs.WordPairs.{Fetched, TriesRead, ReadsPair}
+use Rattle.esc_rom.specs.Runs.{Ran, StopsQuietly, Performs, Polled, Waited, WasLost, Wrote, Insists}
 use Rattle.esc_rom.specs.Access.{IssuesWord, BecomesSettled, BecomesOpen}
-use Rattle.esc_rom.specs.Courses.{Asked, AskedInTurn, Takes, outcome_of, frame_after, IsHeard, Ends, Then, OnlyIf, Rounds, no_round, one_more, UpTo}
-use Rattle.esc_rom.specs.Sent.{is_counted, issued_by, WritesBy, PollsBy, FetchesBy, WaitsBy, InsistsBy, IssuesBy, SettlesAfter, SettlesBy, ClearsBy, FreesBy, OpensBy, tried_of, FetchesAfter, WaitsAfter, TriesBy, pair_in, ReadsPairBy}
+use Rattle.esc_rom.specs.Courses.{AskedInTurn, Takes, outcome_of, frame_after}
 use Rattle.esc_rom.proofs.Runs.{SoFar, none, some, so_then, so_cut, cut_as, Ran-weaker, Ran-cut, IsCut-more}
-use Rattle.esc_rom.proofs.Exchanges.{back, lost, cut}
+use Rattle.esc_rom.proofs.Exchanges.{Answers, back, lost, cut}
 use Rattle.esc_rom.proofs.Polls.{poll_gentle, poll_back, poll_lost, InVain, vain_none, vain_more, vain_seen, vain_all}
 use Rattle.esc_rom.proofs.Writes.{write_back, uncounted, TriedSo, tried_none, tried_more, insist_took, insist_failed}
 use Rattle.esc_rom.proofs.IssuedWords.{issue_cut, issue_lost, issue_taken, issue_not_taken}
-use Rattle.esc_rom.proofs.SentLaws.{taken-is, not-taken-is}
 use Rattle.esc_rom.proofs.OpenSlaves.{HasAccess, first_fails, forced, second_fails, freed, wait_fails, vacant, opens}
 use Rattle.esc_rom.proofs.ReadPairs.{fetch_gentle, fetch_back, fetch_lost, HasAsked, HasFetched, command_fails, asked, try_dead, error_fails, fetched, words_fail, pair_read, FailedSo, failed_none, failed_more, pair_after, dead_after, all_failed}
 use Rattle.esc_rom.proofs.SettledWords.{settled_well, settled_dead, settled_again}
@@ -66,49 +66,41 @@ sent_one slave order came log a b is asked =
     let one = subst (λ (l : List Asked). AskedInTurn l a b) is asked in
     subst (λ (s : Seen). ExchangesFrame a slave (order ∷ []) (outcome_of came) (frame_after order came) s) (sym one.2) one.1
 
-module _ (slave address : ℕ) (content : List ℕ) (gentle : IsGentle (sent Fpwr 0 address content)) (a b : Seen) where
-  abbrev order : Pdu
-  order = sent Fpwr 0 address content
+module _ {T : Type 0} (reported : Pdu → T) (gone : T) (R : Seen → Seen → T → SlaveHalf → SlaveHalf → Type 0) (slave : ℕ) (order : Pdu)
+    (gentle : IsGentle order)
+    (backs : (a b : Seen) (reply : Pdu) → Ran (Answers order reply) a slave 1 b → Ran (R a b (reported reply)) a slave 1 b)
+    (loses : (a b : Seen) → Ran (WasLost order a b) a slave 1 b → Ran (R a b gone) a slave 1 b)
+  where
+    asked-by : (a b : Seen) (came : Result Pdu DeviceFault) (result : Result T Stop)
+        → ExchangesFrame a slave (order ∷ []) (outcome_of came) (frame_after order came) b → IsHeard reported gone came result
+        → Performs (R a b) a slave 1 result b
+    asked-by a b (Ok reply) result sends is =
+        subst (λ (r : Result T Stop). Performs (R a b) a slave 1 r b) (sym is) (backs a b reply (back a slave order b gentle sends))
+    asked-by a b (Err device.Lost) result sends is =
+        subst (λ (r : Result T Stop). Performs (R a b) a slave 1 r b) (sym is) (loses a b (lost a slave order b gentle sends))
+    asked-by a b (Err device.Stopped) (Ok value) sends is = absurd (false≢true is)
+    asked-by a b (Err device.Stopped) (Err stop) sends is = cut a slave order b gentle sends
+    asked-by a b (Err device.Disk) result sends is = absurd is
 
-  wrote-by : (came : Result Pdu DeviceFault) (result : Result Bool Stop)
-      → ExchangesFrame a slave (order ∷ []) (outcome_of came) (frame_after order came) b → IsHeard is_counted false came result
-      → Performs (Wrote order a b) a slave 1 result b
-  wrote-by (Ok reply) result sends is =
-      subst (λ (r : Result Bool Stop). Performs (Wrote order a b) a slave 1 r b) (sym is)
-      (write_back a slave address content b (is_counted reply) refl
-      (back a slave order b gentle (reply ∷ []) {came = true} {datagram = reply} refl refl sends))
-  wrote-by (Err device.Lost) result sends is =
-      subst (λ (r : Result Bool Stop). Performs (Wrote order a b) a slave 1 r b) (sym is)
-      (Ran-weaker (omega arith) (λ half later here there given. inl given) (lost a slave order b gentle (order ∷ []) {came = false} refl sends))
-  wrote-by (Err device.Stopped) (Ok value) sends is = absurd (false≢true is)
-  wrote-by (Err device.Stopped) (Err stop) sends is = cut a slave order b gentle (order ∷ []) {stop = stop} sends
-  wrote-by (Err device.Disk) result sends is = absurd is
+    asks-run : (a b : Seen) (log : List Asked) (result : Result T Stop) → AskedInTurn log a b → Asks slave order reported gone log result
+        → Performs (R a b) a slave 1 result b
+    asks-run a b log result asked asks = asked-by a b asks.0 result (sent_one slave order asks.0 log a b asks.1 asked) asks.2
 
-  pub wrote : (log : List Asked) (result : Result Bool Stop) → AskedInTurn log a b → WritesBy slave order log result
-      → Performs (Wrote order a b) a slave 1 result b
-  wrote log result asked asks = wrote-by asks.0 result (sent_one slave order asks.0 log a b asks.1 asked) asks.2
+wrote : (slave address : ℕ) (content : List ℕ) → IsGentle (sent Fpwr 0 address content) → (a b : Seen) (log : List Asked) (result : Result Bool Stop)
+    → AskedInTurn log a b → WritesBy slave (sent Fpwr 0 address content) log result
+    → Performs (Wrote (sent Fpwr 0 address content) a b) a slave 1 result b
+wrote slave address content gentle =
+    asks-run is_counted false (Wrote (sent Fpwr 0 address content)) slave (sent Fpwr 0 address content) gentle
+    (write_back slave address content)
+    (λ a b ran. Ran-weaker (omega arith) (λ half later here there given. inl given) ran)
 
 -- POLLS
 
 module _ (slave : ℕ) (near : slave < 64) where
-  polled-by : (a b : Seen) (came : Result Pdu DeviceFault) (result : Result (Option Rested) Stop)
-      → ExchangesFrame a slave (poll_order slave ∷ []) (outcome_of came) (frame_after (poll_order slave) came) b → IsHeard found_in None came result
-      → Performs (Polled a slave b) a slave 1 result b
-  polled-by a b (Ok reply) result sends is =
-      subst (λ (r : Result (Option Rested) Stop). Performs (Polled a slave b) a slave 1 r b) (sym is)
-      (poll_back a slave b near {found = found_in reply} {datagram = reply} refl
-      (back a slave (poll_order slave) b (poll_gentle slave near) (reply ∷ []) {came = true} {datagram = reply} refl refl sends))
-  polled-by a b (Err device.Lost) result sends is =
-      subst (λ (r : Result (Option Rested) Stop). Performs (Polled a slave b) a slave 1 r b) (sym is)
-      (poll_lost a slave b near (lost a slave (poll_order slave) b (poll_gentle slave near) (poll_order slave ∷ []) {came = false} refl sends))
-  polled-by a b (Err device.Stopped) (Ok value) sends is = absurd (false≢true is)
-  polled-by a b (Err device.Stopped) (Err stop) sends is = cut a slave (poll_order slave) b (poll_gentle slave near)
-      (poll_order slave ∷ []) {stop = stop} sends
-  polled-by a b (Err device.Disk) result sends is = absurd is
-
   polled : (a b : Seen) (log : List Asked) (result : Result (Option Rested) Stop) → AskedInTurn log a b → PollsBy slave log result
       → Performs (Polled a slave b) a slave 1 result b
-  polled a b log result asked asks = polled-by a b asks.0 result (sent_one slave (poll_order slave) asks.0 log a b asks.1 asked) asks.2
+  polled = asks-run found_in None (λ a b. Polled a slave b) slave (poll_order slave) (poll_gentle slave near)
+      (λ a b. poll_back a slave b near) (λ a b. poll_lost a slave b near)
 
   polls-missed : (times : ℕ) (log : List Asked) (a b : Seen) → AskedInTurn log a b → Rounds (λ (poll : ℕ). PollsBy slave) None times log
       → SoFar (InVain a slave times b) a slave times b
@@ -128,7 +120,7 @@ module _ (slave : ℕ) (near : slave < 64) where
   waited-end a mid b times few (Ok None) ends so last = absurd (ends refl)
   waited-end a mid b times few (Err stop) ends so last = so_cut (omega arith) so last
 
-  pub waited : (a b : Seen) (log : List Asked) (result : Result (Option Rested) Stop) → AskedInTurn log a b → WaitsBy slave log result
+  waited : (a b : Seen) (log : List Asked) (result : Result (Option Rested) Stop) → AskedInTurn log a b → WaitsBy slave log result
       → Performs (Waited a slave b) a slave 10000 result b
   waited a b log result asked (inl all) =
       subst (λ (r : Result (Option Rested) Stop). Performs (Waited a slave b) a slave 10000 r b) (sym all.1)
@@ -137,6 +129,10 @@ module _ (slave : ℕ) (near : slave < 64) where
       let parts = parted log so.front so.after a b so.log_is asked in
       waited-end a parts.mid b so.times so.few result so.ends (polls-missed so.times so.front a parts.mid parts.first so.rounds)
       (polled parts.mid b so.after result parts.second so.last)
+
+  pub waits-runs : {a b : Seen} {result : Result (Option Rested) Stop} → Takes (WaitsBy slave) a result b
+      → Performs (Waited a slave b) a slave 10000 result b
+  waits-runs {a} {b} {result} takes = waited a b takes.log result takes.asked takes.took
 
   -- SETTLE
 
@@ -197,12 +193,8 @@ module _ (slave word value : ℕ) (near : slave < 64) (word_fits : word < 2 ^ 16
   issued-back : (reply : Pdu) (counted : Bool) → (reply.counter == 1) ≡ counted
       → ExchangesFrame a slave (write_order slave word value ∷ []) (Ok tt) (reply ∷ []) b
       → IssuesWord a slave word value (Ok (issued_by reply)) b
-  issued-back reply true is sends =
-      subst (λ (i : Issued). IssuesWord a slave word value (Ok i) b) (taken-is reply is)
-      (issue_taken a slave word value b near word_fits value_fits {answer = reply ∷ []} reply refl is sends)
-  issued-back reply false is sends =
-      subst (λ (i : Issued). IssuesWord a slave word value (Ok i) b) (not-taken-is reply is)
-      (issue_not_taken a slave word value b near word_fits value_fits {answer = reply ∷ []} reply refl is sends)
+  issued-back reply true is sends = rw is (issue_taken a slave word value b near word_fits value_fits reply is sends)
+  issued-back reply false is sends = rw is (issue_not_taken a slave word value b near word_fits value_fits reply is sends)
 
   issued-so : (came : Result Pdu DeviceFault) (answer : Issued)
       → ExchangesFrame a slave (write_order slave word value ∷ []) (outcome_of came) (frame_after (write_order slave word value) came) b
@@ -212,7 +204,7 @@ module _ (slave word value : ℕ) (near : slave < 64) (word_fits : word < 2 ^ 16
       (issued-back reply (reply.counter == 1) refl sends)
   issued-so (Err device.Lost) answer sends is =
       subst (λ (i : Issued). IssuesWord a slave word value (Ok i) b) (let same : issued.Lost ≡ answer = cc in same)
-      (issue_lost a slave word value b near word_fits value_fits (write_order slave word value ∷ []) sends)
+      (issue_lost a slave word value b near word_fits value_fits sends)
   issued-so (Err device.Stopped) answer sends is = absurd (false≢true is)
   issued-so (Err device.Disk) answer sends is = absurd is
 
@@ -223,7 +215,7 @@ module _ (slave word value : ℕ) (near : slave < 64) (word_fits : word < 2 ^ 16
   issued-cut (Ok reply) stop result stops sends is = absurd cc
   issued-cut (Err device.Lost) stop result stops sends is = absurd cc
   issued-cut (Err device.Stopped) stop result stops sends is =
-      issue_cut a slave word value b near word_fits value_fits (write_order slave word value ∷ []) {stop = stop} result stops sends
+      issue_cut a slave word value b near word_fits value_fits result stops sends
   issued-cut (Err device.Disk) stop result stops sends is = absurd is
 
   pub issues-ok : {answer : Issued} → Takes (IssuesBy slave word value) a (Ok answer) b → IssuesWord a slave word value (Ok answer) b
@@ -350,24 +342,10 @@ module _ (slave : ℕ) (near : slave < 64) where
 -- READ
 
 module _ (slave : ℕ) (near : slave < 64) where
-  fetched-by : (a b : Seen) (came : Result Pdu DeviceFault) (result : Result (Option WordPair) Stop)
-      → ExchangesFrame a slave (fetch_order slave ∷ []) (outcome_of came) (frame_after (fetch_order slave) came) b → IsHeard pair_of None came result
-      → Performs (Fetched a slave b) a slave 1 result b
-  fetched-by a b (Ok reply) result sends is =
-      subst (λ (r : Result (Option WordPair) Stop). Performs (Fetched a slave b) a slave 1 r b) (sym is)
-      (fetch_back a slave b near {found = pair_of reply} {datagram = reply} refl
-      (back a slave (fetch_order slave) b (fetch_gentle slave near) (reply ∷ []) {came = true} {datagram = reply} refl refl sends))
-  fetched-by a b (Err device.Lost) result sends is =
-      subst (λ (r : Result (Option WordPair) Stop). Performs (Fetched a slave b) a slave 1 r b) (sym is)
-      (fetch_lost a slave b near (lost a slave (fetch_order slave) b (fetch_gentle slave near) (fetch_order slave ∷ []) {came = false} refl sends))
-  fetched-by a b (Err device.Stopped) (Ok value) sends is = absurd (false≢true is)
-  fetched-by a b (Err device.Stopped) (Err stop) sends is = cut a slave (fetch_order slave) b (fetch_gentle slave near)
-      (fetch_order slave ∷ []) {stop = stop} sends
-  fetched-by a b (Err device.Disk) result sends is = absurd is
-
   fetched-one : (a b : Seen) (log : List Asked) (result : Result (Option WordPair) Stop) → AskedInTurn log a b → FetchesBy slave log result
       → Performs (Fetched a slave b) a slave 1 result b
-  fetched-one a b log result asked asks = fetched-by a b asks.0 result (sent_one slave (fetch_order slave) asks.0 log a b asks.1 asked) asks.2
+  fetched-one = asks-run pair_of None (λ a b. Fetched a slave b) slave (fetch_order slave) (fetch_gentle slave near)
+      (λ a b. fetch_back a slave b near) (λ a b. fetch_lost a slave b near)
 
 module _ (slave word : ℕ) (near : slave < 64) (fits : word < 2 ^ 16) where
   try-ended : (end : Tried) (a mid b : Seen) (log : List Asked) (result : Result Tried Stop) → Ran (TriesRead a slave word mid end) a slave 10002 mid
@@ -396,7 +374,7 @@ module _ (slave word : ℕ) (near : slave < 64) (fits : word < 2 ^ 16) where
   wait-found : (found : Option Rested) (a c d b : Seen) (log : List Asked) (result : Result Tried Stop) → Ran (HasAsked slave word) a slave 1 c
       → Ran (Waited c slave d found) c slave 10000 d
       → AskedInTurn log d b → FetchesAfter slave found log result → Performs (TriesRead a slave word b) a slave 10002 result b
-  wait-found None a c d b log result ran waits asked ends = try-ended not_seen_idle a d b log result (try_dead near fits ran waits) asked ends
+  wait-found None a c d b log result ran waits asked ends = try-ended never_idle a d b log result (try_dead near fits ran waits) asked ends
   wait-found (Some Failed) a c d b log result ran waits asked ends = try-ended try_failed a d b log result
       (error_fails near fits ran waits) asked ends
   wait-found (Some Well) a c d b log result ran waits asked so = fetch-so a d b log result (fetched near fits ran waits) asked so
@@ -448,23 +426,23 @@ module _ (slave word : ℕ) (near : slave < 64) (fits : word < 2 ^ 16) where
 
   last-try : (a mid b : Seen) (times : ℕ) → times < 3 → (last : Tried) → last ≢ try_failed
       → SoFar (FailedSo a slave word times mid) a slave (10002 * times) mid
-      → Ran (TriesRead mid slave word b last) mid slave 10002 b → Ran (ReadsPair a slave word b (pair_in last)) a slave 30006 b
+      → Ran (TriesRead mid slave word b last) mid slave 10002 b → Ran (ReadsPair a slave word b (pair_tried last)) a slave 30006 b
   last-try a mid b times few (words_read pair) ends so ran = pair_after few so ran
   last-try a mid b times few try_failed ends so ran = absurd (ends refl)
-  last-try a mid b times few not_seen_idle ends so ran = dead_after few so ran
+  last-try a mid b times few never_idle ends so ran = dead_after few so ran
 
   tries-ended : (a b : Seen) (log : List Asked) (last : Tried) → AskedInTurn log a b
-      → UpTo 3 (λ (try : ℕ). TriesBy slave word) try_failed log (Ok last)
-      → Ran (ReadsPair a slave word b (pair_in last)) a slave 30006 b
+      → UpTo 3 (TriesBy slave word) try_failed log (Ok last)
+      → Ran (ReadsPair a slave word b (pair_tried last)) a slave 30006 b
   tries-ended a b log last asks (inl all) =
-      subst (λ (t : Tried). Ran (ReadsPair a slave word b (pair_in t)) a slave 30006 b) (let same : try_failed ≡ last = cc in same)
+      subst (λ (t : Tried). Ran (ReadsPair a slave word b (pair_tried t)) a slave 30006 b) (let same : try_failed ≡ last = cc in same)
       (all_failed refl (tries-failed 3 log a b asks all.0))
   tries-ended a b log last asks (inr so) =
       let parts = parted log so.front so.after a b so.log_is asks in
       last-try a parts.mid b so.times so.few last (λ e. so.ends (ap Ok e)) (tries-failed so.times so.front a parts.mid parts.first so.rounds)
       (tried-so parts.mid b so.after (Ok last) parts.second so.last)
 
-  tries-cut : (a b : Seen) (log : List Asked) (stop : Stop) → AskedInTurn log a b → UpTo 3 (λ (try : ℕ). TriesBy slave word) try_failed log (Err stop)
+  tries-cut : (a b : Seen) (log : List Asked) (stop : Stop) → AskedInTurn log a b → UpTo 3 (TriesBy slave word) try_failed log (Err stop)
       → StopsQuietly a 30006 b
   tries-cut a b log stop asks (inl all) = absurd (let not = all.1 in cc)
   tries-cut a b log stop asks (inr so) =
@@ -477,7 +455,7 @@ module _ (slave word : ℕ) (near : slave < 64) (fits : word < 2 ^ 16) where
       → Performs (ReadsPair a slave word b) a slave 30006 result b
   reads-so a b log result asks (inl so) =
       let parts = parted log so.front so.after a b so.log_is asks in
-      read-ended (pair_in so.value) a parts.mid b so.after result
+      read-ended (pair_tried so.value) a parts.mid b so.after result
       (tries-ended a parts.mid so.front so.value parts.first so.came_to) parts.second so.goes_on
   reads-so a b log result asks (inr stops) = cut_as (ReadsPair a slave word b) slave result stops.2 (tries-cut a b log stops.0 asks stops.1)
 

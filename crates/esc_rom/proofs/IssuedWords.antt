@@ -1,9 +1,8 @@
 -- Words that are issued: the pairs that a power cut may leave, and the answers of `issue`.
-use Rattle.std.proofs.Common.{◌≡◌, ◌≢◌, ◌⊎◌, ℕ, ◌^◌, ◌<◌, ◌==◌, Bool, true, false, List, [], ◌∷◌, ◌++◌, map, Some, slice_get, slice_set, Result, Ok, Err, refl, sym, ap, subst, ◌∙◌, inl, inr, arith}
+use Rattle.std.proofs.Common.{◌≡◌, ◌≢◌, ◌⊎◌, ℕ, ◌^◌, ◌<◌, ◌==◌, true, false, List, [], ◌∷◌, ◌++◌, map, Some, slice_get, slice_set, Result, Ok, Err, refl, sym, ap, subst, ◌∙◌, inl, inr, arith}
 use Rattle.std.specs.Int.{w16, w32, to_le_bytes}
 use Rattle.std.proofs.lemmas.List.{set-set}
-use Rattle.ecat_frame.specs.Frame.{Pdu, sent}
-use Rattle.ecat_frame.specs.declared.command.Command.TheVariants.{Fpwr}
+use Rattle.ecat_frame.specs.Frame.{Pdu}
 use Rattle.esc_model.specs.SlaveHalf.{SlaveHalf, Activity, Writing, MayRest, MayHold, MayLeave}
 use Rattle.esc_model.specs.Datagrams.{served_datagram, Receives}
 use Rattle.esc_model.specs.Orders.{address_of, write_order}
@@ -21,8 +20,6 @@ use Rattle.site_core.proofs.Halves.{EachMayLeave-at, EachMayLeave-exchanged}
 use Rattle.site_core.proofs.Moments.{Leaves-less}
 use Rattle.site_core.proofs.Runs.{Passes-stays}
 use Rattle.site_core.proofs.Times.{Calls-follows, Calls-clock}
-use Rattle.esc_rom.specs.declared.fault.Stop.{Stop}
-use Rattle.esc_rom.specs.Sending.{Sends}
 use Rattle.esc_rom.specs.Access.{DiffersAtWord, WordMayDiffer, BecomesIssued, IssuesWord}
 use Rattle.esc_rom.proofs.States.{slice_set-same, slice_get-set, HalfGoes-weaker}
 use Rattle.esc_rom.proofs.Exchanges.{exchange_passes, Answers, back_half, lost_half}
@@ -117,9 +114,10 @@ module _ (old : Seen) (slave word value : ℕ) (new : Seen) (near : slave < 64) 
     only_stopped = tt;
   }
 
-  pub issue_cut : (answer : List Pdu) {stop : Stop} (result : Result Issued DeviceFault) → result ≡ Err device.Stopped → Sends old slave (write_order slave word value) (Err stop) answer new
+  pub issue_cut : (result : Result Issued DeviceFault) → result ≡ Err device.Stopped
+      → ExchangesFrame old slave (write_order slave word value ∷ []) (Err device.Stopped) (write_order slave word value ∷ []) new
       → IssuesWord old slave word value result new
-  issue_cut answer result is sends = subst (λ (r : Result Issued DeviceFault). IssuesWord old slave word value r new) (sym is) (record {
+  issue_cut result is sends = subst (λ (r : Result Issued DeviceFault). IssuesWord old slave word value r new) (sym is) (record {
     stays = issue_stays sends;
     half = λ i was. absurd cc;
     follows = Calls-follows old (map (with_half old.state slave) sends.laters) (Err device.Stopped) new sends.call;
@@ -130,8 +128,9 @@ module _ (old : Seen) (slave word value : ℕ) (new : Seen) (near : slave < 64) 
     only_stopped = refl;
   })
 
-  pub issue_lost : (answer : List Pdu) → Sends old slave (write_order slave word value) (Ok false) answer new → IssuesWord old slave word value (Ok issued.Lost) new
-  issue_lost answer sends = issue_answers issued.Lost (λ e. absurd cc) sends (HalfGoes-weaker (lost_half old slave (write_order slave word value) new sends) (λ half later here there lost. (took half later lost.2, lost.1)))
+  pub issue_lost : ExchangesFrame old slave (write_order slave word value ∷ []) (Err device.Lost) (write_order slave word value ∷ []) new
+      → IssuesWord old slave word value (Ok issued.Lost) new
+  issue_lost sends = issue_answers issued.Lost (λ e. absurd cc) sends (HalfGoes-weaker (lost_half old slave (write_order slave word value) new sends) (λ half later here there lost. (took half later lost.2, lost.1)))
     where
       by : (half rested later : SlaveHalf) → MayRest half rested → later ≡ (served_datagram rested (write_order slave word value)).half → Issues slave word value half rested → MayRest half later ⊎ TakesWord slave word value half later
       by half rested later rests is (passed same none why) = inl (subst (λ (h : SlaveHalf). MayRest half h) (sym (is ∙ same)) rests)
@@ -148,10 +147,10 @@ module _ (old : Seen) (slave word value : ℕ) (new : Seen) (near : slave < 64) 
   counted_so : (datagram : Pdu) (half later : SlaveHalf) (answers : Answers (write_order slave word value) datagram half later) → Counted datagram.counter (served_datagram answers.rested (write_order slave word value)).added
   counted_so datagram half later answers = counter_says answers.rested (address_of slave 0x0502) (to_le_bytes w16 0x0201 ++ to_le_bytes w32 word ++ to_le_bytes w16 value) datagram.counter (ap (λ (d : Pdu). d.counter) answers.reply)
 
-  pub issue_taken : {answer : List Pdu} (datagram : Pdu) → slice_get answer 0 ≡ Some datagram → (datagram.counter == 1) ≡ true → Sends old slave (write_order slave word value) (Ok true) answer new
+  pub issue_taken : (datagram : Pdu) → (datagram.counter == 1) ≡ true → ExchangesFrame old slave (write_order slave word value ∷ []) (Ok tt) (datagram ∷ []) new
       → IssuesWord old slave word value (Ok issued.Taken) new
-  issue_taken {answer} datagram first counted sends =
-      issue_answers issued.Taken (λ e. absurd cc) sends (HalfGoes-weaker (back_half old slave (write_order slave word value) answer new datagram first sends) (λ half later here there answers.
+  issue_taken datagram counted sends =
+      issue_answers issued.Taken (λ e. absurd cc) sends (HalfGoes-weaker (back_half old slave (write_order slave word value) new datagram sends) (λ half later here there answers.
       by half later answers (word_issues slave word value half answers.rested near word_fits value_fits answers.rests) (counted_so datagram half later answers)))
     where
       by : (half later : SlaveHalf) (answers : Answers (write_order slave word value) datagram half later) → Issues slave word value half answers.rested
@@ -160,10 +159,10 @@ module _ (old : Seen) (slave word value : ℕ) (new : Seen) (near : slave < 64) 
       by half later answers (passed same none why) (inl one) = absurd (let e = one.1 in omega arith)
       by half later answers (passed same none why) (inr not) = absurd (let e : true ≡ false = sym counted ∙ not.0 in cc)
 
-  pub issue_not_taken : {answer : List Pdu} (datagram : Pdu) → slice_get answer 0 ≡ Some datagram → (datagram.counter == 1) ≡ false → Sends old slave (write_order slave word value) (Ok true) answer new
+  pub issue_not_taken : (datagram : Pdu) → (datagram.counter == 1) ≡ false → ExchangesFrame old slave (write_order slave word value ∷ []) (Ok tt) (datagram ∷ []) new
       → IssuesWord old slave word value (Ok issued.NotTaken) new
-  issue_not_taken {answer} datagram first uncounted sends =
-      issue_answers issued.NotTaken (λ e. absurd cc) sends (HalfGoes-weaker (back_half old slave (write_order slave word value) answer new datagram first sends) (λ half later here there answers.
+  issue_not_taken datagram uncounted sends =
+      issue_answers issued.NotTaken (λ e. absurd cc) sends (HalfGoes-weaker (back_half old slave (write_order slave word value) new datagram sends) (λ half later here there answers.
       by half later answers (word_issues slave word value half answers.rested near word_fits value_fits answers.rests) (counted_so datagram half later answers)))
     where
       by : (half later : SlaveHalf) (answers : Answers (write_order slave word value) datagram half later) → Issues slave word value half answers.rested
@@ -171,11 +170,3 @@ module _ (old : Seen) (slave word value : ℕ) (new : Seen) (near : slave < 64) 
       by half later answers (passed same _ why) so = (subst (λ (h : SlaveHalf). MayRest half h) (sym (answers.is ∙ same)) answers.rests, why)
       by half later answers (has t one) (inl counted) = absurd (let e : true ≡ false = sym counted.0 ∙ uncounted in cc)
       by half later answers (has t one) (inr none) = absurd (let e = none.1 in omega arith)
-
--- the bytes that are sent spell the word and its value
-pub with_content : (old : Seen) (slave word value : ℕ) (content : List ℕ) (result came : Result Bool Stop) (answer : List Pdu) (new : Seen)
-    → content ≡ to_le_bytes w16 0x0201 ++ to_le_bytes w32 word ++ to_le_bytes w16 value → came ≡ result
-    → Sends old slave (sent Fpwr 0 (address_of slave 0x0502) content) came answer new → Sends old slave (write_order slave word value) result answer new
-with_content old slave word value content result came answer new is so sends =
-    subst (λ (r : Result Bool Stop). Sends old slave (write_order slave word value) r answer new) so
-    (subst (λ (bytes : List ℕ). Sends old slave (sent Fpwr 0 (address_of slave 0x0502) bytes) came answer new) is sends)

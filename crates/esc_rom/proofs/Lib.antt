@@ -18,7 +18,6 @@ pub mod SlaveLaws
 pub mod LineLaws
 pub mod SizeLaws
 pub mod SentLaws
-pub mod Carried
 pub mod Going
 pub mod Driven
 pub mod InSteps

@@ -11,15 +11,15 @@ use Rattle.esc_model.proofs.OnlyResting.{OnlyRests-same, OnlyRests-then, MayRest
 use Rattle.esc_model.proofs.Writing.{access_gentle, access_taken, access_refused, clear_refused}
 use Rattle.site_core.specs.State.{Seen, clock}
 use Rattle.site_core.proofs.Times.{Follows-clock}
-use Rattle.esc_rom.specs.declared.fault.Stop.{Stop}
+use Rattle.rom_steps.specs.declared.step.Stop.{Stop}
 use Rattle.esc_rom.specs.declared.fault.RomFault.{RomFault}
 use Rattle.esc_rom.specs.declared.fault.RomFault.TheVariants as rom
-use Rattle.esc_rom.specs.declared.poll.Rested.{Rested}
+use Rattle.rom_steps.specs.declared.back.Rested.{Rested}
 use Rattle.esc_rom.specs.Past.{HalfAt, AreLost, AreUncounted, IsNext}
 use Rattle.esc_rom.specs.Runs.{Ran, StopsQuietly, Performs, Waited, Tries, never, again, OnceRefused, Insists}
 use Rattle.esc_rom.specs.Access.{BecomesOpen, OpensSlave}
 use Rattle.esc_rom.proofs.Runs.{Ran-then, Ran-weaker, Ran-cut}
-use Rattle.esc_rom.proofs.Past.{Ran-tied, never_idle}
+use Rattle.esc_rom.proofs.Past.{Ran-tied, NeverIdle-waited}
 use Rattle.esc_rom.proofs.Clearing.{clear_counted, clear_well}
 use Rattle.esc_rom.proofs.SettledWords.{Clears, clears_same, clears_then, clears_receives, seen_idle}
 
@@ -124,7 +124,7 @@ module _ {a : Seen} {slave : ℕ} (near : slave < 64) where
 
   pub wait_fails : {c d : Seen} → Ran (HasAccess 0) a slave 6 c → Ran (Waited c slave d None) c slave 10000 d → Ran (BecomesOpen a slave d false) a slave 10009 d
   wait_fails {c} {d} ran more =
-      Ran-then (omega arith) (λ half mid later so waited. (OnlyRests-then half mid later so.only (MayRest-only mid later waited.0), inl (never_idle a c d slave (Follows-clock a c ran.quiet.follows) waited.1))) ran more
+      Ran-then (omega arith) (λ half mid later so waited. (OnlyRests-then half mid later so.only (MayRest-only mid later waited.0), inl (NeverIdle-waited a c d slave (Follows-clock a c ran.quiet.follows) waited.1))) ran more
 
   pub vacant : {c d : Seen} (rested : Rested) → Ran (HasAccess 0) a slave 6 c → Ran (Waited c slave d (Some rested)) c slave 10000 d → Ran IsVacant a slave 10006 d
   vacant rested ran more =

@@ -77,8 +77,8 @@ PollsInVain-more a b slave from times follows is polls last =
         (λ half later m. (m.0, elim m.1 [ inl fails ↦ inl (FailsAt-stays a b (from + k) follows (omega arith) fails) | inr why ↦ inr why ])) misses
 
 -- the wait is that of the last calls, also where others came before it
-pub never_idle : (a b c : Seen) (slave : ℕ) → clock a ≤ clock b → WaitsInVain b slave c → NeverIdle a slave c
-never_idle a b c slave after waits = record { from = clock b; after = after; clock = waits.clock; polls = waits.polls }
+pub NeverIdle-waited : (a b c : Seen) (slave : ℕ) → clock a ≤ clock b → WaitsInVain b slave c → NeverIdle a slave c
+NeverIdle-waited a b c slave after waits = record { from = clock b; after = after; clock = waits.clock; polls = waits.polls }
 
 pub NeverIdle-after : (a b c : Seen) (slave : ℕ) → clock a ≤ clock b → NeverIdle b slave c → NeverIdle a slave c
 NeverIdle-after a b c slave after never = record { from = never.from; after = let w : clock b ≤ never.from = never.after in omega arith; clock = never.clock; polls = never.polls }

@@ -1,5 +1,5 @@
 -- Polls, one and in a row.
-use Rattle.std.proofs.Common.{◌≡◌, ◌⊎◌, ℕ, ◌+◌, ◌<◌, length, Option, Some, None, slice_get, refl, sym, ap, subst, ◌∙◌, inl, inr, arith}
+use Rattle.std.proofs.Common.{◌≡◌, ◌⊎◌, ℕ, ◌+◌, ◌<◌, Option, Some, None, slice_get, refl, sym, ap, subst, ◌∙◌, inl, inr, arith}
 use Rattle.std.proofs.lemmas.Bool.Decides.{leb_tells}
 use Rattle.ecat_frame.specs.Frame.{Pdu}
 use Rattle.esc_model.specs.Registers.{status_byte}
@@ -13,8 +13,8 @@ use Rattle.esc_model.proofs.Status.{shows_idle, shows_well, shows_busy, shows_er
 use Rattle.esc_model.proofs.Addressing.{here_or_elsewhere, poll_here, poll_elsewhere, poll-same}
 use Rattle.site_core.specs.State.{Seen, clock}
 use Rattle.site_core.specs.Times.{FailsAt, Follows}
-use Rattle.esc_rom.specs.declared.poll.Rested.{Rested}
-use Rattle.esc_rom.specs.Status.{rest_shown, found_in}
+use Rattle.rom_steps.specs.declared.back.Rested.{Rested}
+use Rattle.rom_steps.specs.Accesses.{rest_shown, found_in}
 use Rattle.esc_rom.specs.Past.{PollsInVain}
 use Rattle.esc_rom.specs.Runs.{Ran, IsSeen, Polled, Waited, WasLost}
 use Rattle.esc_rom.proofs.Runs.{Ran-weaker, SoFar, so_over}
@@ -64,17 +64,19 @@ module _ (old : Seen) (slave : ℕ) (new : Seen) (near : slave < 64) where
       missed follows one half later here there rests (inr (inr (λ at. elsewhere (MayRest-station half later rests ∙ at))))
   said follows one (Some rested) half later here there rests seen = (rests, seen)
 
-  pub poll_back : {found : Option Rested} {datagram : Pdu} → found ≡ found_in datagram → Ran (Answers (poll_order slave) datagram) old slave 1 new → Ran (Polled old slave new found) old slave 1 new
-  poll_back {found = found} {datagram = datagram} is ran = Ran-weaker (omega arith) goes ran
+  pub poll_back : (reply : Pdu) → Ran (Answers (poll_order slave) reply) old slave 1 new → Ran (Polled old slave new (found_in reply)) old slave 1 new
+  poll_back reply ran = Ran-weaker (omega arith) goes ran
     where
       one : clock new ≡ clock old + 1
       one = let more = ran.some in let most = ran.quiet.within in omega arith
 
-      goes : (half later : SlaveHalf) → slice_get old.state.halves slave ≡ Some half → slice_get new.state.halves slave ≡ Some later → Answers (poll_order slave) datagram half later → Polled old slave new found half later
+      goes : (half later : SlaveHalf) → slice_get old.state.halves slave ≡ Some half → slice_get new.state.halves slave ≡ Some later → Answers (poll_order slave) reply half later
+          → Polled old slave new (found_in reply) half later
       goes half later here there answers =
           let same : later ≡ answers.rested = answers.is ∙ poll-same answers.rested slave near in
-          let says = subst (λ (f : Option Rested). Says slave f answers.rested) (ap found_in answers.reply ∙ sym is) (poll_says slave answers.rested near) in
-          said ran.quiet.follows one found half later here there (subst (λ (h : SlaveHalf). MayRest half h) (sym same) answers.rests) (subst (λ (h : SlaveHalf). Says slave found h) (sym same) says)
+          let says = subst (λ (f : Option Rested). Says slave f answers.rested) (ap found_in answers.reply) (poll_says slave answers.rested near) in
+          said ran.quiet.follows one (found_in reply) half later here there (subst (λ (h : SlaveHalf). MayRest half h) (sym same) answers.rests)
+          (subst (λ (h : SlaveHalf). Says slave (found_in reply) h) (sym same) says)
 
   pub poll_lost : Ran (WasLost (poll_order slave) old new) old slave 1 new → Ran (Polled old slave new None) old slave 1 new
   poll_lost ran = Ran-weaker (omega arith) (λ half later here there lost. missed ran.quiet.follows lost.0 half later here there (elim lost.2 [
@@ -102,15 +104,6 @@ vain_more a b c slave times follows half mid later vain polled = record {
 
 pub vain_seen : (a b c : Seen) (slave times : ℕ) (rested : Rested) (half mid later : SlaveHalf) → InVain a slave times b half mid → Polled b slave c (Some rested) mid later → Waited a slave c (Some rested) half later
 vain_seen a b c slave times rested half mid later vain polled = (MayRest-twice half mid later vain.rests polled.0, polled.1)
-
--- an answer has the two bytes of a poll
-pub poll_length : (slave : ℕ) {datagram : Pdu} {old new : Seen} → slave < 64 → Ran (Answers (poll_order slave) datagram) old slave 1 new → length datagram.content ≡ 2
-poll_length slave near ran =
-    let answers = ran.half.goes in
-    sym (ap (λ (d : Pdu). length d.content) answers.reply) ∙ elim (here_or_elsewhere slave answers.rested) [
-      | inl here ↦ ap (λ (t : Outcome). length t.content) (poll_here answers.rested slave near here)
-      | inr elsewhere ↦ ap (λ (t : Outcome). length t.content) (poll_elsewhere answers.rested slave near elsewhere)
-    ]
 
 pub vain_all : (a : Seen) (slave times : ℕ) (b : Seen) → times ≡ 10000 → SoFar (InVain a slave times b) a slave times b → Ran (Waited a slave b None) a slave 10000 b
 vain_all a slave times b all so =

@@ -1,11 +1,9 @@
 -- Reading two words: one try, and tries in a row.
-use Rattle.std.proofs.Common.{◌≡◌, ◌⊎◌, ℕ, ◌+◌, ◌*◌, ◌/◌, ◌%◌, ◌^◌, ◌<◌, Bool, true, false, List, ◌++◌, length, Option, Some, None, slice_index, refl, sym, ap, subst, ◌∙◌, inl, inr, arith}
-use Rattle.std.specs.Int.{w16, w32, to_le_bytes}
-use Rattle.ecat_frame.specs.Frame.{Pdu, sent}
-use Rattle.ecat_frame.specs.declared.command.Command.TheVariants.{Fpwr}
+use Rattle.std.proofs.Common.{◌≡◌, ◌⊎◌, ℕ, ◌+◌, ◌*◌, ◌/◌, ◌%◌, ◌^◌, ◌<◌, true, false, List, Option, Some, None, slice_index, refl, sym, ap, subst, ◌∙◌, inl, inr, arith}
+use Rattle.ecat_frame.specs.Frame.{Pdu}
 use Rattle.esc_model.specs.SlaveHalf.{SlaveHalf, Activity, Idle, Reading, Outcome, is_busy, MayEnd, MayRest}
 use Rattle.esc_model.specs.Datagrams.{served_datagram, reply_of, CountsDatagram, Receives}
-use Rattle.esc_model.specs.Orders.{address_of, fetch_order, read_order}
+use Rattle.esc_model.specs.Orders.{fetch_order, read_order}
 use Rattle.esc_model.specs.WordAccess.{IsAt, IsIdle, HasError, IsWell, OnlyRests, IsGentle}
 use Rattle.esc_model.proofs.Resting.{MayRest-idle, MayEnd-is_idle, MayRest-station}
 use Rattle.esc_model.proofs.OnlyResting.{OnlyRests-same, OnlyRests-then, MayRest-only, Receives-only}
@@ -14,14 +12,15 @@ use Rattle.esc_model.proofs.Addressing.{here_or_elsewhere, fetch_here, fetch_els
 use Rattle.esc_model.proofs.WordReading.{IsAsked, read_gentle, read_taken, read_refused}
 use Rattle.site_core.specs.State.{Seen, clock}
 use Rattle.site_core.proofs.Times.{Follows-clock}
-use Rattle.esc_rom.specs.declared.poll.Rested.TheVariants.{Well, Failed}
-use Rattle.esc_rom.specs.declared.reading.WordPair.{WordPair}
+use Rattle.rom_steps.specs.declared.back.Rested.TheVariants.{Well, Failed}
+use Rattle.rom_steps.specs.declared.back.WordPair.{WordPair}
 use Rattle.esc_rom.specs.Past.{Refuses, HalfAt, EndsTry, still_busy, command_lost, in_error, words_lost, FailTries, no_try, one_more_try}
 use Rattle.esc_rom.specs.Runs.{Ran, Waited, WasLost, Wrote}
-use Rattle.esc_rom.specs.WordPairs.Tried.{words_read, try_failed, not_seen_idle}
-use Rattle.esc_rom.specs.WordPairs.{pair_of, Fetched, IsRead, TriesRead, ReadsPair}
+use Rattle.rom_steps.specs.Accesses.Tried.{words_read, try_failed, never_idle}
+use Rattle.rom_steps.specs.Accesses.{pair_of}
+use Rattle.esc_rom.specs.WordPairs.{Fetched, IsRead, TriesRead, ReadsPair}
 use Rattle.esc_rom.proofs.Runs.{Ran-then, Ran-weaker, SoFar, so_then, so_over, so_clock}
-use Rattle.esc_rom.proofs.Past.{HalfAt-now, HalfAt-then, never_idle, NeverIdle-after, FailTries-stays}
+use Rattle.esc_rom.proofs.Past.{HalfAt-now, HalfAt-then, NeverIdle-waited, NeverIdle-after, FailTries-stays}
 use Rattle.esc_rom.proofs.Exchanges.{Answers}
 use Rattle.esc_rom.proofs.Writes.{wrote_receives}
 
@@ -29,15 +28,6 @@ use Rattle.esc_rom.proofs.Writes.{wrote_receives}
 
 pub fetch_gentle : (slave : ℕ) → slave < 64 → IsGentle (fetch_order slave)
 fetch_gentle slave near half = subst (λ (h : SlaveHalf). OnlyRests half h) (sym (fetch-same half slave near)) (OnlyRests-same half)
-
--- an answer has the four bytes of the two words
-pub fetch_length : (slave : ℕ) {datagram : Pdu} {old new : Seen} → slave < 64 → Ran (Answers (fetch_order slave) datagram) old slave 1 new → length datagram.content ≡ 4
-fetch_length slave near ran =
-    let answers = ran.half.goes in
-    sym (ap (λ (d : Pdu). length d.content) answers.reply) ∙ elim (here_or_elsewhere slave answers.rested) [
-      | inl here ↦ ap (λ (t : Outcome). length t.content) (fetch_here answers.rested slave near here)
-      | inr elsewhere ↦ ap (λ (t : Outcome). length t.content) (fetch_elsewhere answers.rested slave near elsewhere)
-    ]
 
 bytes_back : (word : ℕ) → word % 256 + 256 * (word / 256) ≡ word
 bytes_back word = omega arith
@@ -58,14 +48,15 @@ module _ (old : Seen) (slave : ℕ) (new : Seen) (near : slave < 64) where
   said None half later rests elsewhere = (rests, inr (λ at. elsewhere (MayRest-station half later rests ∙ at)))
   said (Some pair) half later rests words = (rests, words.0, words.1)
 
-  pub fetch_back : {found : Option WordPair} {datagram : Pdu} → found ≡ pair_of datagram → Ran (Answers (fetch_order slave) datagram) old slave 1 new → Ran (Fetched old slave new found) old slave 1 new
-  fetch_back {found} {datagram} is ran = Ran-weaker (omega arith) (λ half later here there answers. goes half later answers) ran
+  pub fetch_back : (reply : Pdu) → Ran (Answers (fetch_order slave) reply) old slave 1 new → Ran (Fetched old slave new (pair_of reply)) old slave 1 new
+  fetch_back reply ran = Ran-weaker (omega arith) (λ half later here there answers. goes half later answers) ran
     where
-      goes : (half later : SlaveHalf) → Answers (fetch_order slave) datagram half later → Fetched old slave new found half later
+      goes : (half later : SlaveHalf) → Answers (fetch_order slave) reply half later → Fetched old slave new (pair_of reply) half later
       goes half later answers =
           let same : later ≡ answers.rested = answers.is ∙ fetch-same answers.rested slave near in
-          let says = subst (λ (f : Option WordPair). Says slave f answers.rested) (ap pair_of answers.reply ∙ sym is) (fetch_says slave answers.rested near) in
-          said found half later (subst (λ (h : SlaveHalf). MayRest half h) (sym same) answers.rests) (subst (λ (h : SlaveHalf). Says slave found h) (sym same) says)
+          let says = subst (λ (f : Option WordPair). Says slave f answers.rested) (ap pair_of answers.reply) (fetch_says slave answers.rested near) in
+          said (pair_of reply) half later (subst (λ (h : SlaveHalf). MayRest half h) (sym same) answers.rests)
+          (subst (λ (h : SlaveHalf). Says slave (pair_of reply) h) (sym same) says)
 
   pub fetch_lost : Ran (WasLost (fetch_order slave) old new) old slave 1 new → Ran (Fetched old slave new None) old slave 1 new
   fetch_lost ran = Ran-weaker (omega arith) (λ half later here there lost. (
@@ -150,9 +141,9 @@ module _ {a : Seen} {slave word : ℕ} (near : slave < 64) (word_fits : word < 2
             ];
           }
 
-  pub try_dead : {b d : Seen} → Ran (HasAsked slave word) a slave 1 b → Ran (Waited b slave d None) b slave 10000 d → Ran (TriesRead a slave word d not_seen_idle) a slave 10002 d
+  pub try_dead : {b d : Seen} → Ran (HasAsked slave word) a slave 1 b → Ran (Waited b slave d None) b slave 10000 d → Ran (TriesRead a slave word d never_idle) a slave 10002 d
   try_dead {b} {d} ran more =
-      Ran-then (omega arith) (λ half mid later has waited. (OnlyRests-then half mid later has.only (MayRest-only mid later waited.0), never_idle a b d slave (Follows-clock a b ran.quiet.follows) waited.1)) ran more
+      Ran-then (omega arith) (λ half mid later has waited. (OnlyRests-then half mid later has.only (MayRest-only mid later waited.0), NeverIdle-waited a b d slave (Follows-clock a b ran.quiet.follows) waited.1)) ran more
 
   pub error_fails : {b d : Seen} → Ran (HasAsked slave word) a slave 1 b → Ran (Waited b slave d (Some Failed)) b slave 10000 d → Ran (TriesRead a slave word d try_failed) a slave 10002 d
   error_fails {b} {d} ran more =
@@ -198,16 +189,6 @@ module _ {a : Seen} {slave word : ℕ} (near : slave < 64) (word_fits : word < 2
     second = so.2 ∙ ap (λ (h : SlaveHalf). h.registers.second) (MayRest-idle mid later has.well.idle so.0) ∙ has.second;
   })) ran more
 
--- the datagram's content spells the word's number
-pub read_bytes : {a b : Seen} {slave : ℕ} (word : ℕ) {content : List ℕ} (counted : Bool) → content ≡ to_le_bytes w16 0x0100 ++ to_le_bytes w32 word
-    → Ran (Wrote (sent Fpwr 0 (address_of slave 0x0502) content) a b counted) a slave 1 b → Ran (Wrote (read_order slave word) a b counted) a slave 1 b
-read_bytes {a} {b} {slave} word counted is ran = subst (λ (bytes : List ℕ). Ran (Wrote (sent Fpwr 0 (address_of slave 0x0502) bytes) a b counted) a slave 1 b) is ran
-
-pub read_bytes_gentle : (slave word : ℕ) (content : List ℕ) → slave < 64 → word < 2 ^ 16 → content ≡ to_le_bytes w16 0x0100 ++ to_le_bytes w32 word
-    → IsGentle (sent Fpwr 0 (address_of slave 0x0502) content)
-read_bytes_gentle slave word content near word_fits is =
-    subst (λ (bytes : List ℕ). IsGentle (sent Fpwr 0 (address_of slave 0x0502) bytes)) (sym is) (read_gentle slave word near word_fits)
-
 -- TRIES IN A ROW
 
 -- this many tries failed
@@ -239,7 +220,7 @@ pub pair_after : {a b c : Seen} {slave word times : ℕ} {pair : WordPair} → t
 pair_after few so ran =
     so_then (omega arith) (λ half mid later failed read. record { only = OnlyRests-then half mid later failed.only read.only; idle = read.idle; first = read.first; second = read.second }) so ran
 
-pub dead_after : {a b c : Seen} {slave word times : ℕ} → times < 3 → SoFar (FailedSo a slave word times b) a slave (10002 * times) b → Ran (TriesRead b slave word c not_seen_idle) b slave 10002 c
+pub dead_after : {a b c : Seen} {slave word times : ℕ} → times < 3 → SoFar (FailedSo a slave word times b) a slave (10002 * times) b → Ran (TriesRead b slave word c never_idle) b slave 10002 c
     → Ran (ReadsPair a slave word c None) a slave 30006 c
 dead_after {a} {b} {c} {slave} few so ran =
     so_then (omega arith) (λ half mid later failed dead. (OnlyRests-then half mid later failed.only dead.0, inl (NeverIdle-after a b c slave (so_clock so) dead.1))) so ran

@@ -5,7 +5,7 @@ use Rattle.site_core.specs.State.{Seen, Leaves, clock}
 use Rattle.site_core.specs.Passes.{LeavesOnly}
 use Rattle.site_core.proofs.Runs.{Passes-none, Passes-then, Passes-weaker, Passes-stays}
 use Rattle.site_core.proofs.Times.{Follows-same, Follows-then}
-use Rattle.esc_rom.specs.declared.fault.Stop.{Stop}
+use Rattle.rom_steps.specs.declared.step.Stop.{Stop}
 use Rattle.esc_rom.specs.Runs.{Quiet, Ran, StopsQuietly, Performs}
 use Rattle.esc_rom.proofs.States.{HalfGoes-weaker, HalfGoes-then}
 

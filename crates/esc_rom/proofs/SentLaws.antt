@@ -1,53 +1,19 @@
 -- The courses of word access, by how they end.
-use Rattle.std.proofs.Common.{◌≡◌, ℕ, ◌+◌, ◌==◌, ◌<◌, Bool, true, false, List, [], ◌++◌, length, slice_index, Some, Result, Ok, Err, IfErr, IsTrue, refl, sym, subst, inl, inr}
-use Rattle.std.specs.Int.{w16, w32, to_le_bytes}
-use Rattle.ecat_frame.specs.Frame.{Pdu, sent}
-use Rattle.ecat_frame.specs.declared.command.Command.TheVariants.{Fpwr}
-use Rattle.esc_model.specs.Orders.{address_of, clear_order, read_order}
+use Rattle.std.proofs.Common.{◌≡◌, ℕ, ◌+◌, ◌<◌, true, false, List, [], ◌++◌, length, slice_index, Some, Result, Ok, Err, IfErr, refl, sym, subst, inl, inr}
 use Rattle.site_core.specs.State.{Seen}
-use Rattle.site_core.specs.declared.answers.Issued.TheVariants as issued
-use Rattle.site_core.specs.declared.answers.Settled.{Settled}
-use Rattle.site_core.specs.declared.answers.Settled.TheVariants as settled
+use Rattle.rom_steps.specs.declared.step.Stop.{Stop}
+use Rattle.rom_steps.specs.declared.back.Rested.{Rested}
+use Rattle.rom_steps.specs.Courses.{Asked}
+use Rattle.rom_steps.specs.Accesses.{WaitsBy, OpensBy}
 use Rattle.esc_rom.specs.declared.fault.RomFault.{RomFault}
 use Rattle.esc_rom.specs.declared.fault.RomFault.TheVariants as rom
-use Rattle.esc_rom.specs.declared.fault.Stop.{Stop}
-use Rattle.esc_rom.specs.declared.poll.Rested.{Rested}
-use Rattle.esc_rom.specs.declared.poll.Rested.TheVariants.{Well, Failed}
 use Rattle.esc_rom.specs.Access.{OpensSlave, ReadsWords}
 use Rattle.esc_rom.specs.Reading.{ReadsInParts, KeepsFirst}
-use Rattle.esc_rom.specs.Courses.{Asked, AskedInTurn, Takes, Ends, Then}
-use Rattle.esc_rom.specs.Sent.{WritesBy, WaitsBy, issued_by, SettlesAfter, ReadsNext, FillsBy, OpensBy, OpensSlaveBy, ReadsAllBy, ReadsSlaveBy, FirstReadBy, no_slave, one_more_slave, ReadsLineBy}
-use Rattle.esc_rom.proofs.Courses.{asked-then, takes-none, RoundsSo}
-
--- ISSUE
-
-pub taken-is : (reply : Pdu) → (reply.counter == 1) ≡ true → issued.Taken ≡ issued_by reply
-taken-is reply is = rw is refl
-
-pub not-taken-is : (reply : Pdu) → (reply.counter == 1) ≡ false → issued.NotTaken ≡ issued_by reply
-not-taken-is reply is = rw is refl
-
--- SETTLE
-
--- the word is written
-pub settles-written : (slave : ℕ) (taken : Bool) (seen : Seen) → taken ≡ true → Takes (SettlesAfter slave taken (Some Well)) seen (Ok settled.Written) seen
-settles-written slave true seen is = takes-none settled.Written seen
-settles-written slave false seen is = absurd cc
-
--- the errors are cleared
-pub settles-clearing : (slave : ℕ) (taken : Bool) (rested : Rested) (a b : Seen) (result : Result Settled Stop) → (IsTrue taken → rested ≡ Failed)
-    → Takes (Then (WritesBy slave (clear_order slave)) (λ counted. Ends settled.Again)) a result b → Takes (SettlesAfter slave taken (Some rested)) a result b
-settles-clearing slave true Well a b result why takes = absurd (let e = why refl in absurd cc)
-settles-clearing slave false Well a b result why takes = takes
-settles-clearing slave true Failed a b result why takes = takes
-settles-clearing slave false Failed a b result why takes = takes
+use Rattle.esc_rom.specs.Courses.{AskedInTurn, Takes}
+use Rattle.esc_rom.specs.Sent.{ReadsNext, FillsBy, OpensSlaveBy, ReadsAllBy, ReadsSlaveBy, FirstReadBy, no_slave, one_more_slave, ReadsLineBy}
+use Rattle.esc_rom.proofs.Courses.{asked-then, RoundsSo}
 
 -- READ
-
-pub read-command : (slave word : ℕ) {content : List ℕ} {a b : Seen} {result : Result Bool Stop} → content ≡ to_le_bytes w16 0x0100 ++ to_le_bytes w32 word
-    → Takes (WritesBy slave (sent Fpwr 0 (address_of slave 0x0502) content)) a result b → Takes (WritesBy slave (read_order slave word)) a result b
-read-command slave word {a = a} {b = b} {result = result} is takes =
-    subst (λ (bytes : List ℕ). Takes (WritesBy slave (sent Fpwr 0 (address_of slave 0x0502) bytes)) a result b) is takes
 
 -- the slave was seen idle, and then so many pairs were read
 pub record FillsSo (slave times : ℕ) (a b : Seen) : Type 0 where

@@ -15,8 +15,8 @@ use Rattle.site_core.specs.declared.answers.Settled.{Settled}
 use Rattle.site_core.specs.declared.answers.Settled.TheVariants as settles
 use Rattle.site_core.specs.State.{Seen, HalfGoes, clock}
 use Rattle.site_core.proofs.Times.{Follows-clock}
-use Rattle.esc_rom.specs.declared.poll.Rested.{Rested}
-use Rattle.esc_rom.specs.declared.poll.Rested.TheVariants.{Well, Failed}
+use Rattle.rom_steps.specs.declared.back.Rested.{Rested}
+use Rattle.rom_steps.specs.declared.back.Rested.TheVariants.{Well, Failed}
 use Rattle.esc_rom.specs.Runs.{Ran, StopsQuietly, IsSeen, Waited, Wrote}
 use Rattle.esc_rom.specs.Past.{HalfAt}
 use Rattle.esc_rom.specs.Access.{BecomesSettled, SettlesSlave}

@@ -8,6 +8,7 @@ use Rattle.esc_model.specs.Datagrams.{Receives}
 use Rattle.esc_model.proofs.Writing.{true_or_false}
 use Rattle.site_core.specs.State.{Seen, clock}
 use Rattle.site_core.specs.Times.{Follows}
+use Rattle.rom_steps.specs.Accesses.{is_counted}
 use Rattle.esc_rom.specs.Past.{HalfAt, AreLost, Refuses, IsUncounted, AreUncounted}
 use Rattle.esc_rom.specs.Runs.{Ran, WasLost, Wrote, Tries, never, again, OnceRefused, Insists}
 use Rattle.esc_rom.proofs.Runs.{Ran-weaker, SoFar, so_over}
@@ -33,14 +34,14 @@ counter_says rested address content counter is = elim (write_adds rested address
   | inr one ↦ let e : counter ≡ 1 = sym is ∙ ap (λ (n : ℕ). (0 + n) % 65536) one in inl (ap (λ (n : ℕ). n == 1) e, one)
 ]
 
-pub write_back : (old : Seen) (slave address : ℕ) (content : List ℕ) (new : Seen) {datagram : Pdu} (value : Bool) → value ≡ (datagram.counter == 1)
-    → Ran (Answers (sent Fpwr 0 address content) datagram) old slave 1 new → Ran (Wrote (sent Fpwr 0 address content) old new value) old slave 1 new
-write_back old slave address content new {datagram} value is ran = Ran-weaker (omega arith) (λ half later here there answers. goes half later answers) ran
+pub write_back : (slave address : ℕ) (content : List ℕ) (old new : Seen) (reply : Pdu) → Ran (Answers (sent Fpwr 0 address content) reply) old slave 1 new
+    → Ran (Wrote (sent Fpwr 0 address content) old new (is_counted reply)) old slave 1 new
+write_back slave address content old new reply ran = Ran-weaker (omega arith) (λ half later here there answers. goes half later answers) ran
   where
-    goes : (half later : SlaveHalf) → Answers (sent Fpwr 0 address content) datagram half later → Wrote (sent Fpwr 0 address content) old new value half later
-    goes half later answers = elim (counter_says answers.rested address content datagram.counter (ap (λ (d : Pdu). d.counter) answers.reply)) [
-      | inl one ↦ subst (λ (b : Bool). Wrote (sent Fpwr 0 address content) old new b half later) (sym (is ∙ one.0)) (record { rested = answers.rested; rests = answers.rests; counted = one.1; is = answers.is })
-      | inr none ↦ subst (λ (b : Bool). Wrote (sent Fpwr 0 address content) old new b half later) (sym (is ∙ none.0)) (inr (record { rested = answers.rested; rests = answers.rests; refused = none.1; is = answers.is }))
+    goes : (half later : SlaveHalf) → Answers (sent Fpwr 0 address content) reply half later → Wrote (sent Fpwr 0 address content) old new (is_counted reply) half later
+    goes half later answers = elim (counter_says answers.rested address content reply.counter (ap (λ (d : Pdu). d.counter) answers.reply)) [
+      | inl one ↦ subst (λ (b : Bool). Wrote (sent Fpwr 0 address content) old new b half later) (sym one.0) (record { rested = answers.rested; rests = answers.rests; counted = one.1; is = answers.is })
+      | inr none ↦ subst (λ (b : Bool). Wrote (sent Fpwr 0 address content) old new b half later) (sym none.0) (inr (record { rested = answers.rested; rests = answers.rests; refused = none.1; is = answers.is }))
     ]
 
 -- whatever the answer, the half took the datagram or is unchanged

@@ -1,19 +1,11 @@
--- Courses: which frames a call sends, one after another, as what came back for each decides, and how it ends.
-use Rattle.std.specs.Prelude.{◌≡◌, ◌≢◌, ◌⊎◌, ℕ, ◌+◌, ◌<◌, Bool, true, false, List, [], ◌∷◌, ◌++◌, Result, Ok, Err, IsErr}
+-- What a call sends: a course of `rom_steps`, each datagram alone in a frame to the EEPROM half of its slave.
+use Rattle.std.specs.Prelude.{◌≡◌, List, [], ◌∷◌, Result, Ok, Err}
 use Rattle.ecat_frame.specs.Frame.{Pdu}
 use Rattle.site_core.specs.declared.fault.DeviceFault.{DeviceFault}
-use Rattle.site_core.specs.declared.fault.DeviceFault.TheVariants as device
 use Rattle.site_core.specs.State.{Seen}
 use Rattle.site_core.specs.Calls.{ExchangesFrame}
-use Rattle.esc_rom.specs.declared.fault.Stop.{Stop}
-
--- WHAT IS SENT
-
--- A datagram that was sent to the EEPROM half of a slave, alone in its frame, and the datagram that came back, or why none did.
-pub record Asked : Type 0 where
-  pub slave : ℕ
-  pub order : Pdu
-  pub back : Result Pdu DeviceFault
+use Rattle.rom_steps.specs.declared.step.Stop.{Stop}
+use Rattle.rom_steps.specs.Courses.{Asked, Course}
 
 -- what the device call returned, and the frame behind it
 abbrev pub outcome_of : Result Pdu DeviceFault → Result (Unit {0}) DeviceFault
@@ -31,74 +23,11 @@ AskedInTurn (first ∷ rest) old new =
     (mid : Seen) × ExchangesFrame old first.slave (first.order ∷ []) (outcome_of first.back) (frame_after first.order first.back) mid
     × AskedInTurn rest mid new
 
--- COURSES
-
--- what may be sent, and the outcome
-abbrev pub Course : Type 0 → Type 1
-Course T = List Asked → Result T Stop → Type 0
-
 -- The call took this course, and made no other device call.
 pub record Takes {T E : Type 0} (course : List Asked → Result T E → Type 0) (old : Seen) (result : Result T E) (new : Seen) : Type 0 where
   pub log : List Asked
   pub asked : AskedInTurn log old new
   pub took : course log result
-
--- how the answer is read: `reported` says what a datagram that came back means, `lost` what a lost frame means
-abbrev pub IsHeard : {T : Type 0} → (reported : Pdu → T) → (lost : T) → Result Pdu DeviceFault → Result T Stop → Type 0
-IsHeard reported lost (Ok reply) result = result ≡ Ok (reported reply)
-IsHeard reported lost (Err device.Lost) result = result ≡ Ok lost
-IsHeard reported lost (Err device.Stopped) result = IsErr result
-IsHeard reported lost (Err device.Disk) result = ⊥
-
--- one datagram
-abbrev pub Asks : {T : Type 0} → (slave : ℕ) → Pdu → (reported : Pdu → T) → (lost : T) → Course T
-Asks slave order reported lost log result =
-    (back : Result Pdu DeviceFault) × (log ≡ record { slave = slave; order = order; back = back } ∷ []) × IsHeard reported lost back result
-
--- nothing more
-abbrev pub Ends : {T : Type 0} → T → Course T
-Ends value log result = (log ≡ []) × (result ≡ Ok value)
-
--- One course came to this value, and then another one was taken.
-pub record GoesOn {T V : Type 0} (first : List Asked → Result T Stop → Type 0) (next : T → List Asked → Result V Stop → Type 0)
-    (log : List Asked) (result : Result V Stop) : Type 0 where
-  pub value : T
-  pub front : List Asked
-  pub after : List Asked
-  pub log_is : log ≡ front ++ after
-  pub came_to : first front (Ok value)
-  pub goes_on : next value after result
-
--- one course and then, by its value, another one; or the site stopped in the first
-abbrev pub Then : {T V : Type 0} → Course T → (T → Course V) → Course V
-Then first next log result = GoesOn first next log result ⊎ ((stop : Stop) × first log (Err stop) × IsErr result)
-
--- the course only if this is true
-abbrev pub OnlyIf : Bool → Course Bool → Course Bool
-OnlyIf true course = course
-OnlyIf false course = Ends false
-
--- This number of rounds, each of which came to the value that asks for the next one.
-pub data Rounds {T : Type 0} (round : ℕ → List Asked → Result T Stop → Type 0) (again : T) : (times : ℕ) → List Asked → Type 0 where
-  no_round : Rounds round again 0 []
-  one_more : {times : ℕ} {front after : List Asked} → Rounds round again times front → round times after (Ok again)
-      → Rounds round again (times + 1) (front ++ after)
-
--- The rounds ended with one of the first `most`: it came to another value, or the site stopped in it.
-pub record EndsInRound {T : Type 0} (most : ℕ) (round : ℕ → List Asked → Result T Stop → Type 0) (again : T) (log : List Asked)
-    (result : Result T Stop) : Type 0 where
-  pub times : ℕ
-  pub few : times < most
-  pub front : List Asked
-  pub after : List Asked
-  pub log_is : log ≡ front ++ after
-  pub rounds : Rounds round again times front
-  pub last : round times after result
-  pub ends : result ≢ Ok again
-
--- rounds until one comes to another value, at most this number of them
-abbrev pub UpTo : {T : Type 0} → (most : ℕ) → (ℕ → Course T) → (again : T) → Course T
-UpTo most round again log result = (Rounds round again most log × (result ≡ Ok again)) ⊎ EndsInRound most round again log result
 
 -- A call whose faults are of another kind took this course. Its fault is the stop.
 abbrev pub AsCourse : {T E : Type 0} → Course T → List Asked → Result T E → Type 0

@@ -1,25 +1,20 @@
 -- What a driver of the steps of `rom_steps` sends, and what comes back for it.
-use Rattle.std.specs.Prelude.{◌≡◌, ℕ, Bool, true, false, List, [], ◌∷◌, map, Option, Some, None, Result, Ok, Err, IsErr}
+use Rattle.std.specs.Prelude.{◌≡◌, ℕ, Bool, true, false, [], ◌∷◌, Option, Some, None, Result, Ok, Err, IsErr}
 use Rattle.ecat_frame.specs.Frame.{Pdu}
 use Rattle.site_core.specs.declared.fault.DeviceFault.{DeviceFault}
 use Rattle.site_core.specs.declared.fault.DeviceFault.TheVariants as device
 use Rattle.site_core.specs.State.{Seen}
 use Rattle.site_core.specs.Calls.{ExchangesFrame}
-use Rattle.rom_steps.specs.Courses as steps
 use Rattle.rom_steps.specs.Back.{IsBack}
 use Rattle.rom_steps.specs.declared.back.Back.{Back}
+use Rattle.rom_steps.specs.declared.back.Rested.{Rested}
+use Rattle.rom_steps.specs.declared.back.WordPair.{WordPair}
 use Rattle.rom_steps.specs.declared.step.End.{End}
 use Rattle.rom_steps.specs.declared.step.End.TheVariants as ends
 use Rattle.rom_steps.specs.declared.step.Step.{Step}
 use Rattle.rom_steps.specs.declared.step.Step.TheVariants.{Ended}
-use Rattle.rom_steps.specs.Remaining.{Remains}
-use Rattle.esc_rom.specs.declared.fault.Stop.{Stop}
-use Rattle.esc_rom.specs.declared.reading.WordPair.{WordPair}
-use Rattle.esc_rom.specs.Courses.{Asked, AskedInTurn, outcome_of, frame_after}
-
--- a datagram of a course of steps, as one of this crate's
-abbrev pub here : steps.Asked → Asked
-here one = record { slave = one.slave; order = one.order; back = one.back }
+use Rattle.rom_steps.specs.declared.step.Stop.{Stop}
+use Rattle.esc_rom.specs.Courses.{outcome_of, frame_after}
 
 -- what came back, or the site stopped
 abbrev pub IsCame : Result Back Stop → Result Pdu DeviceFault → Type 0
@@ -37,21 +32,15 @@ abbrev pub IsEndOf : Step → Result End Stop → Type 0
 IsEndOf (Ended end) result = result ≡ Ok end
 IsEndOf step result = IsErr result
 
--- the outcome in the words of the steps
-abbrev pub in_steps : Result End Stop → Result End steps.Stop
-in_steps (Ok end) = Ok end
-in_steps (Err stop) = Err tt
-
--- All that remained from this step on was sent, in its order, and no other device call was made.
-pub record Drives (slave : ℕ) (first : Step) (old : Seen) (result : Result End Stop) (new : Seen) : Type 0 where
-  pub log : List steps.Asked
-  pub asked : AskedInTurn (map here log) old new
-  pub took : Remains slave first log (in_steps result)
-
 -- whether an opening ended so
 abbrev pub is_open : End → Bool
 is_open ends.Opened = true
 is_open end = false
+
+-- what a waiting that ended so has seen
+abbrev pub rest_at : End → Option Rested
+rest_at (ends.Idle rested) = Some rested
+rest_at end = None
 
 -- the words at the end of a reading
 abbrev pub words_at : End → Option WordPair

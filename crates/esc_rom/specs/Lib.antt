@@ -1,5 +1,3 @@
-pub mod Sending
-pub mod Status
 pub mod Past
 pub mod Runs
 pub mod WordPairs

@@ -7,9 +7,9 @@ use Rattle.esc_model.specs.WordAccess.{IsAt, IsIdle, HasError, IsWell}
 use Rattle.site_core.specs.State.{Seen, HalfGoes, clock}
 use Rattle.site_core.specs.Times.{FailsAt, Follows}
 use Rattle.site_core.specs.Passes.{AddsNothing}
-use Rattle.esc_rom.specs.declared.fault.Stop.{Stop}
-use Rattle.esc_rom.specs.declared.poll.Rested.{Rested}
-use Rattle.esc_rom.specs.declared.poll.Rested.TheVariants.{Well, Failed}
+use Rattle.rom_steps.specs.declared.step.Stop.{Stop}
+use Rattle.rom_steps.specs.declared.back.Rested.{Rested}
+use Rattle.rom_steps.specs.declared.back.Rested.TheVariants.{Well, Failed}
 use Rattle.esc_rom.specs.Past.{Refuses, AreLost, AreUncounted, MissesIdle, WaitsInVain}
 
 -- At most `most` calls, at no point of which a power cut could leave what it couldn't have left before them.

@@ -1,17 +1,17 @@
 //! Word access as the steps of `rom_steps` say it: which datagram is next, and what that means which came back.
 
-ghost use Rattle.std.specs.Prelude.{◌≡◌, ◌≤◌, length, take, slice_index};
+ghost use Rattle.std.specs.Prelude.{◌≡◌, ◌<◌, ◌≤◌, ◌∷◌, [], length, take, slice_index};
 ghost use Rattle.ecat_frame.specs.Frame.{pdu};
 ghost use Rattle.site_core.specs.Line.{Owns};
 ghost use Rattle.rom_steps.specs.Back.{IsBack};
-ghost use Rattle.rom_steps.specs.Remaining.{left, pdu_to};
-ghost use Rattle.esc_rom.specs.Driving.{AsksOnce, Drives, IsEndOf};
+ghost use Rattle.rom_steps.specs.Remaining.{Remains, left, pdu_to};
+ghost use Rattle.esc_rom.specs.Courses.{Takes};
+ghost use Rattle.esc_rom.specs.Driving.{AsksOnce, IsEndOf};
 
-use crate::fault::Stop;
-use crate::send::send;
-use ecat_frame::{Command, Datagram, Frame};
-use rom_steps::{Back, End, Step, ToSend, next_of, take};
-use site_core::Site;
+use ecat_frame::{Command, Datagram, Frame, fp};
+use esc_model::station_address;
+use rom_steps::{Back, End, Step, Stop, ToSend, next_of, take};
+use site_core::{DeviceFault, Site};
 
 /// The number of datagrams of the longest access: opening takes up to 10,009, reading two words up to 30,006.
 const LONGEST: u32 = 30_006;
@@ -53,6 +53,20 @@ fn content_of(datagram: &ToSend) -> &[u8]
     &datagram.content
 }
 
+/// Makes it a frame with this datagram for a slave.
+fn fill(frame: &mut Frame, slave: u16, datagram: &ToSend)
+    requires { slave < 64 }
+    ensures { frame.new ≡ pdu_to slave datagram.now ∷ [] }
+{
+    let command = Command::from(datagram.command);
+    let address = fp(station_address(slave), datagram.register);
+    frame.clear();
+    match frame.push(command, 0, address, content_of(datagram)) {
+        Ok(()) => {}
+        Err(_) => unreachable!(),
+    }
+}
+
 /// Sends a datagram to a slave, alone in a frame, and returns what came back.
 fn ask<S: Site>(
     site: &mut S,
@@ -64,18 +78,12 @@ fn ask<S: Site>(
     ensures asks { AsksOnce (S.seen site.old) slave (pdu_to slave datagram.now) result (S.seen site.new) }
     ensures line { S.line site.new ≡ S.line site.old }
 {
-    let command = Command::from(datagram.command);
-    if !send(
-        site,
-        frame,
-        slave,
-        command,
-        datagram.register,
-        content_of(datagram),
-    )? {
-        return Ok(Back::Lost);
+    fill(frame, slave, datagram);
+    match site.exchange(slave, frame) {
+        Ok(()) => Ok(came(frame.datagram(0))),
+        Err(DeviceFault::Lost) => Ok(Back::Lost),
+        Err(_) => Err(Stop),
     }
-    Ok(came(frame.datagram(0)))
 }
 
 /// How an access ended at which nothing more is to be sent.
@@ -93,7 +101,7 @@ fn end_of(step: Step) -> Result<End, Stop>
 pub(crate) fn drive<S: Site>(site: &mut S, slave: u16, first: Step) -> Result<End, Stop>
     requires owned { Owns (S.line site.old) slave }
     requires short { left first ≤ 30006 }
-    ensures drives { Drives slave first (S.seen site.old) result (S.seen site.new) }
+    ensures drives { Takes (Remains slave first) (S.seen site.old) result (S.seen site.new) }
     ensures line { S.line site.new ≡ S.line site.old }
 {
     let mut frame = Frame::new();

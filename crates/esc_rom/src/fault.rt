@@ -2,9 +2,8 @@
 
 ghost use Rattle.std.specs.Prelude.{◌≡◌};
 ghost use Rattle.esc_rom.specs.declared.fault.RomFault.TheVariants as rom;
-ghost use Rattle.site_core.specs.declared.fault.DeviceFault.TheVariants as device;
 
-use site_core::DeviceFault;
+use rom_steps::Stop;
 use std::alloc::{AllocError, AllocFailed};
 use thiserror::Error;
 
@@ -38,22 +37,10 @@ impl<T: Drop> From<AllocFailed<T>> for RomFault {
     }
 }
 
-/// The site has stopped: the only fault that ends a sequence of datagrams. A lost frame doesn't.
-#[derive(Clone, Copy)]
-pub(crate) struct Stop;
-
 impl From<Stop> for RomFault {
     ghost from_gives = { λ _ fault. fault ≡ rom.Stopped };
 
     fn from(_: Stop) -> Self {
         RomFault::Stopped
-    }
-}
-
-impl From<Stop> for DeviceFault {
-    ghost from_gives = { λ _ fault. fault ≡ device.Stopped };
-
-    fn from(_: Stop) -> Self {
-        DeviceFault::Stopped
     }
 }

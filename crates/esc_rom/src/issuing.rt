@@ -5,7 +5,8 @@ ghost use Rattle.site_core.specs.Line.{Owns};
 ghost use Rattle.site_core.specs.declared.answers.Issued.{Issued};
 ghost use Rattle.rom_steps.specs.declared.step.End.TheVariants as ends;
 ghost use Rattle.esc_rom.specs.Access.{IssuesWord};
-ghost use Rattle.esc_rom.specs.Sent.{IssueSends};
+ghost use Rattle.rom_steps.specs.Accesses.{IssuesBy};
+ghost use Rattle.esc_rom.specs.Courses.{AsCourse, Takes};
 
 use crate::driving::drive;
 use rom_steps::{End, begin_issue};
@@ -40,7 +41,7 @@ pub fn issue<S: Site>(
 ) -> Result<Issued, DeviceFault>
     requires { Owns (S.line site.old) slave }
     ensures issues { IssuesWord (S.seen site.old) slave word value result (S.seen site.new) }
-    ensures frames { IssueSends slave word value (S.seen site.old) result (S.seen site.new) }
+    ensures frames { Takes (AsCourse (IssuesBy slave word value)) (S.seen site.old) result (S.seen site.new) }
     ensures line { S.line site.new ≡ S.line site.old }
 {
     let end = drive(site, slave, begin_issue(word, value))?;

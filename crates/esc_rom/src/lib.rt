@@ -5,18 +5,14 @@ mod driving;
 mod fault;
 mod issuing;
 pub mod laws;
-mod limits;
 mod line_reading;
 mod opening;
 mod owned;
-mod poll;
 mod reading;
-mod send;
 mod settling;
 
 pub use fault::RomFault;
 pub use issuing::issue;
-pub use limits::{POLLS, TRIES};
 pub use line_reading::read_slaves;
 pub use opening::open_slave;
 pub use owned::{line_sizes, owns_all};

@@ -4,7 +4,7 @@ ghost use Rattle.std.specs.Prelude.{◌≡◌, ◌<◌, length, slice_index, IfE
 ghost use Rattle.esc_rom.specs.Owned.{OwnsAll};
 ghost use Rattle.esc_rom.specs.Reading.{ReadsSlave, ReadsInParts, ReadsLine, KeepsFirst};
 ghost use Rattle.esc_rom.specs.Courses.{Takes};
-ghost use Rattle.esc_rom.specs.Sent.{ReadsSlaveBy, LineSends};
+ghost use Rattle.esc_rom.specs.Sent.{ReadsSlaveBy, ReadsLineBy};
 
 use crate::{RomFault, open_slave, read_all};
 use sii_words::Words;
@@ -38,7 +38,7 @@ pub fn read_slaves<S: Site>(alloc: Global, site: &mut S) -> Result<Vec<Words>, R
     requires { OwnsAll (S.line site.old) }
     ensures reads { ReadsLine (λ plant. plant.items) (S.line site.old).sizes (S.seen site.old) result (S.seen site.new) }
     ensures kept { IfErr result (λ fault. KeepsFirst (S.line site.old).sizes (S.seen site.old) fault (S.seen site.new)) }
-    ensures frames { LineSends (S.line site.old).sizes (S.seen site.old) result (S.seen site.new) }
+    ensures frames { Takes (ReadsLineBy (S.line site.old).sizes) (S.seen site.old) result (S.seen site.new) }
     ensures line { S.line site.new ≡ S.line site.old }
 {
     let mut plant = Vec::new(alloc);

@@ -3,7 +3,8 @@
 ghost use Rattle.std.specs.Prelude.{◌≡◌};
 ghost use Rattle.site_core.specs.Line.{Owns};
 ghost use Rattle.esc_rom.specs.Access.{OpensSlave};
-ghost use Rattle.esc_rom.specs.Sent.{OpeningSends};
+ghost use Rattle.esc_rom.specs.Courses.{Takes};
+ghost use Rattle.esc_rom.specs.Sent.{OpensSlaveBy};
 ghost use Rattle.esc_rom.specs.Driving.{is_open};
 
 use crate::driving::drive;
@@ -32,7 +33,7 @@ fn is_open(end: End) -> bool
 pub fn open_slave<S: Site>(site: &mut S, slave: u16) -> Result<(), RomFault>
     requires { Owns (S.line site.old) slave }
     ensures opens { OpensSlave (S.seen site.old) slave result (S.seen site.new) }
-    ensures frames { OpeningSends slave (S.seen site.old) result (S.seen site.new) }
+    ensures frames { Takes (OpensSlaveBy slave) (S.seen site.old) result (S.seen site.new) }
     ensures line { S.line site.new ≡ S.line site.old }
 {
     let end = drive(site, slave, begin_opening())?;

@@ -3,27 +3,40 @@
 ghost use Rattle.std.specs.Prelude.{◌≡◌, ◌+◌, ◌*◌, ◌/◌, length, slice_index, IfOk, IfErr};
 ghost use Rattle.sii_words.specs.Words.{IsDeviceSize};
 ghost use Rattle.site_core.specs.Line.{Owns};
-ghost use Rattle.esc_rom.specs.Runs.{Performs};
+ghost use Rattle.rom_steps.specs.Accesses.{WaitsBy, ReadsPairBy};
+ghost use Rattle.esc_rom.specs.Runs.{Performs, Waited};
 ghost use Rattle.esc_rom.specs.WordPairs.{ReadsPair, ReadsAll};
 ghost use Rattle.esc_rom.specs.Access.{ReadsWords};
 ghost use Rattle.esc_rom.specs.Courses.{Takes};
-ghost use Rattle.esc_rom.specs.Sent.{ReadsPairBy, FillsBy, ReadingSends};
-ghost use Rattle.esc_rom.specs.Driving.{words_at};
+ghost use Rattle.esc_rom.specs.Sent.{FillsBy, ReadsAllBy};
+ghost use Rattle.esc_rom.specs.Driving.{rest_at, words_at};
 
 use crate::driving::drive;
-use crate::fault::{RomFault, Stop};
-use crate::poll::wait_idle;
-use ecat_frame::Frame;
-use rom_steps::{End, begin_reading};
+use crate::fault::RomFault;
+use rom_steps::{End, Rested, Stop, WordPair, begin_reading, begin_waiting};
 use sii_words::{Words, WordsFault};
 use site_core::Site;
 use std::alloc::Global;
 
-/// Two neighbouring words.
-#[derive(Clone, Copy)]
-pub(crate) struct WordPair {
-    first: u16,
-    second: u16,
+/// What a waiting has seen. None if the slave was given up.
+fn rest_at(end: End) -> Option<Rested>
+    ensures { result ≡ rest_at end }
+{
+    match end {
+        End::Idle(rested) => Some(rested),
+        _ => None,
+    }
+}
+
+/// Polls a slave until it is seen idle. None if it isn't in 10,000 polls.
+fn wait_idle<S: Site>(site: &mut S, slave: u16) -> Result<Option<Rested>, Stop>
+    requires { Owns (S.line site.old) slave }
+    ensures runs { Performs (Waited (S.seen site.old) slave (S.seen site.new)) (S.seen site.old) slave 10000 result (S.seen site.new) }
+    ensures frames { Takes (WaitsBy slave) (S.seen site.old) result (S.seen site.new) }
+    ensures line { S.line site.new ≡ S.line site.old }
+{
+    let end = drive(site, slave, begin_waiting())?;
+    Ok(rest_at(end))
 }
 
 /// The words at the end of a reading. None if the slave was given up.
@@ -48,12 +61,7 @@ fn read_pair<S: Site>(site: &mut S, slave: u16, word: u16) -> Result<Option<Word
 }
 
 /// Waits until a slave is idle, and replaces `words` by the slave's words, read two by two. Returns whether all were read.
-fn wait_and_fill<S: Site>(
-    site: &mut S,
-    frame: &mut Frame,
-    slave: u16,
-    words: &mut Words,
-) -> Result<bool, Stop>
+fn wait_and_fill<S: Site>(site: &mut S, slave: u16, words: &mut Words) -> Result<bool, Stop>
     requires { Owns (S.line site.old) slave }
     ensures runs { Performs (ReadsAll (S.seen site.old) slave (S.seen site.new) words.new) (S.seen site.old) slave
         (10000 + 30006 * (length words.old / 2)) result (S.seen site.new) }
@@ -61,7 +69,7 @@ fn wait_and_fill<S: Site>(
     ensures frames { Takes (FillsBy slave (length words.old)) (S.seen site.old) result (S.seen site.new) }
     ensures line { S.line site.new ≡ S.line site.old }
 {
-    let Some(_rested) = wait_idle(site, frame, slave)? else {
+    let Some(_rested) = wait_idle(site, slave)? else {
         return Ok(false);
     };
     for pair in 0..words.len() / 2 {
@@ -100,12 +108,11 @@ fn blank(alloc: Global, count: u16) -> Result<Words, RomFault>
 pub fn read_all<S: Site>(alloc: Global, site: &mut S, slave: u16) -> Result<Words, RomFault>
     requires { Owns (S.line site.old) slave }
     ensures reads { ReadsWords (S.seen site.old) slave (slice_index (S.line site.old).sizes slave) result (S.seen site.new) }
-    ensures frames { ReadingSends slave (slice_index (S.line site.old).sizes slave) (S.seen site.old) result (S.seen site.new) }
+    ensures frames { Takes (ReadsAllBy slave (slice_index (S.line site.old).sizes slave)) (S.seen site.old) result (S.seen site.new) }
     ensures line { S.line site.new ≡ S.line site.old }
 {
     let mut words = blank(alloc, site.words_of(slave))?;
-    let mut frame = Frame::new();
-    if wait_and_fill(site, &mut frame, slave, &mut words)? {
+    if wait_and_fill(site, slave, &mut words)? {
         return Ok(words);
     }
     Err(RomFault::SlaveDead { slave })

@@ -5,7 +5,8 @@ ghost use Rattle.site_core.specs.Line.{Owns};
 ghost use Rattle.site_core.specs.declared.answers.Settled.{Settled};
 ghost use Rattle.rom_steps.specs.declared.step.End.TheVariants as ends;
 ghost use Rattle.esc_rom.specs.Access.{SettlesSlave};
-ghost use Rattle.esc_rom.specs.Sent.{SettleSends};
+ghost use Rattle.rom_steps.specs.Accesses.{SettlesBy};
+ghost use Rattle.esc_rom.specs.Courses.{AsCourse, Takes};
 
 use crate::driving::drive;
 use rom_steps::{End, begin_settling};
@@ -37,7 +38,7 @@ fn settled_at(end: End) -> Settled
 pub fn settle<S: Site>(site: &mut S, slave: u16, taken: bool) -> Result<Settled, DeviceFault>
     requires { Owns (S.line site.old) slave }
     ensures settles { SettlesSlave (S.seen site.old) slave taken result (S.seen site.new) }
-    ensures frames { SettleSends slave taken (S.seen site.old) result (S.seen site.new) }
+    ensures frames { Takes (AsCourse (SettlesBy slave taken)) (S.seen site.old) result (S.seen site.new) }
     ensures line { S.line site.new ≡ S.line site.old }
 {
     let end = drive(site, slave, begin_settling(taken))?;

@@ -1,7 +1,8 @@
 -- Whole accesses, datagram by datagram.
 use Rattle.std.proofs.Common.{◌≡◌, ℕ, ◌+◌, ◌<◌, ◌≤◌, List, [], ◌∷◌, ◌++◌, length, Result, Ok, IsErr, refl, sym, subst, arith, length-append}
 use Rattle.std.proofs.lemmas.List.{append_assoc, append-nil}
-use Rattle.rom_steps.specs.Courses.{Asked, Stop}
+use Rattle.rom_steps.specs.declared.step.Stop.{Stop}
+use Rattle.rom_steps.specs.Courses.{Asked}
 use Rattle.rom_steps.specs.declared.step.End.{End}
 use Rattle.rom_steps.specs.declared.step.Step.{Step}
 use Rattle.rom_steps.specs.declared.step.Step.TheVariants.{Ended, Stopped}

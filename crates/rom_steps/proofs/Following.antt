@@ -5,7 +5,8 @@ use Rattle.std.proofs.lemmas.Bool.{false≢true}
 use Rattle.ecat_frame.specs.Frame.{Pdu}
 use Rattle.site_core.specs.declared.fault.DeviceFault.{DeviceFault}
 use Rattle.site_core.specs.declared.fault.DeviceFault.TheVariants as device
-use Rattle.rom_steps.specs.Courses.{Asked, Course, IsHeard, Asks, Ends, Then, Rounds, no_round, one_more, UpTo, Stop}
+use Rattle.rom_steps.specs.declared.step.Stop.{Stop}
+use Rattle.rom_steps.specs.Courses.{Asked, Course, IsHeard, Asks, Ends, Then, Rounds, no_round, one_more, UpTo}
 use Rattle.rom_steps.specs.Remaining.{Follows}
 
 -- a datagram, and what came back for it
@@ -61,16 +62,16 @@ ends-then value next log result so = inl (record { value = value; front = []; af
 -- ROUNDS
 
 module _ {T : Type 0} (round : Course T) (again : T) where
-  rounds-before : (front : List Asked) → round front (Ok again) → (times : ℕ) (log : List Asked) → Rounds round again times log
-      → Rounds round again (times + 1) (front ++ log)
-  rounds-before front came times log no_round = subst (λ (l : List Asked). Rounds round again 1 l) (sym (append-nil front)) (one_more no_round came)
+  rounds-before : (front : List Asked) → round front (Ok again) → (times : ℕ) (log : List Asked) → Rounds (λ before. round) again times log
+      → Rounds (λ before. round) again (times + 1) (front ++ log)
+  rounds-before front came times log no_round = subst (λ (l : List Asked). Rounds (λ before. round) again 1 l) (sym (append-nil front)) (one_more no_round came)
   rounds-before front came times log (one_more {times = k} {front = f} {after = b} so last) =
-      subst (λ (l : List Asked). Rounds round again (k + 1 + 1) l) (append_assoc front f b) (one_more (rounds-before front came k f so) last)
+      subst (λ (l : List Asked). Rounds (λ before. round) again (k + 1 + 1) l) (append_assoc front f b) (one_more (rounds-before front came k f so) last)
 
   pub upto-again : (most more : ℕ) → most ≡ more + 1 → (front log : List Asked) (result : Result T Stop) → round front (Ok again)
       → UpTo more round again log result → UpTo most round again (front ++ log) result
   upto-again most more is front log result came (inl all) =
-      inl (subst (λ (n : ℕ). Rounds round again n (front ++ log)) (sym is) (rounds-before front came more log all.0), all.1)
+      inl (subst (λ (n : ℕ). Rounds (λ before. round) again n (front ++ log)) (sym is) (rounds-before front came more log all.0), all.1)
   upto-again most more is front log result came (inr ends) = let few = ends.few in inr (record {
     times = ends.times + 1;
     few = omega arith;

@@ -13,14 +13,15 @@ use Rattle.rom_steps.specs.declared.back.Rested.{Rested}
 use Rattle.rom_steps.specs.declared.back.Rested.TheVariants.{Well, Failed}
 use Rattle.rom_steps.specs.declared.back.WordPair.{WordPair}
 use Rattle.rom_steps.specs.Accesses.Tried.{words_read, try_failed, never_idle}
-use Rattle.rom_steps.specs.Courses.{Asked, Course, IsHeard, Ends, Then, OnlyIf, no_round, UpTo, Stop}
+use Rattle.rom_steps.specs.declared.step.Stop.{Stop}
+use Rattle.rom_steps.specs.Courses.{Asked, Course, IsHeard, Ends, Then, OnlyIf, no_round, UpTo}
 use Rattle.rom_steps.specs.Accesses.{found_in, pair_of, is_counted, issued_by, WritesBy, PollsBy, FetchesBy, WaitsBy, InsistsBy, IssuesBy, SettlesAfter, ClearsBy, FreesBy, tried_of, FetchesAfter, WaitsAfter, TriesBy, pair_tried, Tried}
 use Rattle.rom_steps.specs.declared.step.End.{End}
 use Rattle.rom_steps.specs.declared.step.End.TheVariants as ends
 use Rattle.rom_steps.specs.declared.step.Step.{Step}
-use Rattle.rom_steps.specs.declared.step.Step.TheVariants.{Forces, Frees, WaitsToClear, Clears, Commands, WaitsToFetch, Fetches, Issues, WaitsToSettle, Tidies, Ended}
-use Rattle.rom_steps.specs.Remaining.{opening_end, reading_end, PollsOn, TriesOn, Concludes, Remains, Follows}
-use Rattle.rom_steps.specs.After.{forced, freed, waited_to_clear, cleared, failed_try, commanded, waited_to_fetch, fetched, waited_to_settle}
+use Rattle.rom_steps.specs.declared.step.Step.TheVariants.{Forces, Frees, WaitsToClear, Clears, Waits, Commands, WaitsToFetch, Fetches, Issues, WaitsToSettle, Tidies, Ended}
+use Rattle.rom_steps.specs.Remaining.{opening_end, waiting_end, reading_end, PollsOn, TriesOn, Concludes, Remains, Follows}
+use Rattle.rom_steps.specs.After.{forced, freed, waited_to_clear, cleared, waited, failed_try, commanded, waited_to_fetch, fetched, waited_to_settle}
 use Rattle.rom_steps.proofs.Following.{asked, Within, follows-within, asks-so, then-on, then-next, then-value, then-within, ends-then, upto-again, upto-ends, rounds-next, rounds-last, rounds-on}
 
 -- there is one stop
@@ -102,6 +103,20 @@ module _ (slave : ℕ) (came : Result Pdu DeviceFault) where
       rounds-last (WritesBy slave (clear_order slave)) false E (asked slave (clear_order slave) came) (asks-so is_counted false slave (clear_order slave) came false heard)
   cleared-moves (suc more) false heard =
       rounds-on (WritesBy slave (clear_order slave)) false E (asked slave (clear_order slave) came) more (asks-so is_counted false slave (clear_order slave) came false heard)
+
+  -- WAITING
+
+  pub waited-moves : (more : ℕ) (found : Option Rested) → IsHeard found_in None came (Ok found)
+      → Follows (Remains slave (Waits more)) (asked slave (poll_order slave) came) (Remains slave (waited more found))
+  waited-moves more (Some rested) heard =
+      rounds-next (PollsBy slave) None (λ (r : Option Rested). Ends (waiting_end r)) (asked slave (poll_order slave) came) more (Some rested) (λ e. absurd cc)
+      (asks-so found_in None slave (poll_order slave) came (Some rested) heard)
+  waited-moves zero None heard =
+      rounds-last (PollsBy slave) None (λ (r : Option Rested). Ends (waiting_end r)) (asked slave (poll_order slave) came)
+      (asks-so found_in None slave (poll_order slave) came None heard)
+  waited-moves (suc more) None heard =
+      rounds-on (PollsBy slave) None (λ (r : Option Rested). Ends (waiting_end r)) (asked slave (poll_order slave) came) more
+      (asks-so found_in None slave (poll_order slave) came None heard)
 
 -- READING
 

@@ -8,7 +8,7 @@ use Rattle.rom_steps.specs.declared.access.Access.{Access}
 use Rattle.rom_steps.specs.declared.back.Back.TheVariants.{Came, Lost}
 use Rattle.rom_steps.specs.declared.datagram.ToSend.{ToSend}
 use Rattle.rom_steps.specs.declared.step.Step.{Step}
-use Rattle.rom_steps.specs.declared.step.Step.TheVariants.{Forces, Frees, WaitsToClear, Clears, Commands, WaitsToFetch, Fetches, Issues, WaitsToSettle, Tidies, Ended, Stopped}
+use Rattle.rom_steps.specs.declared.step.Step.TheVariants.{Forces, Frees, WaitsToClear, Clears, Waits, Commands, WaitsToFetch, Fetches, Issues, WaitsToSettle, Tidies, Ended, Stopped}
 use Rattle.rom_steps.specs.Back.{IsBack, first_four}
 use Rattle.rom_steps.specs.Calls.{IsAnswer, IsCodeOfOver, TellsNext}
 use Rattle.rom_steps.specs.Calls.TellsNext.{ended, stopped}
@@ -22,6 +22,7 @@ tells_over access datagram Unchanged (Forces more) code is none reported same = 
 tells_over access datagram Unchanged (Frees more) code is none reported same = absurd (omega arith)
 tells_over access datagram Unchanged (WaitsToClear more) code is none reported same = absurd (omega arith)
 tells_over access datagram Unchanged (Clears more) code is none reported same = absurd (omega arith)
+tells_over access datagram Unchanged (Waits more) code is none reported same = absurd (omega arith)
 tells_over access datagram Unchanged (Commands word tries) code is none reported same = absurd (omega arith)
 tells_over access datagram Unchanged (WaitsToFetch word tries more) code is none reported same = absurd (omega arith)
 tells_over access datagram Unchanged (Fetches word tries) code is none reported same = absurd (omega arith)

@@ -8,13 +8,13 @@ use Rattle.rom_steps.specs.declared.back.Rested.TheVariants.{Well, Failed}
 use Rattle.rom_steps.specs.declared.back.Back.{Back}
 use Rattle.rom_steps.specs.declared.back.WordPair.{WordPair}
 use Rattle.rom_steps.specs.declared.step.Step.{Step}
-use Rattle.rom_steps.specs.declared.step.Step.TheVariants.{Forces, Frees, WaitsToClear, Clears, Commands, WaitsToFetch, Fetches, Issues, WaitsToSettle, Tidies, Ended, Stopped}
+use Rattle.rom_steps.specs.declared.step.Step.TheVariants.{Forces, Frees, WaitsToClear, Clears, Waits, Commands, WaitsToFetch, Fetches, Issues, WaitsToSettle, Tidies, Ended, Stopped}
 use Rattle.rom_steps.specs.Back.{IsBack, counted_in, issued_in, pair_in, rested_in}
 use Rattle.rom_steps.specs.Remaining.{Remains, IsNext, Follows, Moves, left}
-use Rattle.rom_steps.specs.After.{after, forced, freed, waited_to_clear, cleared, failed_try, commanded, waited_to_fetch, fetched, waited_to_settle}
+use Rattle.rom_steps.specs.After.{after, forced, freed, waited_to_clear, cleared, waited, failed_try, commanded, waited_to_fetch, fetched, waited_to_settle}
 use Rattle.rom_steps.proofs.Following.{asked}
 use Rattle.rom_steps.proofs.Heard.{heard_counted, heard_rested, heard_issued, heard_pair}
-use Rattle.rom_steps.proofs.Moving.{forced-moves, freed-moves, waited_to_clear-moves, cleared-moves, commanded-moves, waited_to_fetch-moves, fetched-moves, issued-moves, tidied-moves, waited_to_settle-moves}
+use Rattle.rom_steps.proofs.Moving.{forced-moves, freed-moves, waited_to_clear-moves, cleared-moves, waited-moves, commanded-moves, waited_to_fetch-moves, fetched-moves, issued-moves, tidied-moves, waited_to_settle-moves}
 use Rattle.rom_steps.proofs.Stopping.{ended-moves}
 
 forced-fewer : (more : ℕ) (counted : Bool) → left (forced more counted) < more + 10007
@@ -36,6 +36,11 @@ cleared-fewer : (more : ℕ) (counted : Bool) → left (cleared more counted) < 
 cleared-fewer more true = omega arith
 cleared-fewer zero false = omega arith
 cleared-fewer (suc more) false = omega arith
+
+waited-fewer : (more : ℕ) (found : Option Rested) → left (waited more found) < more + 1
+waited-fewer more (Some rested) = omega arith
+waited-fewer zero None = omega arith
+waited-fewer (suc more) None = omega arith
 
 failed-fewer : (word tries : ℕ) → left (failed_try word tries) < 1 + tries * 10002
 failed-fewer word zero = omega arith
@@ -85,6 +90,9 @@ module _ (slave : ℕ) (back : Back) (came : Result Pdu DeviceFault) (is : IsBac
   moves (Clears more) =
       makes slave (Clears more) (cleared more (counted_in back)) came (clear_order slave) (λ order o. o)
       (cleared-moves slave came more (counted_in back) (heard_counted back came is)) (cleared-fewer more (counted_in back))
+  moves (Waits more) =
+      makes slave (Waits more) (waited more (rested_in back)) came (poll_order slave) (λ order o. o)
+      (waited-moves slave came more (rested_in back) (heard_rested back came is)) (waited-fewer more (rested_in back))
   moves (Commands word tries) =
       makes slave (Commands word tries) (commanded word tries (counted_in back)) came (read_order slave word) (λ order o. o)
       (commanded-moves slave came word tries (counted_in back) (heard_counted back came is)) (commanded-fewer word tries (counted_in back))

@@ -15,8 +15,8 @@ use Rattle.rom_steps.specs.Accesses.{found_in, pair_of, is_counted, issued_by, W
 use Rattle.rom_steps.specs.declared.step.End.{End}
 use Rattle.rom_steps.specs.declared.step.End.TheVariants as ends
 use Rattle.rom_steps.specs.declared.step.Step.{Step}
-use Rattle.rom_steps.specs.declared.step.Step.TheVariants.{Forces, Frees, WaitsToClear, Clears, Commands, WaitsToFetch, Fetches, Issues, WaitsToSettle, Tidies, Ended, Stopped}
-use Rattle.rom_steps.specs.Remaining.{InsistsOn, PollsOn, TriesOn, Concludes, Remains, IsNext, Follows, Stops, Moves, left}
+use Rattle.rom_steps.specs.declared.step.Step.TheVariants.{Forces, Frees, WaitsToClear, Clears, Waits, Commands, WaitsToFetch, Fetches, Issues, WaitsToSettle, Tidies, Ended, Stopped}
+use Rattle.rom_steps.specs.Remaining.{waiting_end, InsistsOn, PollsOn, TriesOn, Concludes, Remains, IsNext, Follows, Stops, Moves, left}
 use Rattle.rom_steps.proofs.Following.{asked, MayStop, asks-stop, then-stop, upto-stop}
 use Rattle.rom_steps.proofs.Moving.{E, S, P, R}
 
@@ -57,6 +57,8 @@ may-stop slave (WaitsToClear more) order is =
     (polls-stop slave more (λ (r : Option Rested). OnlyIf (is_some r) (InsistsBy slave (clear_order slave)))))
 may-stop slave (Clears more) order is =
     subst (λ (o : Pdu). MayStop (Remains slave (Clears more)) (cut slave o)) (sym is) (insist-stop slave (clear_order slave) more E)
+may-stop slave (Waits more) order is =
+    subst (λ (o : Pdu). MayStop (Remains slave (Waits more)) (cut slave o)) (sym is) (polls-stop slave more (λ (r : Option Rested). Ends (waiting_end r)))
 may-stop slave (Commands word tries) order is =
     subst (λ (o : Pdu). MayStop (Remains slave (Commands word tries)) (cut slave o)) (sym is)
     (concludes-stop (UpTo (tries + 1) (TriesBy slave word) try_failed) (cut slave (read_order slave word))
@@ -104,6 +106,7 @@ sends-some slave (Forces more) order is = omega arith
 sends-some slave (Frees more) order is = omega arith
 sends-some slave (WaitsToClear more) order is = omega arith
 sends-some slave (Clears more) order is = omega arith
+sends-some slave (Waits more) order is = omega arith
 sends-some slave (Commands word tries) order is = omega arith
 sends-some slave (WaitsToFetch word tries more) order is = omega arith
 sends-some slave (Fetches word tries) order is = omega arith

@@ -7,7 +7,7 @@ use Rattle.rom_steps.specs.declared.back.Back.{Back}
 use Rattle.rom_steps.specs.declared.back.WordPair.{WordPair}
 use Rattle.rom_steps.specs.declared.step.End.TheVariants as ends
 use Rattle.rom_steps.specs.declared.step.Step.{Step}
-use Rattle.rom_steps.specs.declared.step.Step.TheVariants.{Forces, Frees, WaitsToClear, Clears, Commands, WaitsToFetch, Fetches, Issues, WaitsToSettle, Tidies, Ended, Stopped}
+use Rattle.rom_steps.specs.declared.step.Step.TheVariants.{Forces, Frees, WaitsToClear, Clears, Waits, Commands, WaitsToFetch, Fetches, Issues, WaitsToSettle, Tidies, Ended, Stopped}
 use Rattle.rom_steps.specs.Back.{counted_in, issued_in, pair_in, rested_in}
 
 -- the same once more if any are left, else this one
@@ -30,6 +30,10 @@ waited_to_clear more None = again (Ended ends.Dead) WaitsToClear more
 abbrev pub cleared : ℕ → Bool → Step
 cleared more true = Ended ends.Opened
 cleared more false = again (Ended ends.Dead) Clears more
+
+abbrev pub waited : ℕ → Option Rested → Step
+waited more (Some rested) = Ended (ends.Idle rested)
+waited more None = again (Ended ends.Dead) Waits more
 
 abbrev pub failed_try : (word tries : ℕ) → Step
 failed_try word tries = again (Ended ends.Dead) (Commands word) tries
@@ -61,6 +65,7 @@ after (Forces more) back = forced more (counted_in back)
 after (Frees more) back = freed more (counted_in back)
 after (WaitsToClear more) back = waited_to_clear more (rested_in back)
 after (Clears more) back = cleared more (counted_in back)
+after (Waits more) back = waited more (rested_in back)
 after (Commands word tries) back = commanded word tries (counted_in back)
 after (WaitsToFetch word tries more) back = waited_to_fetch word tries more (rested_in back)
 after (Fetches word tries) back = fetched word tries (pair_in back)

@@ -3,10 +3,7 @@ use Rattle.std.specs.Prelude.{◌≡◌, ◌≢◌, ◌⊎◌, ℕ, ◌+◌, ◌
 use Rattle.ecat_frame.specs.Frame.{Pdu}
 use Rattle.site_core.specs.declared.fault.DeviceFault.{DeviceFault}
 use Rattle.site_core.specs.declared.fault.DeviceFault.TheVariants as device
-
--- the fault of a course: the line has stopped
-abbrev pub Stop : Type 0
-Stop = Unit {0}
+use Rattle.rom_steps.specs.declared.step.Stop.{Stop}
 
 -- A datagram that was sent to a slave, alone in its frame, and the datagram that came back, or why none did.
 pub record Asked : Type 0 where
@@ -54,13 +51,13 @@ OnlyIf true course = course
 OnlyIf false course = Ends false
 
 -- This number of rounds, each of which came to the value that asks for the next one.
-pub data Rounds {T : Type 0} (round : List Asked → Result T Stop → Type 0) (again : T) : (times : ℕ) → List Asked → Type 0 where
+pub data Rounds {T : Type 0} (round : ℕ → List Asked → Result T Stop → Type 0) (again : T) : (times : ℕ) → List Asked → Type 0 where
   no_round : Rounds round again 0 []
-  one_more : {times : ℕ} {front after : List Asked} → Rounds round again times front → round after (Ok again)
+  one_more : {times : ℕ} {front after : List Asked} → Rounds round again times front → round times after (Ok again)
       → Rounds round again (times + 1) (front ++ after)
 
 -- The rounds ended with one of the first `most`: it came to another value, or the line stopped in it.
-pub record EndsInRound {T : Type 0} (most : ℕ) (round : List Asked → Result T Stop → Type 0) (again : T) (log : List Asked)
+pub record EndsInRound {T : Type 0} (most : ℕ) (round : ℕ → List Asked → Result T Stop → Type 0) (again : T) (log : List Asked)
     (result : Result T Stop) : Type 0 where
   pub times : ℕ
   pub few : times < most
@@ -68,9 +65,13 @@ pub record EndsInRound {T : Type 0} (most : ℕ) (round : List Asked → Result 
   pub after : List Asked
   pub log_is : log ≡ front ++ after
   pub rounds : Rounds round again times front
-  pub last : round after result
+  pub last : round times after result
   pub ends : result ≢ Ok again
 
--- rounds until one comes to another value, at most this number of them
+-- rounds until one comes to another value, at most this number of them; which it is depends on the number of those before it
+abbrev pub InTurn : {T : Type 0} → (most : ℕ) → (ℕ → Course T) → (again : T) → Course T
+InTurn most round again log result = (Rounds round again most log × (result ≡ Ok again)) ⊎ EndsInRound most round again log result
+
+-- the same round each time
 abbrev pub UpTo : {T : Type 0} → (most : ℕ) → Course T → (again : T) → Course T
-UpTo most round again log result = (Rounds round again most log × (result ≡ Ok again)) ⊎ EndsInRound most round again log result
+UpTo most round again = InTurn most (λ before. round) again

@@ -3,10 +3,11 @@ use Rattle.std.specs.Prelude.{ℕ, ◌==◌, if◌then◌else◌, true, false, O
 use Rattle.site_core.specs.declared.answers.Issued.TheVariants as issued
 use Rattle.site_core.specs.declared.answers.Settled.TheVariants as settled
 use Rattle.rom_steps.specs.declared.access.Access.{Access}
+use Rattle.rom_steps.specs.declared.back.Rested.TheVariants.{Well, Failed}
 use Rattle.rom_steps.specs.declared.step.End.{End}
 use Rattle.rom_steps.specs.declared.step.End.TheVariants as ends
 use Rattle.rom_steps.specs.declared.step.Step.{Step}
-use Rattle.rom_steps.specs.declared.step.Step.TheVariants.{Forces, Frees, WaitsToClear, Clears, Commands, WaitsToFetch, Fetches, Issues, WaitsToSettle, Tidies, Ended, Stopped}
+use Rattle.rom_steps.specs.declared.step.Step.TheVariants.{Forces, Frees, WaitsToClear, Clears, Waits, Commands, WaitsToFetch, Fetches, Issues, WaitsToSettle, Tidies, Ended, Stopped}
 
 -- a step of an opening
 abbrev pub opening_in : Access → Option Step
@@ -17,7 +18,7 @@ opening_in a =
     else if a.phase == 4 then Some (Clears a.more)
     else None
 
--- a step of a reading, an issue or a settling
+-- a step of a waiting, a reading, an issue or a settling
 abbrev pub word_step_in : Access → Option Step
 word_step_in a =
     if a.phase == 5 then Some (Commands a.first a.tries)
@@ -28,6 +29,7 @@ word_step_in a =
     else if a.phase == 10 then Some (WaitsToSettle false a.more)
     else if a.phase == 11 then Some Tidies
     else if a.phase == 12 then Some Stopped
+    else if a.phase == 22 then Some (Waits a.more)
     else None
 
 -- how an access ended
@@ -42,6 +44,8 @@ end_in a =
     else if a.phase == 19 then Some (ends.Settled settled.Again)
     else if a.phase == 20 then Some (ends.Settled settled.Dead)
     else if a.phase == 21 then Some ends.Dead
+    else if a.phase == 23 then Some (ends.Idle Well)
+    else if a.phase == 24 then Some (ends.Idle Failed)
     else None
 
 abbrev pub or_ended : Option End → Option Step
@@ -59,6 +63,8 @@ step_in a = or_else (opening_in a) (or_else (word_step_in a) (or_ended (end_in a
 -- the code of an end
 abbrev pub code_of_end : End → ℕ
 code_of_end ends.Opened = 101
+code_of_end (ends.Idle Well) = 107
+code_of_end (ends.Idle Failed) = 108
 code_of_end (ends.Read first second) = 102
 code_of_end (ends.Issued issued.Taken) = 103
 code_of_end (ends.Issued issued.NotTaken) = 104

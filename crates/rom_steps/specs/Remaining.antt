@@ -7,19 +7,24 @@ use Rattle.site_core.specs.declared.answers.Settled.TheVariants as settled
 use Rattle.rom_steps.specs.declared.back.Rested.{Rested}
 use Rattle.rom_steps.specs.declared.back.WordPair.{WordPair}
 use Rattle.rom_steps.specs.Accesses.Tried.{words_read, try_failed, never_idle}
-use Rattle.rom_steps.specs.Courses.{Asked, Course, Ends, Then, OnlyIf, UpTo, Stop}
-use Rattle.rom_steps.specs.Accesses.{WritesBy, PollsBy, FetchesBy, InsistsBy, IssuesBy, SettlesAfter, SettlesBy, ClearsBy, FreesBy, OpensBy, tried_of, FetchesAfter, TriesBy, pair_tried, ReadsPairBy, Tried}
+use Rattle.rom_steps.specs.declared.step.Stop.{Stop}
+use Rattle.rom_steps.specs.Courses.{Asked, Course, Ends, Then, OnlyIf, UpTo}
+use Rattle.rom_steps.specs.Accesses.{WritesBy, PollsBy, FetchesBy, WaitsBy, InsistsBy, IssuesBy, SettlesAfter, SettlesBy, ClearsBy, FreesBy, OpensBy, tried_of, FetchesAfter, TriesBy, pair_tried, ReadsPairBy, Tried}
 use Rattle.rom_steps.specs.declared.datagram.ToSend.{ToSend}
 use Rattle.rom_steps.specs.declared.step.End.{End}
 use Rattle.rom_steps.specs.declared.step.End.TheVariants as ends
 use Rattle.rom_steps.specs.declared.step.Step.{Step}
-use Rattle.rom_steps.specs.declared.step.Step.TheVariants.{Forces, Frees, WaitsToClear, Clears, Commands, WaitsToFetch, Fetches, Issues, WaitsToSettle, Tidies, Ended, Stopped}
+use Rattle.rom_steps.specs.declared.step.Step.TheVariants.{Forces, Frees, WaitsToClear, Clears, Waits, Commands, WaitsToFetch, Fetches, Issues, WaitsToSettle, Tidies, Ended, Stopped}
 
--- THE FOUR ACCESSES
+-- THE ACCESSES
 
 abbrev pub opening_end : Bool → End
 opening_end true = ends.Opened
 opening_end false = ends.Dead
+
+abbrev pub waiting_end : Option Rested → End
+waiting_end None = ends.Dead
+waiting_end (Some rested) = ends.Idle rested
 
 abbrev pub reading_end : Option WordPair → End
 reading_end None = ends.Dead
@@ -28,6 +33,9 @@ reading_end (Some pair) = ends.Read pair.first pair.second
 -- the course of each access, and its outcome
 abbrev pub OpenCourse : (slave : ℕ) → Course End
 OpenCourse slave = Then (OpensBy slave) (λ opened. Ends (opening_end opened))
+
+abbrev pub WaitCourse : (slave : ℕ) → Course End
+WaitCourse slave = Then (WaitsBy slave) (λ found. Ends (waiting_end found))
 
 abbrev pub ReadCourse : (slave word : ℕ) → Course End
 ReadCourse slave word = Then (ReadsPairBy slave word) (λ pair. Ends (reading_end pair))
@@ -71,6 +79,7 @@ Remains slave (Frees more) =
 Remains slave (WaitsToClear more) =
     Then (Then (PollsOn slave more) (λ found. OnlyIf (is_some found) (InsistsBy slave (clear_order slave)))) (λ opened. Ends (opening_end opened))
 Remains slave (Clears more) = Then (InsistsOn slave (clear_order slave) more) (λ opened. Ends (opening_end opened))
+Remains slave (Waits more) = Then (PollsOn slave more) (λ found. Ends (waiting_end found))
 Remains slave (Commands word tries) = Concludes (UpTo (tries + 1) (TriesBy slave word) try_failed)
 Remains slave (WaitsToFetch word tries more) = Concludes (Then (Then (PollsOn slave more) (FetchesAfter slave)) (TriesOn slave word tries))
 Remains slave (Fetches word tries) =
@@ -92,6 +101,7 @@ left (Forces more) = more + 10007
 left (Frees more) = more + 10004
 left (WaitsToClear more) = more + 4
 left (Clears more) = more + 1
+left (Waits more) = more + 1
 left (Commands word tries) = 10002 + tries * 10002
 left (WaitsToFetch word tries more) = more + 2 + tries * 10002
 left (Fetches word tries) = 1 + tries * 10002
@@ -119,6 +129,7 @@ IsNext slave (Forces more) order = order ≡ access_order slave 2
 IsNext slave (Frees more) order = order ≡ access_order slave 0
 IsNext slave (WaitsToClear more) order = order ≡ poll_order slave
 IsNext slave (Clears more) order = order ≡ clear_order slave
+IsNext slave (Waits more) order = order ≡ poll_order slave
 IsNext slave (Commands word tries) order = order ≡ read_order slave word
 IsNext slave (WaitsToFetch word tries more) order = order ≡ poll_order slave
 IsNext slave (Fetches word tries) order = order ≡ fetch_order slave

@@ -4,6 +4,7 @@ ghost use Rattle.std.specs.Prelude.{◌≡◌, Some};
 ghost use Rattle.rom_steps.specs.declared.step.Step.TheVariants.{Ended};
 ghost use Rattle.rom_steps.specs.Numbers.{code_of_end, end_in, opening_in, or_ended, or_else, step_in, word_step_in};
 
+use crate::back::Rested;
 use crate::step::{End, Step};
 use site_core::{Issued, Settled};
 
@@ -66,6 +67,7 @@ fn word_step_in(a: Access) -> Option<Step>
         }),
         11 => Some(Step::Tidies),
         12 => Some(Step::Stopped),
+        22 => Some(Step::Waits { more: a.more }),
         _ => None,
     }
 }
@@ -86,6 +88,8 @@ fn end_in(a: Access) -> Option<End>
         19 => Some(End::Settled(Settled::Again)),
         20 => Some(End::Settled(Settled::Dead)),
         21 => Some(End::Dead),
+        23 => Some(End::Idle(Rested::Well)),
+        24 => Some(End::Idle(Rested::Failed)),
         _ => None,
     }
 }
@@ -133,6 +137,8 @@ fn end_as_numbers(end: End) -> Access
 {
     match end {
         End::Opened => numbers(13, 0),
+        End::Idle(Rested::Well) => numbers(23, 0),
+        End::Idle(Rested::Failed) => numbers(24, 0),
         End::Read { first, second } => Access {
             first,
             second,
@@ -157,6 +163,7 @@ pub(crate) fn access_of(step: Step) -> Access
         Step::Frees { more } => numbers(2, more),
         Step::WaitsToClear { more } => numbers(3, more),
         Step::Clears { more } => numbers(4, more),
+        Step::Waits { more } => numbers(22, more),
         Step::Commands { word, tries } => Access {
             tries,
             first: word,
@@ -191,6 +198,8 @@ pub(crate) fn code_of_end(end: End) -> u32
 {
     match end {
         End::Opened => 101,
+        End::Idle(Rested::Well) => 107,
+        End::Idle(Rested::Failed) => 108,
         End::Read { .. } => 102,
         End::Issued(Issued::Taken) => 103,
         End::Issued(Issued::NotTaken) => 104,

@@ -69,7 +69,8 @@ pub fn settle(access: &mut Access, taken: bool)
 /// Tells what is to be done next. It answers 100 if a datagram is to be sent, and writes that to `datagram`. Where the access has ended
 /// it answers how, and `datagram` stays: 101, the slave is open; 102, the words were read, and are in `first` and `second`; 103, the slave
 /// took the command that writes the word, 104, it didn't, 41, that frame was lost; 105, the word is written, 106, it has to be issued
-/// again; 43, the slave is given up; 42, the line has stopped. It answers 110 if the numbers are no step.
+/// again; 107, the slave that was waited for is idle, 108, idle with an error; 43, the slave is given up; 42, the line has stopped. It
+/// answers 110 if the numbers are no step.
 pub fn next(access: &Access, datagram: &mut ToSend) -> u32
     ensures { TellsNext access.now result datagram.new (datagram.new ≡ datagram.old) }
 {

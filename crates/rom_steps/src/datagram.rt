@@ -70,6 +70,7 @@ pub fn next_of(step: Step) -> Option<ToSend>
         Step::Frees { .. } => Some(writes(ACCESS, 1, [0; 8])),
         Step::WaitsToClear { .. } => Some(reads(CONTROL, 2)),
         Step::Clears { .. } => Some(writes(CONTROL, 2, [0; 8])),
+        Step::Waits { .. } => Some(reads(CONTROL, 2)),
         Step::Commands { word, .. } => Some(writes(CONTROL, 6, read_content(word))),
         Step::WaitsToFetch { .. } => Some(reads(CONTROL, 2)),
         Step::Fetches { .. } => Some(reads(CONTENT, 4)),

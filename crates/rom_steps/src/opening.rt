@@ -4,6 +4,7 @@ ghost use Rattle.std.specs.Prelude.{◌≡◌};
 ghost use Rattle.rom_steps.specs.After.{cleared, forced, freed, waited_to_clear};
 
 use crate::back::Rested;
+use crate::limits::{POLLS, TRIES};
 use crate::step::{End, Step};
 
 /// After the datagram that forces ECAT access.
@@ -12,7 +13,7 @@ pub(crate) fn forced(more: u32, counted: bool) -> Step
     ensures { result ≡ forced more counted }
 {
     if counted {
-        return Step::Frees { more: 2 };
+        return Step::Frees { more: TRIES - 1 };
     }
     if more == 0 {
         return Step::Ended(End::Dead);
@@ -26,7 +27,7 @@ pub(crate) fn freed(more: u32, counted: bool) -> Step
     ensures { result ≡ freed more counted }
 {
     if counted {
-        return Step::WaitsToClear { more: 9999 };
+        return Step::WaitsToClear { more: POLLS - 1 };
     }
     if more == 0 {
         return Step::Ended(End::Dead);
@@ -40,7 +41,7 @@ pub(crate) fn waited_to_clear(more: u32, found: Option<Rested>) -> Step
     ensures { result ≡ waited_to_clear more found }
 {
     match found {
-        Some(_) => Step::Clears { more: 2 },
+        Some(_) => Step::Clears { more: TRIES - 1 },
         None => {
             if more == 0 {
                 return Step::Ended(End::Dead);

@@ -4,6 +4,7 @@ ghost use Rattle.std.specs.Prelude.{◌≡◌};
 ghost use Rattle.rom_steps.specs.After.{commanded, failed_try, fetched, waited_to_fetch};
 
 use crate::back::{Rested, WordPair};
+use crate::limits::POLLS;
 use crate::step::{End, Step};
 
 /// After a try that failed: the next one, or the slave is given up.
@@ -28,7 +29,7 @@ pub(crate) fn commanded(word: u16, tries: u32, counted: bool) -> Step
         return Step::WaitsToFetch {
             word,
             tries,
-            more: 9999,
+            more: POLLS - 1,
         };
     }
     failed_try(word, tries)

@@ -1,23 +1,40 @@
 //! How far a word access is.
 
 ghost use Rattle.std.specs.Prelude.{◌≡◌};
-ghost use Rattle.rom_steps.specs.Remaining.{Begins, left, IssueCourse, OpenCourse, ReadCourse, SettleCourse};
+ghost use Rattle.site_core.specs.declared.fault.DeviceFault.TheVariants as device;
+ghost use Rattle.rom_steps.specs.Remaining.{Begins, left, IssueCourse, OpenCourse, ReadCourse, SettleCourse, WaitCourse};
 
-use site_core::{Issued, Settled};
+use crate::back::Rested;
+use crate::limits::{POLLS, TRIES};
+use site_core::{DeviceFault, Issued, Settled};
+
+/// The line has stopped for good, as when its link is down or the power is cut: the only fault that ends an access. A lost frame doesn't.
+#[derive(Clone, Copy)]
+pub struct Stop;
+
+impl From<Stop> for DeviceFault {
+    ghost from_gives = { λ _ fault. fault ≡ device.Stopped };
+
+    fn from(_: Stop) -> Self {
+        DeviceFault::Stopped
+    }
+}
 
 /// How a word access ended.
 #[derive(Clone, Copy)]
 pub enum End {
     /// The slave is open: idle, without an error.
     Opened,
+    /// A slave that was waited for is idle, and its last command ended so.
+    Idle(Rested),
     /// The word that was to be read, and the next one.
     Read { first: u16, second: u16 },
     /// A word was issued, with this outcome.
     Issued(Issued),
     /// The slave was waited for after a word that was issued, with this outcome.
     Settled(Settled),
-    /// The slave was given up in an opening or a reading: a datagram was sent three times and never counted, three tries to read the
-    /// words failed, or the slave wasn't seen idle in 10,000 polls.
+    /// The slave was given up in an opening, a waiting or a reading: a datagram was sent three times and never counted, three tries to
+    /// read the words failed, or the slave wasn't seen idle in 10,000 polls.
     Dead,
 }
 
@@ -34,6 +51,8 @@ pub enum Step {
     WaitsToClear { more: u32 },
     /// Opening: the datagram that clears errors.
     Clears { more: u32 },
+    /// Waiting: polls.
+    Waits { more: u32 },
     /// Reading: the command that reads a word and the next one.
     Commands { word: u16, tries: u32 },
     /// Reading: polls after that command.
@@ -58,7 +77,15 @@ pub fn begin_opening() -> Step
     ensures course { Begins result OpenCourse }
     ensures bounded { left result ≡ 10009 }
 {
-    Step::Forces { more: 2 }
+    Step::Forces { more: TRIES - 1 }
+}
+
+/// Begins to wait until a slave is idle. It ends with `Idle` or `Dead`, after 10,000 datagrams at most.
+pub fn begin_waiting() -> Step
+    ensures course { Begins result WaitCourse }
+    ensures bounded { left result ≡ 10000 }
+{
+    Step::Waits { more: POLLS - 1 }
 }
 
 /// Begins to read a word and the next one. It ends with `Read` or `Dead`, after 30,006 datagrams at most.
@@ -66,7 +93,10 @@ pub fn begin_reading(word: u16) -> Step
     ensures course { Begins result (λ slave. ReadCourse slave word) }
     ensures bounded { left result ≡ 30006 }
 {
-    Step::Commands { word, tries: 2 }
+    Step::Commands {
+        word,
+        tries: TRIES - 1,
+    }
 }
 
 /// Begins to issue a word: to send the command that writes it, once. It ends with `Issued`, after one datagram.
@@ -83,5 +113,8 @@ pub fn begin_settling(taken: bool) -> Step
     ensures course { Begins result (λ slave. SettleCourse slave taken) }
     ensures bounded { left result ≡ 10001 }
 {
-    Step::WaitsToSettle { taken, more: 9999 }
+    Step::WaitsToSettle {
+        taken,
+        more: POLLS - 1,
+    }
 }

@@ -14,6 +14,7 @@ use crate::opening::{cleared, forced, freed, waited_to_clear};
 use crate::reading::{commanded, fetched, waited_to_fetch};
 use crate::settling::waited_to_settle;
 use crate::step::{End, Step};
+use crate::waiting::waited;
 use site_core::Settled;
 
 fn after(step: Step, back: Back) -> Step
@@ -24,6 +25,7 @@ fn after(step: Step, back: Back) -> Step
         Step::Frees { more } => freed(more, is_counted(back)),
         Step::WaitsToClear { more } => waited_to_clear(more, read_rest(back)),
         Step::Clears { more } => cleared(more, is_counted(back)),
+        Step::Waits { more } => waited(more, read_rest(back)),
         Step::Commands { word, tries } => commanded(word, tries, is_counted(back)),
         Step::WaitsToFetch { word, tries, more } => waited_to_fetch(
             word,

@@ -2,10 +2,8 @@
 //! before all others its standard input and output are a wire; the launcher `sii_wire` calls it so.
 #![tactic(auto)]
 
-use station_serve::wire::{
-    Arguments, Connection, OwnWire, Screen, read_arguments, refuse_text, serve_on_wire,
-};
-use station_serve::{Streams, refuse_words, serve};
+use station_serve::wire::{Connection, OwnWire, read_arguments, refuse_text, serve_on_wire};
+use station_serve::{Streams, refuse_words, report_unread, serve};
 use std::fs::{File, Files};
 use std::io::{BufWriter, Input, IsTerminal, Print, Write};
 use std::process::ExitCode;
@@ -13,40 +11,37 @@ use std::rt::Clock;
 use std::sync::Wait;
 use std::thread::Threads;
 use std::{env, io};
-use system_files::{FileStore, Text, hold_streams};
+use system_files::{FileStore, hold_streams, open_text};
 use wire_frames::EthernetWire;
 
 fn main(rt: HostRuntime) -> ExitCode {
-    let status = match hold_streams(&rt) {
-        Ok(_held) => match words(&rt) {
-            Ok(words) => {
-                if is_on_wire(&words) {
-                    let connection = Connection {
-                        wire: EthernetWire::new(rt.stdin(), rt.stdout()),
-                        number: first_number(&rt),
-                    };
-                    serve_wire(&rt, &words, connection, &mut rt.stderr())
-                } else {
-                    serve_files(&rt, &words, &mut rt.stderr())
-                }
+    let faults = &mut rt.stderr();
+    let status = match words(&rt) {
+        Ok((words, _held)) => {
+            if is_on_wire(&words) {
+                let wire = EthernetWire::new(rt.stdin(), rt.stdout());
+                let number = first_number(&rt);
+                serve_wire(&rt, &words, Connection { wire, number }, faults)
+            } else {
+                serve_files(&rt, &words, faults)
             }
-            Err(error) => refuse_words(&error, &mut rt.stderr()),
-        },
-        Err(error) => refuse_words(&error, &mut rt.stderr()),
+        }
+        Err(error) => refuse_words(&error, faults),
     };
     ExitCode::from(status)
 }
 
-/// The arguments, the program's name first. With the environment variable `PILZHOON_VERBOSE` a call on files has `--verbose` too, so that the log of
-/// a service has the second line of a fault.
-fn words(rt: &HostRuntime) -> io::Result<Vec<String>> {
+/// The arguments, the program's name first, and what holds the standard streams. With the environment variable `PILZHOON_VERBOSE` a call on files has
+/// `--verbose` too, so that the log of a service has the second line of a fault.
+fn words(rt: &HostRuntime) -> io::Result<(Vec<String>, [Option<File>; 3])> {
+    let held = hold_streams(rt)?;
     let mut words: Vec<String> = env::args(rt)?.collect(rt.alloc())?;
     let is_reported = words.iter().any(|word| word.as_str() == "--verbose");
     if !is_reported && !is_on_wire(&words) && env::var(rt, "PILZHOON_VERBOSE").is_ok() {
         let place = words.len().min(1);
         words.insert(place, String::from_str(rt.alloc(), "--verbose")?)?;
     }
-    Ok(words)
+    Ok((words, held))
 }
 
 /// Whether the arguments begin with `--wire`.
@@ -63,10 +58,8 @@ fn serve_files<
     let terminal = faults.is_terminal().then_some(*faults);
     match BufWriter::new(rt.alloc(), io::writer(rt)) {
         Ok(mut output) => {
-            let streams = Streams {
-                output: &mut output,
-                faults,
-            };
+            let output = &mut output;
+            let streams = Streams { output, faults };
             serve(rt, words, &mut rt.reader(), &mut files, streams, terminal)
         }
         Err(error) => refuse_words(&error, faults),
@@ -80,29 +73,18 @@ fn serve_wire<
     E: Write + IsTerminal + Copy + Send + Drop,
 >(rt: &H, words: &[String], connection: Connection<L>, faults: &mut E) -> u8 {
     match read_arguments(rt.alloc(), words) {
-        Ok(arguments) => match Text::open(rt, arguments.text, *faults) {
-            Ok(mut text) => serve_task(rt, arguments, connection, &mut text, faults),
+        Ok(arguments) => match open_text(rt, arguments.text, *faults) {
+            Ok(mut text) => {
+                let mut files = FileStore::new(rt.alloc(), rt);
+                let terminal = faults.is_terminal().then_some(*faults);
+                let output = &mut text;
+                let streams = Streams { output, faults };
+                serve_on_wire(rt, arguments, connection, &mut files, streams, terminal) as u8
+            }
             Err(error) => refuse_text(error, faults),
         },
-        Err(unread) => unread.report(faults) as u8,
+        Err(unread) => report_unread(rt.alloc(), &unread, faults) as u8,
     }
-}
-
-/// Carries out what the arguments ask for on a wire, with its text in this stream.
-fn serve_task<
-    H: Files<File = File> + Wait + Threads + Clock + AllocGlobal + Sync,
-    L: OwnWire,
-    O: Write,
-    E: Write + IsTerminal + Copy + Send + Drop,
->(rt: &H, arguments: Arguments<'_>, connection: Connection<L>, text: &mut O, faults: &mut E) -> u8 {
-    let mut files = FileStore::new(rt.alloc(), rt);
-    let terminal = faults.is_terminal().then_some(*faults);
-    let screen = Screen {
-        faults,
-        is_reported: arguments.is_verbose || !arguments.is_quiet,
-        terminal,
-    };
-    serve_on_wire(rt, arguments, screen, connection, &mut files, text) as u8
 }
 
 /// The nanoseconds of the time, which no earlier program on this wire has likely numbered its frames from.

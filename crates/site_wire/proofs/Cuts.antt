@@ -26,7 +26,7 @@ use Rattle.site_wire.proofs.After.{silent_after, answered_after}
 use Rattle.site_wire.proofs.Carrying.{untouched, own_amended, same_activity}
 
 -- a datagram takes nothing from what a power cut may leave
-served_leaves : (half : SlaveHalf) (d : Pdu) (left : List ℕ) → MayLeave half left → MayLeave (served_datagram half d).half left
+pub served_leaves : (half : SlaveHalf) (d : Pdu) (left : List ℕ) → MayLeave half left → MayLeave (served_datagram half d).half left
 served_leaves half d left leaves = by goes.activity
   where
     goes : Goes half (served_datagram half d).half

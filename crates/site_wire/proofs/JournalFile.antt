@@ -1,15 +1,13 @@
 -- The journal's file behind a device on a wire follows the site's disk, step by step.
-use Rattle.std.proofs.Common.{◌≡◌, ℕ, Bool, true, false, List, [], length, IsTrue, refl, sym, ap, subst, ◌∙◌}
+use Rattle.std.proofs.Common.{◌≡◌, ◌⊎◌, inl, inr, ℕ, Bool, true, false, List, [], length, IsTrue, refl, sym, ap, subst, ◌∙◌}
 use Rattle.site_core.specs.Disk.{Disk}
 use Rattle.site_core.specs.State.{State, Seen, Moment, clock}
 use Rattle.site_shadow.specs.Following.{begin_of, first_of, Extends}
-use Rattle.site_shadow.proofs.Keeping.{Extends-by}
 use Rattle.site_shadow.proofs.Towards.{Extends-first, Extends-now}
 use Rattle.site_file.specs.declared.asking.LineFile.{LineFile}
 use Rattle.site_file.specs.declared.asking.LineFile.TheVariants.{Journal, Image}
 use Rattle.site_file.specs.declared.files.FileDevice.{FileDevice}
 use Rattle.site_file.specs.Following as files
-use Rattle.site_file.specs.Following.{Step}
 use Rattle.site_file.specs.Files.{File}
 use Rattle.site_file.specs.Held.{is_same}
 use Rattle.site_file.specs.AllFiles.{Holds, HoldsDisk, FilesFollow}
@@ -17,8 +15,12 @@ use Rattle.site_file.proofs.SeveralCalls.{asks_nothing}
 use Rattle.site_file.proofs.FilesFollow.{stays, asks_more, left_at_first}
 use Rattle.site_file.proofs.FollowingWords.{begins_to_follow, follows_on, site_is_followed}
 use Rattle.site_wire.specs.Journal as journal
-use Rattle.site_wire.specs.Journal.{JournalStep, JournalRun, HasKeptPace, JournalFollows}
+use Rattle.site_wire.specs.Journal.{JournalStep}
+use Rattle.site_wire.specs.Following as wire
+use Rattle.site_wire.specs.Following.{Step, Run, HasFollowed, Refuses}
 use Rattle.site_wire.specs.JournalLaws.{JournalIsFollowed}
+use Rattle.site_wire.specs.declared.device.WireDevice.{WireDevice}
+use Rattle.site_wire.proofs.Behind.{step_extends}
 
 -- of the files only the journal is owned
 owned_holds : (Q : LineFile → Type 0) → Q Journal → (name : LineFile) → IsTrue (is_same Journal name) → Q name
@@ -46,57 +48,61 @@ module _ {F : Type 0} (since : ℕ) (begun : LineFile → File) where
           let shown = left_at_first old.state (is_same Journal) files_then holds images left in (shown.0, Extends-now old new shown.0 extends shown.1, shown.2))
           (λ sound_yet going name mid file is_owned holds becomes. holds_on name mid file is_owned holds becomes) follows
 
-  one_of_files : (old new : Seen) (d after : FileDevice F) → Step old d new after → FilesFollow since (is_same Journal) begun d old
+  one_of_files : (old new : Seen) (d after : FileDevice F) → files.Step old d new after → FilesFollow since (is_same Journal) begun d old
       → FilesFollow since (is_same Journal) begun after new
   one_of_files old new d after one follows = follows_on F since (is_same Journal) begun old new d after follows (files.more old new d after files.none one)
 
-  step : (old new : Seen) (d after : FileDevice F) → JournalStep old d new after → FilesFollow since (is_same Journal) begun d old
+  asked : (old new : Seen) (d after : FileDevice F) → JournalStep old d new after → FilesFollow since (is_same Journal) begun d old
       → FilesFollow since (is_same Journal) begun after new
-  step old new d after (journal.goes_on goes quiet) follows = one_of_files old new d after (files.goes_on goes quiet) follows
-  step old new d after (journal.write at bytes passing given running inside wrote reported calls) follows =
+  asked old new d after (journal.goes_on goes quiet) follows = one_of_files old new d after (files.goes_on goes quiet) follows
+  asked old new d after (journal.write at bytes passing given running inside wrote reported calls) follows =
       one_of_files old new d after (files.write at bytes passing given running inside wrote reported calls) follows
-  step old new d after (journal.sync passing given running synced reported calls) follows =
+  asked old new d after (journal.sync passing given running synced reported calls) follows =
       one_of_files old new d after (files.sync passing given running synced reported calls) follows
-  step old new d after (journal.rest slave later running is extends same) follows =
-      subst (λ (x : FileDevice F). FilesFollow since (is_same Journal) begun x new) (sym same)
-      (rests old new d extends (ap (λ (s : State). s.disk) is) running follows)
 
-  run : (old : Seen) (d : FileDevice F) (new : Seen) (after : FileDevice F) → JournalRun old d new after
-      → FilesFollow since (is_same Journal) begun d old → FilesFollow since (is_same Journal) begun after new
-  run old d new after journal.none follows = follows
-  run old d new after (journal.more mid last half_way end so_far one) follows =
+module _ {L F C : Type 0} (since : ℕ) (begun : LineFile → File) where
+  step : (old new : Seen) (d after : WireDevice L F C) → Step old d new after → FilesFollow since (is_same Journal) begun d.journal old
+      → FilesFollow since (is_same Journal) begun after.journal new
+  step old new d after (wire.idles goes halves same nothing) follows =
+      one_of_files since begun old new d.journal after.journal (files.goes_on goes (files.unasked same)) follows
+  step old new d after (wire.asks running one halves nothing) follows = asked since begun old new d.journal after.journal one follows
+  step old new d after (wire.carried one) follows =
+      subst (λ (x : FileDevice F). FilesFollow since (is_same Journal) begun x new) (sym one.journal)
+      (rests since begun old new d.journal one.extends (ap (λ (s : State). s.disk) one.new_is) one.running follows)
+
+  run : (old : Seen) (d : WireDevice L F C) (new : Seen) (after : WireDevice L F C) → Run old d new after
+      → FilesFollow since (is_same Journal) begun d.journal old → FilesFollow since (is_same Journal) begun after.journal new
+  run old d new after wire.none follows = follows
+  run old d new after (wire.more mid last half_way end so_far one) follows =
       step mid last half_way end one (run old d mid half_way so_far follows)
 
-step_first : {F : Type 0} (old new : Seen) (d after : FileDevice F) → JournalStep old d new after → first_of new ≡ first_of old
-step_first old new d after (journal.goes_on goes quiet) = Extends-first old new goes.extends
-step_first old new d after (journal.write at bytes passing given running inside wrote reported calls) =
-    Extends-first old new (Extends-by old new wrote.middle given wrote.call)
-step_first old new d after (journal.sync passing given running synced reported calls) = Extends-first old new (Extends-by old new [] given synced.call)
-step_first old new d after (journal.rest slave later running is extends same) = Extends-first old new extends
+step_on : {L F C : Type 0} (old new : Seen) (d after : WireDevice L F C) → Step old d new after → Extends old new
+step_on old new d after (wire.idles goes halves same nothing) = goes.extends
+step_on old new d after (wire.asks running one halves nothing) = step_extends old new d.journal after.journal one
+step_on old new d after (wire.carried one) = one.extends
 
-run_first : {F : Type 0} (old : Seen) (d : FileDevice F) (new : Seen) (after : FileDevice F) → JournalRun old d new after → first_of new ≡ first_of old
-run_first old d new after journal.none = refl
-run_first old d new after (journal.more mid last half_way end so_far one) =
-    step_first mid last half_way end one ∙ run_first old d mid half_way so_far
+pub run_first : {L F C : Type 0} (old : Seen) (d : WireDevice L F C) (new : Seen) (after : WireDevice L F C) → Run old d new after → first_of new ≡ first_of old
+run_first old d new after wire.none = refl
+run_first old d new after (wire.more mid last half_way end so_far one) =
+    Extends-first mid last (step_on mid last half_way end one) ∙ run_first old d mid half_way so_far
 
-kept_pace : {F : Type 0} (d : FileDevice F) (seen : Seen) (begun : LineFile → File) → HasKeptPace d seen → Holds (first_of seen) Journal (begun Journal)
-    → FilesFollow 0 (is_same Journal) begun d seen
-kept_pace {F} d seen begun so_far holds =
+pub journal_followed : {L F C : Type 0} (d : WireDevice L F C) (seen : Seen) (begun : LineFile → File) → HasFollowed d seen
+    → Holds (first_of seen) Journal (begun Journal) → FilesFollow 0 (is_same Journal) begun d.journal seen
+journal_followed {L} {F} {C} d seen begun so_far holds =
     let at_first : first_of so_far.first ≡ so_far.first.state = ap (λ (p : List Moment). begin_of p so_far.first.state) so_far.new in
     let same : first_of seen ≡ so_far.first.state = run_first so_far.first so_far.began seen d so_far.run ∙ at_first in
     let starts : clock so_far.first ≡ 0 = ap length so_far.new in
     let here : Holds so_far.first.state Journal (begun Journal) = subst (λ (s : State). Holds s Journal (begun Journal)) same holds in
     run 0 begun so_far.first so_far.began seen d so_far.run
-    (subst (λ (t : ℕ). FilesFollow t (is_same Journal) begun so_far.began so_far.first) starts
-    (begins_to_follow F (is_same Journal) begun so_far.began so_far.first so_far.log
+    (subst (λ (t : ℕ). FilesFollow t (is_same Journal) begun so_far.began.journal so_far.first) starts
+    (begins_to_follow F (is_same Journal) begun so_far.began.journal so_far.first so_far.unasked
     (owned_holds (λ (name : LineFile). Holds so_far.first.state name (begun name)) here)))
 
-followed : {F : Type 0} (d : FileDevice F) (seen : Seen) (begun : LineFile → File) → JournalFollows d seen → Holds (first_of seen) Journal (begun Journal)
-    → FilesFollow 0 (is_same Journal) begun d seen
-followed {F} d seen begun (journal.has_followed so_far) holds = kept_pace d seen begun so_far holds
-followed {F} d seen begun (journal.refuses none failed) holds =
-    site_is_followed F d seen (files.refuses none failed) (is_same Journal) begun
-    (owned_holds (λ (name : LineFile). Holds (first_of seen) name (begun name)) holds)
-
 pub journal_is_followed : (L F C : Type 0) → JournalIsFollowed L F C
-journal_is_followed L F C device seen follows begun holds = followed device.journal seen begun follows.journal holds
+journal_is_followed L F C device seen follows begun holds = by follows.follows
+  where
+    by : HasFollowed device seen ⊎ Refuses device → FilesFollow 0 (is_same Journal) begun device.journal seen
+    by (inl so_far) = journal_followed device seen begun so_far holds
+    by (inr refuses) =
+        site_is_followed F device.journal seen (files.refuses refuses.unasked refuses.failed) (is_same Journal) begun
+        (owned_holds (λ (name : LineFile). Holds (first_of seen) name (begun name)) holds)

@@ -19,8 +19,11 @@ mod Carrying
 mod Cuts
 mod FollowingUp
 mod Journal
-mod JournalFile
+pub mod Behind
+pub mod JournalFile
 mod Following
 mod Together
+mod Between
+pub mod Doings
 mod DueTo
 pub mod Sent

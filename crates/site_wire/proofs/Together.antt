@@ -14,9 +14,10 @@ use Rattle.site_wire.specs.Sent.{Exchanged}
 use Rattle.site_wire.specs.RealSlaves.{Lives}
 use Rattle.site_wire.proofs.AmendedLaws.{amended_leaves_no_more}
 use Rattle.site_wire.proofs.JournalFile.{journal_is_followed}
+use Rattle.site_wire.proofs.Behind.{slaves_are_behind}
 
 -- the words of each half
-each_leaves : (halves : List SlaveHalf) (words : List (List ℕ)) → length words ≡ length halves
+pub each_leaves : (halves : List SlaveHalf) (words : List (List ℕ)) → length words ≡ length halves
     → ((k : ℕ) (half : SlaveHalf) (left : List ℕ) → slice_get halves k ≡ Some half → slice_get words k ≡ Some left → MayLeave half left)
     → EachMayLeave halves words
 each_leaves [] [] same all = tt
@@ -26,7 +27,7 @@ each_leaves (h ∷ halves) (w ∷ words) same all =
     (all zero h w refl refl, each_leaves halves words (let e : suc (length words) ≡ suc (length halves) = same in cc) (λ k half left here there. all (suc k) half left here there))
 
 -- what is left of a file that holds the disk
-held_leaves : (disk : Disk) (file : File) (image : List ℕ) → HoldsDisk disk file → StopImage file.disk image → StopImage disk image
+pub held_leaves : (disk : Disk) (file : File) (image : List ℕ) → HoldsDisk disk file → StopImage file.disk image → StopImage disk image
 held_leaves disk file image holds stop = record {
   bytes = λ at is. stop.bytes at (holds.synced at is) ∙ ap (λ (b : List ℕ). slice_get b at) holds.bytes;
   no_shorter = subst (λ (b : List ℕ). min disk.synced_length (length b) ≤ length image) holds.bytes
@@ -44,7 +45,8 @@ cut_between_calls L F C device seen begun calls now pair follows going running h
           (subst (λ (l : List Asked). BecomesBy (of_file Journal l) (begun Journal) now) (sym same) becomes)) stop;
       words = each_leaves seen.state.halves pair.words words.count (λ slave half left here there.
           let it = words.each slave left there in
-          let after = follows.slaves.follow going running slave it.first half it.real it.later it.here here it.at it.after
-          (subst (λ (l : List Exchanged). Lives l it.real it.later) follows.slaves.has it.lives) in
+          let slaves = slaves_are_behind L F C device seen follows in
+          let after = slaves.follow going running slave it.first half it.real it.later it.here here it.at it.after
+          (subst (λ (l : List Exchanged). Lives l it.real it.later) slaves.has it.lives) in
           amended_leaves_no_more half it.later left after.amended it.leaves);
     }

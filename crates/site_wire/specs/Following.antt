@@ -1,30 +1,30 @@
--- A device on a wire behind its shadow: what it sends for a datagram, and what real slaves are after it (ETG.1000.4, slave information interface).
-use Rattle.std.specs.Prelude.{◌≡◌, ℕ, ◌+◌, ◌<◌, ◌≤◌, ◌⊎◌, ◌==◌, Bool, true, false, IsTrue, refl, List, [], ◌∷◌, ◌++◌}
+-- A device on a wire behind its shadow: what it sends for a datagram, and what it does step by step (ETG.1000.4, slave information interface).
+use Rattle.std.specs.Prelude.{◌≡◌, ℕ, ◌+◌, ◌<◌, ◌⊎◌, ◌==◌, Bool, false, IsTrue, refl, List, [], ◌∷◌, ◌++◌}
 use Rattle.std.specs.Prelude.{Option, Some, None, slice_get}
 use Rattle.std.specs.Prelude.{slice_index, if◌then◌else◌}
 use Rattle.std.specs.List.{All}
-use Rattle.std.proofs.Common.{sym, subst}
-use Rattle.std.proofs.Math.Nat.{le_trans}
+use Rattle.std.proofs.Common.{inl, inr}
 use Rattle.ecat_frame.specs.Frame.{Pdu}
 use Rattle.esc_model.specs.Bytes.{station_of, word_at}
 use Rattle.esc_model.specs.Orders.{station, poll_order}
 use Rattle.esc_model.specs.declared.rest.WordWrite.{WordWrite}
-use Rattle.esc_model.specs.SlaveHalf.{SlaveHalf, Idle, is_busy, in_flight, MayLeave}
-use Rattle.site_core.specs.State.{State, Seen, Pair, Leaves, clock}
-use Rattle.site_shadow.specs.Following.{first_of, LeftTowards, Extends, GoesOn, IsUnasked}
-use Rattle.site_shadow.proofs.Towards.{Extends-first, Extends-clock, Extends-towards}
+use Rattle.esc_model.specs.SlaveHalf.{SlaveHalf, Idle, is_busy, in_flight}
+use Rattle.esc_model.specs.Datagrams.{served_datagram}
+use Rattle.site_core.specs.State.{Seen, with_half}
+use Rattle.site_shadow.specs.Following.{Extends, GoesOn, IsUnasked}
+use Rattle.site_shadow.specs.Resting.{RestsAs}
 use Rattle.site_shadow.specs.declared.device.Resting.{Resting}
 use Rattle.site_shadow.specs.declared.device.Resting.TheVariants as resting
 use Rattle.wire_frames.specs.Sending.{IsForEeprom}
 use Rattle.site_wire.specs.Due.{WritesControl, IsFit, IsOwn}
 use Rattle.site_wire.specs.Known.{IsKnown}
-use Rattle.site_wire.specs.After.{IsAfter}
 use Rattle.site_wire.specs.Answers.{shown_status}
 use Rattle.site_wire.specs.Answering.{shown_by}
 use Rattle.site_wire.specs.declared.sending.Exchange.{Exchange}
-use Rattle.site_wire.specs.Sent.{Exchanged, exchanged, exchanges, HasSent, Sends}
-use Rattle.site_wire.specs.RealSlaves.{Lives, IsSoFar}
-use Rattle.site_wire.specs.Journal.{JournalFollows, journal_on}
+use Rattle.site_wire.specs.Sent.{Exchanged, exchanged, exchanges, Sends}
+use Rattle.site_wire.specs.RealSlaves.{Lives}
+use Rattle.site_file.specs.Asking.{HasLog}
+use Rattle.site_wire.specs.Journal.{JournalStep}
 use Rattle.site_wire.specs.Parts.{AreFor}
 use Rattle.site_wire.specs.declared.amending.Tried.{Tried}
 use Rattle.site_wire.specs.declared.amending.Tried.TheVariants as tried
@@ -151,98 +151,98 @@ pub record SendsNothing {L F C : Type 0} (old new : WireDevice L F C) : Type 0 w
   pub sent : new.sender.log.all ≡ old.sender.log.all
   pub over : new.is_over ≡ false → old.is_over ≡ false
 
--- WHAT REAL SLAVES ARE BEHIND IT
+-- STEP BY STEP
 
--- Where this was sent since a site began: a real slave at the station address of its place that was after its half then is after its half now,
--- if it could have answered so.
-abbrev pub SlavesFollow : List Exchanged → (begun now : List SlaveHalf) → Type 0
-SlavesFollow log begun now = (slave : ℕ) (first half real later : SlaveHalf) → slice_get begun slave ≡ Some first
-    → slice_get now slave ≡ Some half → first.station ≡ station slave → IsAfter first real → Lives log real later → IsAfter half later
+-- The halves stay, unless the site stops.
+abbrev pub KeepsHalves : (old new : Seen) → Type 0
+KeepsHalves old new = ¬ IsTrue new.is_stopped → new.state.halves ≡ old.state.halves
 
--- WHAT A POWER CUT LEAVES OF THEM
+-- What is sent for a datagram: a device that is over sends nothing; any other, of whose journal no call has failed, carries the frame.
+pub data SendsFrame {L F C : Type 0} (slave : ℕ) (half : SlaveHalf) (frame : List Pdu) (result : Resting) (before after : WireDevice L F C) : Type 0 where
+  was_over : IsTrue before.is_over → after ≡ before → SendsFrame slave half frame result before after
+  goes : before.is_over ≡ false → before.journal.has_failed ≡ false
+      → CarriesFrame slave half frame before.sender.log.all after.sender.log.all after.is_over result → SendsFrame slave half frame result before after
 
--- Where this was sent since a site began: of a real slave at the station address of its place that was after its half then, and could have answered
--- so, a power cut leaves what it may leave of its half in this state.
-abbrev pub SlavesLeave : List Exchanged → (begun now : List SlaveHalf) → Type 0
-SlavesLeave sent begun now = (slave : ℕ) (first half real later : SlaveHalf) (left : List ℕ) → slice_get begun slave ≡ Some first
-    → slice_get now slave ≡ Some half → first.station ≡ station slave → IsAfter first real → Lives sent real later → MayLeave later left
-    → MayLeave half left
+-- The half of a slave becomes idle as the device says, and takes the datagram at index `k` of a frame, for which this is sent. Where the device is
+-- over then, the half stays as it is before it.
+pub record Carried {L F C : Type 0} (old : Seen) (before : WireDevice L F C) (new : Seen) (after : WireDevice L F C) : Type 0 where
+  pub slave : ℕ
+  pub half : SlaveHalf
+  pub here : slice_get old.state.halves slave ≡ Some half
+  pub frame : List Pdu
+  pub k : ℕ
+  pub d : Pdu
+  pub at : slice_get frame k ≡ Some d
+  pub result : Resting
+  pub rested : SlaveHalf
+  pub rests : RestsAs result half rested
+  pub new_is : new.state ≡ with_half old.state slave (served_datagram rested d).half
+  pub running : old.is_stopped ≡ false
+  pub extends : Extends old new
+  pub sends : SendsFrame slave half frame result before after
+  pub over : IsTrue after.is_over → result ≡ resting.Stays
+  pub journal : after.journal ≡ before.journal
 
--- What a power cut leaves of this state, it could have left of the site towards this time of its clock.
-pub record IsTowards (seen : Seen) (state : State) : Type 0 where
-  pub time : ℕ
-  pub early : time ≤ clock seen
-  pub left : (pair : Pair) → Leaves state pair → LeftTowards seen time pair
+-- One step: what the site does, and what its device asks the journal's file and sends to the slaves in it.
+pub data Step {L F C : Type 0} (old : Seen) (before : WireDevice L F C) (new : Seen) (after : WireDevice L F C) : Type 0 where
+  -- nothing is asked or sent
+  idles : GoesOn old new → KeepsHalves old new → after.journal ≡ before.journal → SendsNothing before after → Step old before new after
+  -- a call on the disk
+  asks : old.is_stopped ≡ false → JournalStep old before.journal new after.journal → KeepsHalves old new → SendsNothing before after
+      → Step old before new after
+  -- a slave's half takes a datagram
+  carried : Carried old before new after → Step old before new after
 
--- There is a state of the site, now or before, of which a power cut may leave what it leaves of all real slaves where this was sent.
-pub record LeavesNoMore (sent : List Exchanged) (seen : Seen) : Type 0 where
-  pub state : State
-  pub towards : IsTowards seen state
-  pub slaves : SlavesLeave sent (first_of seen).halves state.halves
+-- any number of steps
+pub data Run {L F C : Type 0} (old : Seen) (before : WireDevice L F C) : (new : Seen) (after : WireDevice L F C) → Type 0 where
+  none : Run old before old before
+  more : (mid new : Seen) (half_way after : WireDevice L F C) → Run old before mid half_way → Step mid half_way new after → Run old before new after
 
--- That is so at each moment since the site began, also with a datagram under way.
-abbrev pub CutsLeaveNoMore : List Exchanged → Seen → Type 0
-CutsLeaveNoMore log seen = (part : List Exchanged) → IsSoFar log part → LeavesNoMore part seen
+-- The device was put behind the site before its first call, where its logs begin, and these steps led both there.
+pub record HasFollowed {L F C : Type 0} (device : WireDevice L F C) (seen : Seen) : Type 0 where
+  pub first : Seen
+  pub new : first.past ≡ []
+  pub began : WireDevice L F C
+  pub unasked : HasLog began.journal.asking.calls []
+  pub unsent : began.sender.log.all ≡ []
+  pub run : Run first began seen device
 
--- it stays so
-pub leaves_on : (old new : Seen) (sent : List Exchanged) → Extends old new → LeavesNoMore sent old → LeavesNoMore sent new
-leaves_on old new sent extends leaves = record {
-  state = leaves.state;
-  towards = record {
-    time = leaves.towards.time;
-    early = le_trans leaves.towards.early (Extends-clock old new extends);
-    left = λ pair left. Extends-towards old new leaves.towards.time pair extends leaves.towards.early (leaves.towards.left pair left);
-  };
-  slaves = subst (λ (begun : State). SlavesLeave sent begun.halves leaves.state.halves) (sym (Extends-first old new extends)) leaves.slaves;
-}
+-- It was put behind a site that had seen a call: it has asked and sent nothing, and refuses to.
+pub record Refuses {L F C : Type 0} (device : WireDevice L F C) : Type 0 where
+  pub unasked : HasLog device.journal.asking.calls []
+  pub unsent : device.sender.log.all ≡ []
+  pub failed : IsTrue device.journal.has_failed
+  pub over : IsTrue device.is_over
 
--- The slaves have followed the site behind a device on a wire: unless it or the site has stopped. At each moment, also of a stop and after it,
--- a power cut has left of them what it could have left of the site.
-pub record SlavesFollowed {L F C : Type 0} (device : WireDevice L F C) (seen : Seen) : Type 0 where
-  pub log : List Exchanged
-  pub has : HasSent device.sender.log.all log
-  pub follow : device.is_over ≡ false → seen.is_stopped ≡ false → SlavesFollow log (first_of seen).halves seen.state.halves
-  pub cuts : CutsLeaveNoMore log seen
-
--- they go on where no half changes
-pub still_follows : {L F C : Type 0} (device : WireDevice L F C) (old new : Seen) → Extends old new
-    → (¬ IsTrue new.is_stopped → new.state.halves ≡ old.state.halves) → SlavesFollowed device old → SlavesFollowed device new
-still_follows device old new extends same follows = record {
-  log = follows.log;
-  has = follows.has;
-  follow = λ going running.
-      subst (λ (halves : List SlaveHalf). SlavesFollow follows.log (first_of new).halves halves) (sym (same (never running)))
-      (subst (λ (begun : State). SlavesFollow follows.log begun.halves old.state.halves) (sym (Extends-first old new extends))
-      (follows.follow going (before old.is_stopped refl running)));
-  cuts = λ part so_far. leaves_on old new part extends (follows.cuts part so_far);
-}
-  where
-    never : {b : Bool} → b ≡ false → ¬ IsTrue b
-    never is_false is_true = absurd cc
-
-    before : (b : Bool) → old.is_stopped ≡ b → new.is_stopped ≡ false → b ≡ false
-    before false is running = refl
-    before true is running = absurd (let over : new.is_stopped ≡ true = extends.stopped is in cc)
-
--- A device on a wire has followed its site: so have the real slaves, and the journal's file. As long as it isn't over, no call on the journal has
--- failed, and all was sent to slaves on which the device of its part works.
+-- A device on a wire has followed its site, step by step, from before the first call on; or it was put there later. As long as it isn't over, no call
+-- on the journal has failed, and all was sent to slaves on which the device of its part works.
 pub record WireFollows {L F C : Type 0} (device : WireDevice L F C) (seen : Seen) : Type 0 where
-  pub slaves : SlavesFollowed device seen
-  pub journal : JournalFollows device.journal seen
+  pub follows : HasFollowed device seen ⊎ Refuses device
   pub sound : device.is_over ≡ false → device.journal.has_failed ≡ false
   pub own : device.is_over ≡ false → AreFor device.journal.asking.part (exchanges device.sender.log.all)
 
--- a step in which nothing changes that it holds
-pub stays_so : {L F C : Type 0} (device : WireDevice L F C) (old new : Seen) → GoesOn old new
-    → (¬ IsTrue new.is_stopped → new.state.halves ≡ old.state.halves) → WireFollows device old → WireFollows device new
-stays_so device old new goes halves follows = record {
-  slaves = still_follows device old new goes.extends halves follows.slaves;
-  journal = journal_on device.journal old new goes follows.journal;
-  sound = follows.sound;
-  own = follows.own;
+-- one step more
+pub one_step : {L F C : Type 0} (old new : Seen) (before after : WireDevice L F C) → Step old before new after → HasFollowed before old
+    → HasFollowed after new
+one_step old new before after step so_far = record {
+  first = so_far.first;
+  new = so_far.new;
+  began = so_far.began;
+  unasked = so_far.unasked;
+  unsent = so_far.unsent;
+  run = more old new before after so_far.run step;
 }
+
+-- a step in which nothing changes that it holds
+pub stays_so : {L F C : Type 0} (device : WireDevice L F C) (old new : Seen) → GoesOn old new → KeepsHalves old new → WireFollows device old
+    → WireFollows device new
+stays_so {L} {F} {C} device old new goes_on halves so_far = record { follows = by so_far.follows; sound = so_far.sound; own = so_far.own }
+  where
+    by : HasFollowed device old ⊎ Refuses device → HasFollowed device new ⊎ Refuses device
+    by (inl followed) = inl (one_step old new device device (idles goes_on halves refl (record { sent = refl; over = λ going. going })) followed)
+    by (inr refuses) = inr refuses
 
 -- the law of the trait: a step in which the device isn't asked
 pub follows_on : {L F C : Type 0} (device : WireDevice L F C) (old new : Seen) → IsUnasked old new → WireFollows device old
     → WireFollows device new
-follows_on device old new unasked follows = stays_so device old new unasked.goes unasked.halves follows
+follows_on device old new unasked so_far = stays_so device old new unasked.goes unasked.halves so_far

@@ -1,7 +1,5 @@
 -- Laws of the journal's file, and of real slaves with it, behind a device on a wire.
-use Rattle.std.specs.Prelude.{◌≡◌, ℕ, false, List, length, Some, slice_get}
-use Rattle.esc_model.specs.Orders.{station}
-use Rattle.esc_model.specs.SlaveHalf.{SlaveHalf, MayLeave}
+use Rattle.std.specs.Prelude.{◌≡◌, false, List}
 use Rattle.site_core.specs.Disk.{StopImage}
 use Rattle.site_core.specs.State.{Seen, Pair, Leaves}
 use Rattle.site_shadow.specs.Following.{first_of}
@@ -12,34 +10,15 @@ use Rattle.site_file.specs.Asking.{HasLog}
 use Rattle.site_file.specs.Files.{File, BecomesBy}
 use Rattle.site_file.specs.Held.{is_same, of_file}
 use Rattle.site_file.specs.AllFiles.{Holds, FilesFollow}
-use Rattle.site_wire.specs.After.{IsAfter}
-use Rattle.site_wire.specs.Sent.{Exchanged, exchanges}
-use Rattle.site_wire.specs.RealSlaves.{Lives}
+use Rattle.site_wire.specs.Sent.{exchanges}
 use Rattle.site_wire.specs.Following.{WireFollows}
+use Rattle.site_wire.specs.Moments.{AreLeftOfSlaves}
 use Rattle.site_wire.specs.declared.device.WireDevice.{WireDevice}
 
 -- A file that held the disk with which the site began, as the device's log began, has followed it so from then on.
 abbrev pub JournalIsFollowed : (L F C : Type 0) → Type 0
 JournalIsFollowed L F C = (device : WireDevice L F C) (seen : Seen) → WireFollows device seen → (begun : LineFile → File)
     → Holds (first_of seen) Journal (begun Journal) → FilesFollow 0 (is_same Journal) begun device.journal seen
-
--- A power cut leaves these words of a real slave at the station address of its place that was after its half, and could have answered so to what was
--- sent.
-pub record IsLeftOfSlave (log : List Exchanged) (begun : List SlaveHalf) (slave : ℕ) (left : List ℕ) : Type 0 where
-  pub first : SlaveHalf
-  pub here : slice_get begun slave ≡ Some first
-  pub at : first.station ≡ station slave
-  pub real : SlaveHalf
-  pub later : SlaveHalf
-  pub after : IsAfter first real
-  pub lives : Lives log real later
-  pub leaves : MayLeave later left
-
--- A power cut leaves these words of real slaves, one for each half of the site, each of which was after its half as the site began, and could have
--- answered so to what was sent.
-pub record AreLeftOfSlaves (log : List Exchanged) (begun now : List SlaveHalf) (words : List (List ℕ)) : Type 0 where
-  pub count : length words ≡ length now
-  pub each : (slave : ℕ) (left : List ℕ) → slice_get words slave ≡ Some left → IsLeftOfSlave log begun slave left
 
 -- Between two calls, as long as neither the device nor the site has stopped: what a power cut leaves at that moment of the journal's file and of all
 -- real slaves, it may leave of the site. The file held the disk as the device's log began, and became this by these calls.

@@ -12,4 +12,5 @@ pub mod RealSlaves
 pub mod Journal
 pub mod After
 pub mod Following
+pub mod Moments
 pub mod JournalLaws

@@ -15,8 +15,7 @@ use crate::reach::Reach;
 use crate::sending::Sender;
 use ecat_frame::Command;
 use esc_model::{RomHalf, WordWrite};
-use esc_rom::POLLS;
-use rom_steps::{CONTENT, CONTROL, write_content};
+use rom_steps::{CONTENT, CONTROL, POLLS, write_content};
 use std::rt::Clock;
 use wire_frames::{ATTEMPTS, Pace, UNCOUNTED};
 

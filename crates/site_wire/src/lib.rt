@@ -17,7 +17,10 @@ mod sending;
 
 pub use device::{WireDevice, WireLog, WireSite};
 pub use faults::{Difference, LeftAs, LineSeen, OpenWord, StopReason};
-pub use laws::{brought_up_follows, defined_slave_serves, journal_follows, leave_no_more};
+pub use laws::{
+    brought_up_follows, defined_slave_serves, journal_follows, leave_no_more,
+    moments_leave_no_more, slaves_follow,
+};
 pub use order::Order;
 pub use parts::TellsPart;
 pub use reach::{LiveLine, LockedLine, Reach, SharedLine};

@@ -3,7 +3,7 @@ ghost use Rattle.std.specs.Prelude.{◌≡◌, ◌<◌, ◌≤◌, false, IfOk};
 
 use ecat_frame::fp;
 use esc_model::station_address;
-use esc_rom::TRIES;
+use rom_steps::TRIES;
 use wire_frames::{
     APRD, APWR, BWR, DL_ALIAS, Last, LineFault, NumberedWire, STATION, SlaveFault, Stations, Wire,
     ask, count_answers, read_station, sight,

@@ -4,8 +4,7 @@ ghost use Rattle.wire_bringup.specs.Handing.{IsHanded, IsWritten, AllHanded};
 
 use crate::found::SlaveState;
 use ecat_frame::Command;
-use esc_rom::TRIES;
-use rom_steps::ACCESS;
+use rom_steps::{ACCESS, TRIES};
 use wire_frames::{Handed, NumberedWire, Wire};
 use wire_words::tell;
 

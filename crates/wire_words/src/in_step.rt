@@ -9,7 +9,7 @@ ghost use Rattle.wire_words.specs.Reading.{NothingReported, IsUnderWay, AllKept}
 use crate::ahead::{Ahead, keep_read};
 use crate::reader::{Reader, step};
 use ecat_frame::Frame;
-use esc_rom::POLLS;
+use rom_steps::POLLS;
 use std::rt::Clock;
 use wire_frames::{LineFault, NumberedWire, Pace, Room, Wire};
 

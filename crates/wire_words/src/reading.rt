@@ -7,7 +7,7 @@ ghost use Rattle.wire_words.specs.declared.reading.ReadSize.TheVariants.{Eight};
 use crate::reader::{Reader, Stepped, step};
 use crate::telling::Hitch;
 use ecat_frame::Frame;
-use esc_rom::POLLS;
+use rom_steps::POLLS;
 use std::rt::Clock;
 use wire_frames::{ATTEMPTS, KEPT, NumberedWire, Pace, Reply, Wire};
 

@@ -10,7 +10,7 @@ ghost use Rattle.wire_words.specs.declared.telling.Hitch.TheVariants as hitch;
 
 use ecat_frame::{Command, fp};
 use esc_model::station_address;
-use esc_rom::TRIES;
+use rom_steps::TRIES;
 use std::alloc::{AllocError, AllocFailed};
 use wire_frames::{Last, NumberedWire, Reply, Wire, ask};
 

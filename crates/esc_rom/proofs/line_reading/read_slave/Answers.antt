@@ -23,7 +23,7 @@ returns-in_err-open_slave-clause-parts g c =
 pub returns-in_err-open_slave-clause-frames : goal.returns-in_err-open_slave-clause-frames
 returns-in_err-open_slave-clause-frames g c =
     let fault = c.in_err-open_slave.field-0.0 in
-    reads-unopened c.args.slave (slice_index (g.S.Site.line c.args.site.now).sizes c.args.slave) c.from_residual.result fault (handed_on c.from_residual.result fault c.from_residual.ensures.1) c.in_err-open_slave.ensures.frames.takes
+    reads-unopened c.args.slave (slice_index (g.S.Site.line c.args.site.now).sizes c.args.slave) c.from_residual.result fault (handed_on c.from_residual.result fault c.from_residual.ensures.1) c.in_err-open_slave.ensures.frames
 
 pub returns-clause-parts : goal.returns-clause-parts
 returns-clause-parts g c =
@@ -36,8 +36,8 @@ pub returns-clause-frames : goal.returns-clause-frames
 returns-clause-frames g c =
     let opened = g.S.Site.seen c.open_slave.new.site in
     let new = g.S.Site.seen c.read_all.new.site in
-    reads-opened c.args.slave (slice_index (g.S.Site.line c.args.site.now).sizes c.args.slave) c.read_all.result c.in_ok-open_slave.ensures.frames.takes
-    (subst (λ (line : Line). Takes (ReadsAllBy c.args.slave (slice_index line.sizes c.args.slave)) opened c.read_all.result new) c.in_ok-open_slave.ensures.line c.read_all.ensures.frames.takes)
+    reads-opened c.args.slave (slice_index (g.S.Site.line c.args.site.now).sizes c.args.slave) c.read_all.result c.in_ok-open_slave.ensures.frames
+    (subst (λ (line : Line). Takes (ReadsAllBy c.args.slave (slice_index line.sizes c.args.slave)) opened c.read_all.result new) c.in_ok-open_slave.ensures.line c.read_all.ensures.frames)
 
 pub read_all-requires : goal.read_all-requires
 read_all-requires g c = subst (λ (line : Line). Owns line c.args.slave) (sym c.in_ok-open_slave.ensures.line) (c.requires.slaves c.args.slave c.requires.inside)

@@ -83,11 +83,9 @@ returns-in_err-read_slave-clause-frames g c =
     let i = c.loop-slave.slave in
     let inside : i < length line.sizes = let all = c.slaves-slave-end.ensures.slaves in let below = c.loop-slave-test.true in omega arith in
     let fault = c.in_err-read_slave.field-0.0 in
-    record {
-      takes = subst (λ (r : _). Takes (ReadsLineBy line.sizes) a r d) (sym (handed_on c.from_residual.result fault c.from_residual.ensures.1))
-          (line-breaks line.sizes i c.loop-slave.invariant.frames fault inside
-          (subst (λ (l : Line). Takes {T = List ℕ} (ReadsSlaveBy i (slice_index l.sizes i)) b (Err fault) d) c.loop-slave.invariant.line c.in_err-read_slave.ensures.frames));
-    }
+    subst (λ (r : _). Takes (ReadsLineBy line.sizes) a r d) (sym (handed_on c.from_residual.result fault c.from_residual.ensures.1))
+    (line-breaks line.sizes i c.loop-slave.invariant.frames fault inside
+    (subst (λ (l : Line). Takes {T = List ℕ} (ReadsSlaveBy i (slice_index l.sizes i)) b (Err fault) d) c.loop-slave.invariant.line c.in_err-read_slave.ensures.frames))
 
 pub returns-in_err-read_slave-clause-kept : goal.returns-in_err-read_slave-clause-kept
 returns-in_err-read_slave-clause-kept g c =
@@ -112,11 +110,9 @@ returns-in_err-push-clause-frames g c =
     let i = c.loop-slave.slave in
     let inside : i < length line.sizes = let all = c.slaves-slave-end.ensures.slaves in let below = c.loop-slave-test.true in omega arith in
     let words = c.in_ok-read_slave.field-0 in
-    record {
-      takes = subst (λ (r : _). Takes (ReadsLineBy line.sizes) a r d) (sym (handed_on c.from_residual-in_err-push.result rom.Memory c.from_residual-in_err-push.ensures.1))
-          (line-no-memory line.sizes i inside (first-more line.sizes i c.loop-slave.invariant.frames words
-          (subst (λ (l : Line). Takes (ReadsSlaveBy i (slice_index l.sizes i)) b (Ok words) d) c.loop-slave.invariant.line c.in_ok-read_slave.ensures.frames)));
-    }
+    subst (λ (r : _). Takes (ReadsLineBy line.sizes) a r d) (sym (handed_on c.from_residual-in_err-push.result rom.Memory c.from_residual-in_err-push.ensures.1))
+    (line-no-memory line.sizes i inside (first-more line.sizes i c.loop-slave.invariant.frames words
+    (subst (λ (l : Line). Takes (ReadsSlaveBy i (slice_index l.sizes i)) b (Ok words) d) c.loop-slave.invariant.line c.in_ok-read_slave.ensures.frames)))
 
 pub returns-in_err-push-clause-kept : goal.returns-in_err-push-clause-kept
 returns-in_err-push-clause-kept g c =
@@ -138,4 +134,4 @@ returns-clause-frames g c =
     let all = c.slaves-slave-end.ensures.slaves in
     let over = c.loop-slave-test.false in
     let end = c.loop-slave.auto.slave-end in
-    record { takes = line-read line.sizes c.loop-slave.slave c.loop-slave.plant (omega arith) c.loop-slave.invariant.frames }
+    line-read line.sizes c.loop-slave.slave c.loop-slave.plant (omega arith) c.loop-slave.invariant.frames

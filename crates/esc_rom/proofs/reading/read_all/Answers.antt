@@ -37,28 +37,20 @@ returns-in_err-words-clause-reads g c =
 
 pub returns-in_err-wait_and_fill-clause-frames : goal.returns-in_err-wait_and_fill-clause-frames
 returns-in_err-wait_and_fill-clause-frames g c =
-    record {
-      takes = read-cut-by c.args.slave (c.in_ok-words.ensures.count ∙ c.words_of.ensures.size) c.from_residual-in_err-wait_and_fill.result
-          (rom_stopped c.from_residual-in_err-wait_and_fill.result c.from_residual-in_err-wait_and_fill.ensures.1) c.in_err-wait_and_fill.ensures.frames;
-    }
+    read-cut-by c.args.slave (c.in_ok-words.ensures.count ∙ c.words_of.ensures.size) c.from_residual-in_err-wait_and_fill.result
+    (rom_stopped c.from_residual-in_err-wait_and_fill.result c.from_residual-in_err-wait_and_fill.ensures.1) c.in_err-wait_and_fill.ensures.frames
 
 pub returns-then-branch-clause-frames : goal.returns-then-branch-clause-frames
 returns-then-branch-clause-frames g c =
-    record {
-      takes = read-by c.args.slave (c.in_ok-words.ensures.count ∙ c.words_of.ensures.size) c.wait_and_fill.new.words
-          (takes-value (FillsBy c.args.slave (length c.in_ok-words.words)) c.if-branch.true c.in_ok-wait_and_fill.ensures.frames);
-    }
+    read-by c.args.slave (c.in_ok-words.ensures.count ∙ c.words_of.ensures.size) c.wait_and_fill.new.words
+    (takes-value (FillsBy c.args.slave (length c.in_ok-words.words)) c.if-branch.true c.in_ok-wait_and_fill.ensures.frames)
 
 pub returns-clause-frames : goal.returns-clause-frames
 returns-clause-frames g c =
-    record {
-      takes = unread-by c.args.slave (c.in_ok-words.ensures.count ∙ c.words_of.ensures.size)
-          (takes-value (FillsBy c.args.slave (length c.in_ok-words.words)) c.if-branch.false c.in_ok-wait_and_fill.ensures.frames);
-    }
+    unread-by c.args.slave (c.in_ok-words.ensures.count ∙ c.words_of.ensures.size)
+    (takes-value (FillsBy c.args.slave (length c.in_ok-words.words)) c.if-branch.false c.in_ok-wait_and_fill.ensures.frames)
 
 pub returns-in_err-words-clause-frames : goal.returns-in_err-words-clause-frames
 returns-in_err-words-clause-frames g c =
-    record {
-      takes = read-refused-by c.args.slave (slice_index (g.S.Site.line c.args.site.now).sizes c.args.slave) (g.S.Site.seen c.args.site.now) c.from_residual.result
-          (rom_memory c.from_residual.result c.in_err-words.field-0.0 c.from_residual.ensures.1 c.in_err-words.ensures.memory);
-    }
+    read-refused-by c.args.slave (slice_index (g.S.Site.line c.args.site.now).sizes c.args.slave) (g.S.Site.seen c.args.site.now) c.from_residual.result
+    (rom_memory c.from_residual.result c.in_err-words.field-0.0 c.from_residual.ensures.1 c.in_err-words.ensures.memory)

@@ -4,8 +4,9 @@ use Rattle.esc_rom.specs.Runs.{Ran, Waited}
 use Rattle.esc_rom.specs.WordPairs.{ReadsPair, ReadsAll}
 use Rattle.esc_rom.proofs.Runs.{Ran-reported, Ran-cut, IsCut-more, cut_as}
 use Rattle.esc_rom.proofs.AllWords.{Filled, filled_none, filled_more, filled_not, filled_all, never_rests}
-use Rattle.esc_rom.specs.Courses.{Ends, OnlyIf, UpTo}
-use Rattle.esc_rom.specs.Sent.{WaitsBy, ReadsPairBy, ReadsNext}
+use Rattle.rom_steps.specs.Courses.{Ends, OnlyIf, InTurn}
+use Rattle.rom_steps.specs.Accesses.{WaitsBy, ReadsPairBy}
+use Rattle.esc_rom.specs.Sent.{ReadsNext}
 use Rattle.esc_rom.proofs.Courses.{takes-none, takes-value, takes-then, takes-cut, rounds-none, rounds-more, rounds-all, rounds-end, rounds-err}
 use Rattle.esc_rom.proofs.reading.wait_and_fill.Goals as goal
 
@@ -85,11 +86,11 @@ returns-clause-runs g c =
     filled_all (omega arith) (omega arith) c.loop-pair.invariant.ran
 
 pub returns-in_err-_rested-clause-frames : goal.returns-in_err-_rested-clause-frames
-returns-in_err-_rested-clause-frames g c = takes-cut (WaitsBy c.args.slave) (λ found. OnlyIf (is_some found) (UpTo (length c.args.words.now / 2) (ReadsNext c.args.slave) true)) c.from_residual.result c.from_residual.ensures.0 c.in_err-_rested.ensures.frames
+returns-in_err-_rested-clause-frames g c = takes-cut (WaitsBy c.args.slave) (λ found. OnlyIf (is_some found) (InTurn (length c.args.words.now / 2) (ReadsNext c.args.slave) true)) c.from_residual.result c.from_residual.ensures.0 c.in_err-_rested.ensures.frames
 
 pub returns-in_default-clause-frames : goal.returns-in_default-clause-frames
 returns-in_default-clause-frames g c =
-    takes-then (WaitsBy c.args.slave) (λ found. OnlyIf (is_some found) (UpTo (length c.args.words.now / 2) (ReadsNext c.args.slave) true)) None (takes-value (WaitsBy c.args.slave) c.in_default.is c.in_ok-_rested.ensures.frames)
+    takes-then (WaitsBy c.args.slave) (λ found. OnlyIf (is_some found) (InTurn (length c.args.words.now / 2) (ReadsNext c.args.slave) true)) None (takes-value (WaitsBy c.args.slave) c.in_default.is c.in_ok-_rested.ensures.frames)
     (takes-none false (g.S.Site.seen c.wait_idle.new.site))
 
 pub returns-in_err-found-clause-frames : goal.returns-in_err-found-clause-frames
@@ -99,7 +100,7 @@ returns-in_err-found-clause-frames g c =
     let same_long : length c.loop-pair.words ≡ length c.args.words.now = c.loop-pair.invariant.length in
     let so = c.loop-pair.invariant.frames in
     let result = c.from_residual-in_err-found.result in
-    takes-then (WaitsBy c.args.slave) (λ found. OnlyIf (is_some found) (UpTo (length c.args.words.now / 2) (ReadsNext c.args.slave) true)) (Some so.rested) so.waits
+    takes-then (WaitsBy c.args.slave) (λ found. OnlyIf (is_some found) (InTurn (length c.args.words.now / 2) (ReadsNext c.args.slave) true)) (Some so.rested) so.waits
     (rounds-err (ReadsNext c.args.slave) true (length c.args.words.now / 2) c.loop-pair.pair result (omega arith) c.from_residual-in_err-found.ensures.0 so.rounds
     (takes-cut (ReadsPairBy c.args.slave (2 * c.loop-pair.pair)) (λ words. Ends (is_some words)) result c.from_residual-in_err-found.ensures.0 c.in_err-found.ensures.frames))
 
@@ -109,7 +110,7 @@ returns-in_default-2-clause-frames g c =
     let long : c.len-pair-end.result ≡ length c.args.words.now = c.len-pair-end.ensures.len in
     let same_long : length c.loop-pair.words ≡ length c.args.words.now = c.loop-pair.invariant.length in
     let so = c.loop-pair.invariant.frames in
-    takes-then (WaitsBy c.args.slave) (λ found. OnlyIf (is_some found) (UpTo (length c.args.words.now / 2) (ReadsNext c.args.slave) true)) (Some so.rested) so.waits
+    takes-then (WaitsBy c.args.slave) (λ found. OnlyIf (is_some found) (InTurn (length c.args.words.now / 2) (ReadsNext c.args.slave) true)) (Some so.rested) so.waits
     (rounds-end (ReadsNext c.args.slave) true (length c.args.words.now / 2) c.loop-pair.pair (Ok false) (omega arith) (λ e. absurd cc) so.rounds
     (takes-then (ReadsPairBy c.args.slave (2 * c.loop-pair.pair)) (λ words. Ends (is_some words)) None (takes-value (ReadsPairBy c.args.slave (2 * c.loop-pair.pair)) c.in_default-2.is c.in_ok-found.ensures.frames)
     (takes-none false (g.S.Site.seen c.read_pair.new.site))))
@@ -120,5 +121,5 @@ returns-clause-frames g c =
     let long : c.len-pair-end.result ≡ length c.args.words.now = c.len-pair-end.ensures.len in
     let same_long : length c.loop-pair.words ≡ length c.args.words.now = c.loop-pair.invariant.length in
     let so = c.loop-pair.invariant.frames in
-    takes-then (WaitsBy c.args.slave) (λ found. OnlyIf (is_some found) (UpTo (length c.args.words.now / 2) (ReadsNext c.args.slave) true)) (Some so.rested) so.waits
+    takes-then (WaitsBy c.args.slave) (λ found. OnlyIf (is_some found) (InTurn (length c.args.words.now / 2) (ReadsNext c.args.slave) true)) (Some so.rested) so.waits
     (rounds-all (ReadsNext c.args.slave) true (length c.args.words.now / 2) c.loop-pair.pair (omega arith) so.rounds)

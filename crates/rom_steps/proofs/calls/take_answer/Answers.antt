@@ -1,4 +1,4 @@
-use Rattle.std.proofs.Common.{◌≡◌, ◌≢◌, ℕ, refl, sym, arith}
+use Rattle.std.proofs.Common.{refl, sym, arith}
 use Rattle.rom_steps.specs.Calls.Steps.{moved, over, no_step}
 use Rattle.rom_steps.specs.Calls.StepsWith.{steps, other_length}
 use Rattle.rom_steps.proofs.Numbered.{answer-back}

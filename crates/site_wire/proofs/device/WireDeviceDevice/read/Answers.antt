@@ -9,6 +9,6 @@ pub returns-clause-follows : goal.returns-clause-follows
 returns-clause-follows g c =
     read_asks c.args.self.now c.end_call.new.self c.end_call.result
     (ap (λ (j : FileDevice _). j.asking.part) c.end_call.ensures.journal ∙ c.read-passing.ensures.part)
+    (record { sent = c.end_call.ensures.quiet.sent; over = c.end_call.ensures.quiet.over }) c.end_call.ensures.well
     (handed_on (ReadsJournal c.args.self.now.journal) c.read-passing.result c.end_call.result c.read-passing.new.self c.end_call.new.self.journal
     c.end_call.ensures.same c.end_call.ensures.journal c.read-passing.ensures.asks)
-    (record { sent = c.end_call.ensures.quiet.sent; over = c.end_call.ensures.quiet.over }) c.end_call.ensures.well

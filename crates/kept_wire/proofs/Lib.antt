@@ -1,0 +1,2 @@
+pub mod InJobs
+pub mod Keeping
