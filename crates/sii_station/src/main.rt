@@ -15,33 +15,36 @@ use system_files::{FileStore, hold_streams, open_text};
 use wire_frames::EthernetWire;
 
 fn main(rt: HostRuntime) -> ExitCode {
-    let faults = &mut rt.stderr();
-    let status = match words(&rt) {
-        Ok((words, _held)) => {
-            if is_on_wire(&words) {
-                let wire = EthernetWire::new(rt.stdin(), rt.stdout());
-                let number = first_number(&rt);
-                serve_wire(&rt, &words, Connection { wire, number }, faults)
-            } else {
-                serve_files(&rt, &words, faults)
+    let status = match hold_streams(&rt) {
+        Ok(_held) => match words(&rt) {
+            Ok(words) => {
+                if is_on_wire(&words) {
+                    let connection = Connection {
+                        wire: EthernetWire::new(rt.stdin(), rt.stdout()),
+                        number: first_number(&rt),
+                    };
+                    serve_wire(&rt, &words, connection, &mut rt.stderr())
+                } else {
+                    serve_files(&rt, &words, &mut rt.stderr())
+                }
             }
-        }
-        Err(error) => refuse_words(&error, faults),
+            Err(error) => refuse_words(&error, &mut rt.stderr()),
+        },
+        Err(error) => refuse_words(&error, &mut rt.stderr()),
     };
     ExitCode::from(status)
 }
 
-/// The arguments, the program's name first, and what holds the standard streams. With the environment variable `PILZHOON_VERBOSE` a call on files has
-/// `--verbose` too, so that the log of a service has the second line of a fault.
-fn words(rt: &HostRuntime) -> io::Result<(Vec<String>, [Option<File>; 3])> {
-    let held = hold_streams(rt)?;
+/// The arguments, the program's name first. With the environment variable `PILZHOON_VERBOSE` a call on files has `--verbose` too, so that the log of
+/// a service has the second line of a fault.
+fn words(rt: &HostRuntime) -> io::Result<Vec<String>> {
     let mut words: Vec<String> = env::args(rt)?.collect(rt.alloc())?;
     let is_reported = words.iter().any(|word| word.as_str() == "--verbose");
     if !is_reported && !is_on_wire(&words) && env::var(rt, "PILZHOON_VERBOSE").is_ok() {
         let place = words.len().min(1);
         words.insert(place, String::from_str(rt.alloc(), "--verbose")?)?;
     }
-    Ok((words, held))
+    Ok(words)
 }
 
 /// Whether the arguments begin with `--wire`.
