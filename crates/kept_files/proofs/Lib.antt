@@ -2,6 +2,6 @@ pub mod OnFiles
 pub mod Extending
 mod Fixed
 mod AtDesk
-mod Since
-mod InJobs
+pub mod Since
+pub mod InJobs
 pub mod AtDeskOnFiles

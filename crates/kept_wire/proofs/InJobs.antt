@@ -1,19 +1,16 @@
 -- What a power cut leaves of a real slave whose device is anywhere in the job that is out for it.
-use Rattle.std.proofs.Common.{◌≡◌, ◌⊎◌, ◌∙◌, ℕ, zero, suc, ◌<◌, ◌≤◌, List, [], ◌∷◌, ◌++◌, length, drop, take, get_or, Any, Some, slice_get}
-use Rattle.std.proofs.Common.{refl, sym, ap, subst, inl, inr, arith}
+use Rattle.std.proofs.Common.{◌≡◌, ◌∙◌, ℕ, zero, suc, ◌<◌, ◌≤◌, List, [], ◌∷◌, ◌++◌, length, take, get_or, Some, slice_get}
+use Rattle.std.proofs.Common.{refl, sym, ap, subst, arith}
 use Rattle.std.proofs.Math.Nat.{le_trans}
-use Rattle.std.specs.Prelude.{unwrap_or}
-use Rattle.std.specs.Option.{option_map}
 use Rattle.std.proofs.lemmas.Option.{slice_get_within, slice_get-get_or}
 use Rattle.esc_model.specs.SlaveHalf.{SlaveHalf, powered_up, MayLeave}
 use Rattle.esc_model.proofs.Resting.{MayLeave-same}
-use Rattle.site_core.specs.State.{State, Seen, Pair, Moment, Leaves, LeftAt, LeftSince, EachMayLeave, clock}
+use Rattle.site_core.specs.State.{State, Seen, Pair, Leaves, LeftSince, EachMayLeave, clock}
 use Rattle.site_core.specs.Passes.{StaysWithin}
-use Rattle.site_core.specs.Times.{Instant, instant_of, now_of, instant_at, Follows}
-use Rattle.site_core.proofs.Moments.{Any-first, Any-later}
+use Rattle.site_core.specs.Times.{Follows}
 use Rattle.site_core.proofs.StopImages.{StopImage-same}
-use Rattle.site_core.proofs.Times.{instant-stays, slice_get-early, Follows-same, Follows-then, Follows-clock}
-use Rattle.site_shadow.specs.Following.{begin_of, first_of, state_at, LeftTowards}
+use Rattle.site_core.proofs.Times.{Follows-same, Follows-then, Follows-clock}
+use Rattle.site_shadow.specs.Following.{first_of, state_at}
 use Rattle.site_wire.specs.Sent.{Exchanged}
 use Rattle.site_wire.specs.Moments.{sent_by, SlavesLeave, IsLeftOfSlave}
 use Rattle.book_model.specs.declared.next.RomNext.{RomNext}
@@ -26,6 +23,8 @@ use Rattle.station_jobs.specs.Working.{CallsSlave, LeftInCall}
 use Rattle.desk_book.specs.declared.call.Call.{Call}
 use Rattle.desk_book.specs.Logs.{rom_log}
 use Rattle.kept_files.specs.Cuts.{IsAt, SlaveCut}
+use Rattle.kept_files.proofs.InJobs.{call_follows}
+use Rattle.kept_files.proofs.Since.{state_then, since_first, since_towards}
 use Rattle.kept_wire.specs.Keeping.{SlaveOnWire, CutsSlave, in_call, at_rest, SlaveIsCut}
 
 -- ONE SLAVE OF SEVERAL
@@ -51,61 +50,6 @@ left_with (first ∷ halves) (suc slave) half left here may =
     let rest = left_with halves slave half left here may in
     record { words = first.words ∷ rest.words; each = (MayLeave-same first, rest.each); here = rest.here }
 
--- SINCE A TIME
-
-instant_by : (past : List Moment) (time : ℕ) (now : Instant) → begin_of (drop time past) now.state ≡ (unwrap_or (option_map instant_of (slice_get past time)) now).state
-instant_by [] zero now = refl
-instant_by [] (suc time) now = refl
-instant_by (m ∷ past) zero now = refl
-instant_by (m ∷ past) (suc time) now = instant_by past time now
-
--- the state at a time is that of the instant
-state_is : (seen : Seen) (time : ℕ) → state_at seen time ≡ (instant_at seen time).state
-state_is seen time = instant_by seen.past time (now_of seen)
-
-state_then : (a b : Seen) → Follows a b → state_at b (clock a) ≡ a.state
-state_then a b follows = state_is b (clock a) ∙ ap (λ (i : Instant). i.state) follows.goes_on
-
-at_call : (past : List Moment) (from time : ℕ) (moment : Moment) (pair : Pair) → from ≤ time → slice_get past time ≡ Some moment → LeftAt pair moment
-    → Any (LeftAt pair) (drop from past)
-at_call [] from time moment pair early there left = absurd cc
-at_call (m ∷ past) zero zero moment pair early there left =
-    let same : m ≡ moment = cc in Any-first (LeftAt pair) m past (subst (LeftAt pair) (sym same) left)
-at_call (m ∷ past) zero (suc time) moment pair early there left = Any-later (LeftAt pair) m past (at_call past zero time moment pair (omega arith) there left)
-at_call (m ∷ past) (suc from) zero moment pair early there left = absurd (omega (arith, early))
-at_call (m ∷ past) (suc from) (suc time) moment pair early there left = at_call past from time moment pair (omega (arith, early)) there left
-
-at_state : (past : List Moment) (state : State) (from time : ℕ) (pair : Pair) → from ≤ time → Leaves (begin_of (drop time past) state) pair
-    → Leaves state pair ⊎ Any (LeftAt pair) (drop from past)
-at_state [] state from zero pair early leaves = inl leaves
-at_state [] state from (suc time) pair early leaves = inl leaves
-at_state (m ∷ past) state zero zero pair early leaves = inr (Any-first (LeftAt pair) m past (inl leaves))
-at_state (m ∷ past) state zero (suc time) pair early leaves = elim (at_state past state zero time pair (omega arith) leaves) [
-  | inl now ↦ inl now
-  | inr was ↦ inr (Any-later (LeftAt pair) m past was)
-]
-at_state (m ∷ past) state (suc from) zero pair early leaves = absurd (omega (arith, early))
-at_state (m ∷ past) state (suc from) (suc time) pair early leaves = at_state past state from time pair (omega (arith, early)) leaves
-
--- what a power cut could leave at first
-since_first : (mid next : Seen) (pair : Pair) → Follows mid next → Leaves mid.state pair → LeftSince next (clock mid) pair
-since_first mid next pair follows leaves =
-    at_state next.past next.state (clock mid) (clock mid) pair (omega arith)
-    (subst (λ (s : State). Leaves s pair) (sym (state_then mid next follows)) leaves)
-
--- what it could leave towards a time in between
-since_towards : (mid next end : Seen) (time : ℕ) (pair : Pair) → Follows next end → clock mid < time → time ≤ clock next
-    → LeftTowards end time pair → LeftSince next (clock mid) pair
-since_towards mid next end zero pair on later within towards = absurd (omega (arith, later))
-since_towards mid next end (suc time) pair on later within (inl (moment, there, left)) =
-    let here : slice_get next.past time ≡ Some moment =
-    sym (slice_get-early next.past on.calls time (omega (arith, within))) ∙ sym (ap (λ (p : List Moment). slice_get p time) on.past) ∙ there in
-    inr (at_call next.past (clock mid) time moment pair (omega (arith, later)) here left)
-since_towards mid next end (suc time) pair on later within (inr leaves) =
-    let same : state_at end (suc time) ≡ state_at next (suc time) =
-    state_is end (suc time) ∙ ap (λ (i : Instant). i.state) (instant-stays next end (suc time) on within) ∙ sym (state_is next (suc time)) in
-    at_state next.past next.state (clock mid) (suc time) pair (omega (arith, later)) (subst (λ (s : State). Leaves s pair) same leaves)
-
 -- A JOB
 
 module _ (slave : ℕ) where
@@ -115,15 +59,9 @@ module _ (slave : ℕ) where
   call_stays rom.Idle outcome old new calls = absurd calls
   call_stays rom.Stop outcome old new calls = absurd calls
 
-  call_follows : (job : RomNext) (outcome : RomOutcome) (old new : Seen) → CallsSlave slave job outcome old new → Follows old new
-  call_follows (rom.Issue word value) outcome old new calls = let i = calls.issues in i.follows
-  call_follows (rom.Settle taken) outcome old new calls = let s = calls.settles in s.quiet.follows
-  call_follows rom.Idle outcome old new calls = absurd calls
-  call_follows rom.Stop outcome old new calls = absurd calls
-
   through_follows : (out : List (Assignment RomNext RomOutcome)) (mid next : Seen) → MayEnd (CallsSlave slave) out mid next → Follows mid next
   through_follows [] mid next same = subst (λ (s : Seen). Follows mid s) (sym same) (Follows-same mid)
-  through_follows (entry ∷ []) mid next one = call_follows entry.job one.outcome mid next one.does
+  through_follows (entry ∷ []) mid next one = call_follows slave entry.job one.outcome mid next one.does
   through_follows (entry ∷ other ∷ out) mid next never = absurd never
 
   -- what could be left since the job began
