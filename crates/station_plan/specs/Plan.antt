@@ -1,9 +1,6 @@
 -- What `plan` tells: what a run would do, and what it would leave.
 use Rattle.std.specs.Prelude.{◌≡◌, Ok, ℕ, List}
 use Rattle.sii_edit.specs.declared.command.Command.{Command}
-use Rattle.esc_model.specs.SlaveHalf.{SlaveHalf}
-use Rattle.site_core.specs.Line.{Line}
-use Rattle.site_core.specs.State.{Seen}
 use Rattle.site_shadow.specs.Site.{SiteValue}
 use Rattle.station_alone.specs.Station.{Station}
 use Rattle.station_text.specs.declared.line_file.LineFile.{LineFile}
@@ -17,20 +14,6 @@ use Rattle.station_line.specs.Opened.{is_old, Loads, StartsFrom}
 use Rattle.line_changes.specs.Changes.{changes_between}
 use Rattle.book_model.specs.Opening.{words_in}
 use Rattle.station_plan.specs.declared.plan.Planned.{Planned}
-
--- The commands were submitted to this station in order and served, without a fault. Its site then had this line, state and past.
-pub record IsServedStation (opened : Station) (commands : List Command) (answered_before answered_after : Answered) (line : Line)
-    (seen : Seen) : Type 0 where
-  pub s : Station
-  pub serves : ServesSo {E = Fault} commands (Ok tt) answered_before answered_after opened s
-  pub line_is : line ≡ s.line
-  pub seen_is : seen ≡ s.seen
-
--- The plan has these words as those before, those that these slaves hold as those after, and the differences.
-pub record IsComparison (words : List (List ℕ)) (halves : List SlaveHalf) (planned : Planned) : Type 0 where
-  pub before : planned.before ≡ words
-  pub after : planned.after ≡ words_in halves
-  pub changes : planned.changes.items ≡ changes_between planned.before planned.after
 
 -- The commands were submitted to this station in order and served, without a fault. These are the words of its slaves before and after, and
 -- their differences.

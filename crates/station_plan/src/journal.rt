@@ -1,22 +1,19 @@
 //! The subcommand `journal`.
 ghost use Rattle.std.specs.Prelude.{◌≡◌, IfOk, IsTrue, OnOk};
-ghost use Rattle.book_model.specs.Opening.{words_in};
 ghost use Rattle.esc_rom.specs.Owned.{OwnsAll};
-ghost use Rattle.line_changes.specs.Changes.{changes_between};
 ghost use Rattle.station_plan.specs.Journal.{ListsJournal, ListsSite, Restores};
 
 use crate::contents::contents_of;
 use crate::journal_rows::put_journal;
 use jrn_format::{JournalFault, scan};
 use line_changes::{ChangedWord, changed_words, put_changes};
-use sii_words::Plant;
 use site_mem::{FaultPlan, Pattern};
 use site_shadow::ShadowSite;
 use station_alone::{Recovered, recover};
 use station_files::{Fault, Store};
 use station_line::{Session, load_session, of_journal, of_open};
 use station_rows::{Form, Rows, named, said};
-use std::alloc::{AllocError, Global};
+use std::alloc::Global;
 use std::io::Write;
 
 /// What a recovery would do to a line.
@@ -47,17 +44,13 @@ pub fn show_journal<S: Store, W: Write>(
     ensures lists { OnOk result (ListsJournal (S.files store.old) name.now) }
     ensures same { S.files store.new ≡ S.files store.old }
 {
-    match load_session(alloc, name, store) {
-        Ok(session) => {
-            let Session {
-                site,
-                lock: _lock,
-                ..
-            } = session;
-            list_site(alloc, site, form, output)
-        }
-        Err(fault) => Err(fault),
-    }
+    let session = load_session(alloc, name, store)?;
+    let Session {
+        site,
+        lock: _lock,
+        ..
+    } = session;
+    list_site(alloc, site, form, output)
 }
 
 /// Prints what the journal of a line in memory holds, and what a recovery would do.
@@ -74,8 +67,17 @@ fn list_site<W: Write>(
     if let Some(fault) = print_journal(alloc, &site, form, output)? {
         return Err(of_journal(fault));
     }
-    let restored = restore(alloc, site)?;
-    print_restored(alloc, &restored, form, output)
+    let Restored { recovered, changes } = restore(alloc, site)?;
+    let row = [
+        said("", "recovery"),
+        named("batches", recovered.batches),
+        named("commands", recovered.commands),
+        named("words", recovered.words),
+    ];
+    let mut rows = Rows::new(alloc, form);
+    rows.put("recovery", &row)?;
+    put_changes(&mut rows, &changes)?;
+    rows.write(output)
 }
 
 /// Reads and prints what the journal's file holds. Returns the fault with which a recovery refuses it, if it does.
@@ -105,49 +107,11 @@ fn restore(alloc: Global, site: ShadowSite<FaultPlan>) -> Result<Restored, Fault
     let before = contents_of(alloc, &site)?;
     match recover(alloc, site) {
         Ok((alone, recovered)) => {
-            let (core, left) = alone.into_parts();
-            drop(core);
-            let changes = changes_since(alloc, &before, &left);
-            drop(left);
-            let changes = changes?;
+            let (_core, left) = alone.into_parts();
+            let after = contents_of(alloc, &left)?;
+            let changes = changed_words(alloc, &before, &after)?;
             Ok(Restored { recovered, changes })
         }
-        Err((left, fault)) => {
-            drop(left);
-            Err(of_open(fault))
-        }
+        Err((_left, fault)) => Err(of_open(fault)),
     }
-}
-
-/// The words in which the slaves of this site differ from `before`.
-fn changes_since(
-    alloc: Global,
-    before: &Plant,
-    site: &ShadowSite<FaultPlan>,
-) -> Result<Vec<ChangedWord>, AllocError>
-    requires { OwnsAll site.now.line }
-    ensures { IfOk result (λ changes. changes.items ≡ changes_between before.now (words_in site.now.seen.state.halves)) }
-{
-    let after = contents_of(alloc, site)?;
-    changed_words(alloc, before, &after)
-}
-
-/// Prints what a recovery would do.
-fn print_restored<W: Write>(
-    alloc: Global,
-    restored: &Restored,
-    form: Form,
-    output: &mut W,
-) -> Result<(), Fault> {
-    let recovered = restored.recovered;
-    let row = [
-        said("", "recovery"),
-        named("batches", recovered.batches),
-        named("commands", recovered.commands),
-        named("words", recovered.words),
-    ];
-    let mut rows = Rows::new(alloc, form);
-    rows.put("recovery", &row)?;
-    put_changes(&mut rows, &restored.changes)?;
-    rows.write(output)
 }

@@ -1,10 +1,8 @@
 //! The subcommand `plan`.
-ghost use Rattle.std.specs.Prelude.{◌≡◌, IfOk, IsTrue, Ok};
+ghost use Rattle.std.specs.Prelude.{◌≡◌, IfOk, IsTrue};
 ghost use Rattle.esc_rom.specs.Owned.{OwnsAll};
-ghost use Rattle.station_line.specs.Rounds.{ServesSo};
-ghost use Rattle.station_files.specs.declared.faults.Fault.{Fault};
 ghost use Rattle.station_line.specs.Opened.{is_old};
-ghost use Rattle.station_plan.specs.Plan.{IsComparison, IsPlanOf, IsServedStation, PlansFiles, PlansSite, ServesPlan};
+ghost use Rattle.station_plan.specs.Plan.{IsPlanOf, PlansFiles, PlansSite, ServesPlan};
 
 use crate::contents::contents_of;
 use crate::plan_rows::{AnswerRows, put_plan};
@@ -12,7 +10,6 @@ use crate::tally::Tally;
 use line_changes::{ChangedWord, Resize, changed_words, resizes};
 use sii_edit::Command;
 use sii_words::Plant;
-use site_core::Site;
 use site_mem::FaultPlan;
 use site_shadow::ShadowSite;
 use station_alone::Alone;
@@ -65,20 +62,15 @@ pub fn plan_script<S: Store, W: Write>(
     ensures plans { IfOk result (λ answers. PlansFiles (S.files store.old) name.now script.now answers.answered) }
     ensures same { S.files store.new ≡ S.files store.old }
 {
-    match load(alloc, name, script, store) {
-        Ok(given) => {
-            let LoadedLine { session, commands } = given;
-            let Session {
-                line: _,
-                site,
-                is_old,
-                refusal: _,
-                lock: _lock,
-            } = session;
-            plan_line(alloc, site, is_old, commands, form, output)
-        }
-        Err(fault) => Err(fault),
-    }
+    let given = load(alloc, name, script, store)?;
+    let LoadedLine { session, commands } = given;
+    let Session {
+        site,
+        is_old,
+        lock: _lock,
+        ..
+    } = session;
+    plan_line(alloc, site, is_old, commands, form, output)
 }
 
 /// Plans a run of the commands on this line in memory, whose journal was of another version than 2 if `was_old`, and prints the plan, as
@@ -139,11 +131,7 @@ fn plan_site<A: Answers>(
     let site = site.with_device(Tally::default());
     match open_station(alloc, site, was_old) {
         Ok(alone) => serve_plan(alloc, before, alone, commands, answers, answered),
-        Err((left, fault)) => {
-            drop(left);
-            drop(commands);
-            Err(of_open(fault))
-        }
+        Err((_left, fault)) => Err(of_open(fault)),
     }
 }
 
@@ -151,7 +139,7 @@ fn plan_site<A: Answers>(
 fn serve_plan<A: Answers>(
     alloc: Global,
     before: Plant,
-    alone: Alone<ShadowSite<Tally>>,
+    mut alone: Alone<ShadowSite<Tally>>,
     commands: Vec<Command>,
     answers: &mut A,
     answered: &mut Answered,
@@ -160,68 +148,11 @@ fn serve_plan<A: Answers>(
     ensures { IfOk result (ServesPlan alone commands.items answered.old answered.new before) }
 {
     let slaves = before.len() as u16;
-    let (site, resizes) = serve_station(alloc, alone, slaves, commands, answers, answered)?;
-    let planned = compare(alloc, before, &site, resizes);
-    drop(site);
-    planned
-}
-
-/// Serves the commands on an open station of `slaves` slaves. Returns its site, and where a command that it accepted makes word 0x3E say
-/// another size than the slave has.
-fn serve_station<S: Site + Drop, A: Answers>(
-    alloc: Global,
-    mut alone: Alone<S>,
-    slaves: u16,
-    commands: Vec<Command>,
-    answers: &mut A,
-    answered: &mut Answered,
-) -> Result<(S, Vec<Resize>), Fault>
-    requires { OwnsAll alone.line }
-    ensures served { IfOk result (λ served. IsServedStation alone commands.items answered.old answered.new (S.line served.0) (S.seen served.0)) }
-    ensures owned { IfOk result (λ served. OwnsAll (S.line served.0)) }
-{
-    match serve_resizes(alloc, &mut alone, slaves, commands, answers, answered) {
-        Ok(resizes) => {
-            let (core, site) = alone.into_parts();
-            drop(core);
-            Ok((site, resizes))
-        }
-        Err(fault) => {
-            drop(alone);
-            Err(fault)
-        }
-    }
-}
-
-/// Serves the commands on an open station of `slaves` slaves. Returns where one that it accepted makes word 0x3E say another size than the
-/// slave has.
-fn serve_resizes<S: Site, A: Answers>(
-    alloc: Global,
-    alone: &mut Alone<S>,
-    slaves: u16,
-    commands: Vec<Command>,
-    answers: &mut A,
-    answered: &mut Answered,
-) -> Result<Vec<Resize>, Fault>
-    ensures { IfOk result (λ _. ServesSo {E = Fault} commands.items (Ok tt) answered.old answered.new alone.old alone.new) }
-{
     let base = alone.core().contents().try_copy();
-    serve_commands(alone, slaves, commands, answers, answered)?;
+    serve_commands(&mut alone, slaves, commands, answers, answered)?;
     let resizes = resizes(alloc, &base?, alone.core().accepted())?;
-    Ok(resizes)
-}
-
-/// Compares the words that the slaves of this site hold with `before`.
-fn compare(
-    alloc: Global,
-    before: Plant,
-    site: &ShadowSite<Tally>,
-    resizes: Vec<Resize>,
-) -> Result<Planned, Fault>
-    requires { OwnsAll site.now.line }
-    ensures { IfOk result (IsComparison before site.now.seen.state.halves) }
-{
-    let after = contents_of(alloc, site)?;
+    let (_core, site) = alone.into_parts();
+    let after = contents_of(alloc, &site)?;
     let changes = changed_words(alloc, &before, &after)?;
     Ok(Planned {
         before,

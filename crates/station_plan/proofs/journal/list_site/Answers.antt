@@ -3,4 +3,4 @@ use Rattle.station_plan.proofs.Plans.{on_ok}
 use Rattle.station_plan.proofs.journal.list_site.Goals as goal
 
 pub returns : goal.returns
-returns g c = on_ok c.print_restored.result (ListsSite c.args.site) (record { restored = c.in_ok-restored.restored; restores = c.in_ok-restored.ensures })
+returns g c = on_ok c.write.result (ListsSite c.args.site) (record { restored = c.in_ok-restore.restored; restores = c.in_ok-restore.ensures })
