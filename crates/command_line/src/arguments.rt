@@ -70,66 +70,27 @@ pub enum Kind {
     Texts(&'static str, char, &'static str),
 }
 
-impl Kind {
-    /// Whether the argument has a text.
-    pub(crate) fn has_value(self) -> bool {
-        !matches!(
-            self,
-            Kind::Flag
-                | Kind::ShortFlag(_)
-                | Kind::GlobalFlag
-                | Kind::FlagWith(_)
-                | Kind::HiddenFlag
-        )
-    }
-
-    /// Whether the argument is a word, which has to be there.
-    fn is_required(self) -> bool {
-        matches!(self, Kind::Word | Kind::WordOf(_))
-    }
-
-    /// Whether the argument is no option.
-    fn is_word(self) -> bool {
-        self.is_required() || matches!(self, Kind::OptionalWord | Kind::WordUnless(_))
-    }
-}
-
 impl Argument {
     /// The argument as `clap` takes it.
     pub(crate) fn described<'a>(self, alloc: Global) -> Result<Arg<'a>, AllocError> {
         let arg = Arg::new(alloc, self.id)
             .help(self.help)
-            .long_help(text_or(self.long_help, self.help))
-            .required(self.kind.is_required())
-            .hide(matches!(self.kind, Kind::HiddenFlag | Kind::HiddenText(_)))
-            .global(matches!(self.kind, Kind::GlobalFlag));
-        let spelt = if self.kind.is_word() {
-            arg
-        } else {
-            arg.long(self.id)
-        };
-        let spelt = if self.kind.has_value() {
-            spelt
-        } else {
-            spelt.action(ArgAction::SetTrue)
-        };
-        of_kind(spelt, self.kind)
+            .long_help(text_or(self.long_help, self.help));
+        match self.kind {
+            Kind::Word => Ok(arg.required(true)),
+            Kind::OptionalWord => Ok(arg),
+            Kind::WordUnless(other) => arg.required_unless_present(other),
+            Kind::WordOf(words) => Ok(arg.required(true).value_parser(ValueParser::Names(words))),
+            kind => option_of(arg.long(self.id), kind),
+        }
     }
 }
 
-/// The first text, or the other one where that is empty.
-pub(crate) fn text_or(text: &'static str, other: &'static str) -> &'static str {
-    if text.is_empty() { other } else { text }
-}
-
-/// The argument as one of this kind, with its letter, the name of its value, and what it may be and is given with.
-fn of_kind<'a>(arg: Arg<'a>, kind: Kind) -> Result<Arg<'a>, AllocError> {
+/// The option as one of this kind.
+fn option_of<'a>(arg: Arg<'a>, kind: Kind) -> Result<Arg<'a>, AllocError> {
     match kind {
-        Kind::ShortFlag(letter) => Ok(arg.short(letter)),
-        Kind::FlagWith(other) => arg.requires_arg(other),
-        Kind::WordUnless(other) => arg.required_unless_present(other),
-        Kind::WordOf(words) => Ok(arg.value_parser(ValueParser::Names(words))),
-        Kind::Text(name) | Kind::HiddenText(name) => Ok(arg.value_name(name)),
+        Kind::Text(name) => Ok(arg.value_name(name)),
+        Kind::HiddenText(name) => Ok(arg.value_name(name).hide(true)),
         Kind::ShortText(name, letter) => Ok(arg.value_name(name).short(letter)),
         Kind::TextWithout(name, other) => arg.value_name(name).conflicts_with(other),
         Kind::Small(name) => Ok(arg.value_name(name).value_parser(value_parser!(u16))),
@@ -139,6 +100,22 @@ fn of_kind<'a>(arg: Arg<'a>, kind: Kind) -> Result<Arg<'a>, AllocError> {
             .short(letter)
             .action(ArgAction::Append)
             .conflicts_with(other),
-        _ => Ok(arg),
+        _ => flag_of(arg.action(ArgAction::SetTrue), kind),
     }
+}
+
+/// The option without a value as one of this kind.
+fn flag_of<'a>(flag: Arg<'a>, kind: Kind) -> Result<Arg<'a>, AllocError> {
+    match kind {
+        Kind::ShortFlag(letter) => Ok(flag.short(letter)),
+        Kind::GlobalFlag => Ok(flag.global(true)),
+        Kind::HiddenFlag => Ok(flag.hide(true)),
+        Kind::FlagWith(other) => flag.requires_arg(other),
+        _ => Ok(flag),
+    }
+}
+
+/// The first text, or the other one where that is empty.
+pub(crate) fn text_or(text: &'static str, other: &'static str) -> &'static str {
+    if text.is_empty() { other } else { text }
 }

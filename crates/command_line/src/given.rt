@@ -1,62 +1,34 @@
 //! The words that were given, by the names of the arguments.
 
-use crate::arguments::{Argument, Kind};
 use crate::input_script::TYPED;
-use crate::typed_commands::typed_text;
-use crate::unread::Unread;
 use clap::ArgMatches;
-use std::alloc::{AllocError, Global};
 use std::time::Duration;
 
 /// What the words of a command line give: a subcommand, and the arguments that are there.
 #[derive(Drop)]
 pub struct ParsedArguments<'a> {
-    /// The name of the subcommand.
+    /// The name of the subcommand; empty where none was given.
     pub subcommand: &'a str,
-    values: Vec<Value<'a>>,
-    commands: Vec<&'a str>,
-}
-
-/// An argument that is there.
-#[derive(Clone, Copy)]
-struct Value<'a> {
-    id: &'static str,
-    /// Its text; empty for an option without a value.
-    text: &'a str,
+    pub(crate) matches: ArgMatches<'a>,
 }
 
 impl<'a> ParsedArguments<'a> {
-    /// This subcommand, with no argument yet.
-    pub(crate) fn of(alloc: Global, subcommand: &'a str) -> ParsedArguments<'a> {
+    /// What these matches have found.
+    pub(crate) fn of(matches: ArgMatches<'a>) -> ParsedArguments<'a> {
+        let subcommand = matches.subcommand_name().unwrap_or("");
         ParsedArguments {
             subcommand,
-            values: Vec::new(alloc),
-            commands: Vec::new(alloc),
+            matches,
         }
-    }
-
-    /// Takes those of these arguments that are there.
-    pub(crate) fn take_all(
-        &mut self,
-        arguments: &[Argument],
-        found: &ArgMatches<'a>,
-    ) -> Result<(), AllocError> {
-        for argument in arguments {
-            let id = argument.id;
-            if let Kind::Texts(..) = argument.kind {
-                self.commands
-                    .extend_from_slice(found.get_strs(id).unwrap_or(&[]))?;
-            } else if let Some(text) = text_in(*argument, found) {
-                self.values.push(Value { id, text })?;
-            }
-        }
-        Ok(())
     }
 
     /// The text of this argument, if it is there.
     pub fn text(&self, id: &str) -> Option<&'a str> {
-        let found = self.values.iter().find(|value| value.id == id)?;
-        Some(found.text)
+        let of_subcommand = match self.matches.subcommand() {
+            Some((_, found)) => found.get_str(id),
+            None => None,
+        };
+        of_subcommand.or_else(|| self.matches.get_str(id))
     }
 
     /// The text of an argument that has to be there.
@@ -64,22 +36,14 @@ impl<'a> ParsedArguments<'a> {
         self.text(id).unwrap_or("")
     }
 
-    /// Whether this option is there.
+    /// Whether this option without a value is there.
     pub fn has(&self, id: &str) -> bool {
-        self.text(id).is_some()
+        self.text(id) == Some("true")
     }
 
     /// The name of the script: that of the argument `SCRIPT`, which has to be there unless commands are typed, or `TYPED`.
     pub fn script(&self) -> &'a str {
         self.text("SCRIPT").unwrap_or(TYPED)
-    }
-
-    /// The text of the script whose commands are typed, if any are.
-    pub(crate) fn typed(&self, alloc: Global) -> Result<Option<Vec<u8>>, Unread> {
-        if self.commands.is_empty() {
-            return Ok(None);
-        }
-        Ok(Some(typed_text(alloc, &self.commands)?))
     }
 
     /// The milliseconds of this option, if it is there and they aren't 0.
@@ -106,14 +70,6 @@ impl<'a> ParsedArguments<'a> {
         let count = count.unwrap_or("").parse::<u32>().ok();
         Ok(count.map(|count| (count, left)))
     }
-}
-
-/// The text of this argument, if it is there. That of an option without a value is empty.
-fn text_in<'a>(argument: Argument, found: &ArgMatches<'a>) -> Option<&'a str> {
-    if argument.kind.has_value() {
-        return found.get_str(argument.id);
-    }
-    found.get_flag(argument.id).then_some("")
 }
 
 /// Whether a text has digits only: a sign is not taken.

@@ -1,9 +1,9 @@
 //! The files of a store, and a script that is no file among them.
 ghost use Rattle.command_line.specs.InputScript.{but_scripts, with_script};
 
-use station_files::{Entry, Location, LockFault, Store, read_to_end};
+use station_files::{Entry, Location, LockFault, Store};
 use std::alloc::Global;
-use std::io::{self, Read};
+use std::io;
 
 /// The name under which the script on standard input stands among the files. No file of a system has it.
 pub const INPUT: &str = "\0";
@@ -22,23 +22,9 @@ pub struct InputScript<'s, S> {
 #[derive(Drop)]
 pub struct Script {
     /// Its name: `INPUT` or `TYPED`.
-    name: &'static str,
-    /// Its text, or why it can't be read.
-    text: io::Result<Vec<u8>>,
-}
-
-impl Script {
-    /// Reads standard input to its end, as the script `INPUT`. An error of it comes where the script is read.
-    pub fn read<R: Read>(alloc: Global, input: &mut R) -> Script {
-        let (name, text) = (INPUT, read_to_end(alloc, input));
-        Script { name, text }
-    }
-
-    /// This text, as the script `TYPED`.
-    pub fn typed(text: Vec<u8>) -> Script {
-        let (name, text) = (TYPED, Ok(text));
-        Script { name, text }
-    }
+    pub name: &'static str,
+    /// Its text, or why it can't be read. An error comes where the script is read.
+    pub text: io::Result<Vec<u8>>,
 }
 
 impl<'s, S: Store> InputScript<'s, S> {

@@ -16,13 +16,15 @@ mod typed_commands;
 mod unread;
 
 pub use arguments::{Argument, Kind};
+/// Why a command line wasn't read.
+pub use clap::Error as Unread;
 pub use completions::{Shell, completion_script};
 pub use escaped::Escaped;
 pub use given::{ParsedArguments, number_in, small_in};
 pub use input_script::{INPUT, InputScript, Script, TYPED};
-pub use launched::{INTERFACE, STATE, TEXT, TIMEOUT, WIRE};
+pub use launched::{TEXT, TIMEOUT, WIRE};
 pub use manual::manual_page;
 pub use program::{Program, Subcommand};
-pub use reading::{read_typed, read_words, refuse};
-pub use typed_commands::TYPED_COMMANDS;
-pub use unread::{Unread, refuse_words};
+pub use reading::{read_words, refuse};
+pub use typed_commands::{TYPED_COMMANDS, read_typed};
+pub use unread::{refuse_words, report_unread};

@@ -1,7 +1,7 @@
 //! A program as its command line is described: its texts, its options and its subcommands, as rows of a table.
 
 use crate::arguments::{Argument, text_or};
-use clap::{Arg, Command};
+use clap::Command;
 use std::alloc::{AllocError, Global};
 
 /// A program, mostly with subcommands.
@@ -26,15 +26,29 @@ pub(crate) fn described<'a>(
     alloc: Global,
     program: Program<'_>,
 ) -> Result<Command<'a>, AllocError> {
-    let options = described_arguments(alloc, program.options)?;
-    let subcommands = described_subcommands(alloc, program.subcommands)?;
-    Command::new(alloc, program.name)
+    let command = Command::new(alloc, program.name)
         .about(program.about)
         .version(program.version)
         .after_help(program.after_help)
-        .subcommand_required(!program.subcommands.is_empty())
-        .args(options)?
-        .subcommands(subcommands)
+        .subcommand_required(!program.subcommands.is_empty());
+    let mut command = with_arguments(alloc, command, program.options)?;
+    for subcommand in program.subcommands {
+        command = command.subcommand(subcommand.described(alloc)?)?;
+    }
+    Ok(command)
+}
+
+/// The command with these arguments too.
+pub(crate) fn with_arguments<'a>(
+    alloc: Global,
+    command: Command<'a>,
+    arguments: &[Argument],
+) -> Result<Command<'a>, AllocError> {
+    let mut command = command;
+    for argument in arguments {
+        command = command.arg(argument.described(alloc)?)?;
+    }
+    Ok(command)
 }
 
 /// A subcommand, with its help texts and its arguments.
@@ -75,39 +89,13 @@ macro_rules! subcommand {
 impl Subcommand {
     /// The subcommand as `clap` takes it.
     fn described<'a>(self, alloc: Global) -> Result<Command<'a>, AllocError> {
-        let arguments = described_arguments(alloc, self.arguments)?;
-        let command = Command::new(alloc, self.name).about(self.about);
-        if self.long_about.is_empty() {
-            return command.args(arguments);
+        let mut command = Command::new(alloc, self.name).about(self.about);
+        if !self.long_about.is_empty() {
+            command = command
+                .long_about(self.long_about)
+                .after_help(self.after_help)
+                .after_long_help(text_or(self.after_long_help, self.after_help));
         }
-        command
-            .long_about(self.long_about)
-            .after_help(self.after_help)
-            .after_long_help(text_or(self.after_long_help, self.after_help))
-            .args(arguments)
+        with_arguments(alloc, command, self.arguments)
     }
-}
-
-/// These arguments as `clap` takes them.
-pub(crate) fn described_arguments<'a>(
-    alloc: Global,
-    arguments: &[Argument],
-) -> Result<Vec<Arg<'a>>, AllocError> {
-    let mut described = Vec::new(alloc);
-    for argument in arguments {
-        described.push(argument.described(alloc)?)?;
-    }
-    Ok(described)
-}
-
-/// These subcommands as `clap` takes them.
-fn described_subcommands<'a>(
-    alloc: Global,
-    subcommands: &[Subcommand],
-) -> Result<Vec<Command<'a>>, AllocError> {
-    let mut described = Vec::new(alloc);
-    for subcommand in subcommands {
-        described.push(subcommand.described(alloc)?)?;
-    }
-    Ok(described)
 }

@@ -4,7 +4,11 @@ ghost use Rattle.command_line.specs.Typed.{is_one_line, script_of};
 
 use crate::argument;
 use crate::arguments::Argument;
-use crate::unread::Unread;
+use crate::given::ParsedArguments;
+use crate::input_script::{Script, TYPED};
+use crate::program::Program;
+use crate::reading::refuse;
+use clap::Error;
 use std::alloc::{AllocError, Global};
 
 /// The help text on typed commands.
@@ -17,29 +21,46 @@ they are submitted in order.";
 pub const TYPED_COMMANDS: Argument =
     argument!("command": Texts("COMMAND", 'e', "SCRIPT") => "A command in place of the script file, as 'alias = { slave = 2, value = 7 }'", COMMANDS);
 
-/// The text of the script with these commands; or what is wrong with one.
-pub(crate) fn typed_text(alloc: Global, commands: &[&str]) -> Result<Vec<u8>, Unread> {
+/// The script whose commands are typed in these words, if any are.
+///
+/// # Errors
+///
+/// A command isn't one line of TOML on its own; or memory was refused.
+pub fn read_typed(
+    alloc: Global,
+    program: Program<'_>,
+    given: &ParsedArguments<'_>,
+) -> Result<Option<Script>, Error> {
+    let Some((_, found)) = given.matches.subcommand() else {
+        return Ok(None);
+    };
+    let Some(commands) = found.get_strs("command") else {
+        return Ok(None);
+    };
     for command in commands {
-        validate(alloc, command)?;
+        if let Some(flaw) = flaw_of(alloc, command)? {
+            return Err(refuse(alloc, program, given.subcommand, flaw.as_str()));
+        }
     }
-    Ok(typed_script(alloc, commands)?)
+    let (name, text) = (TYPED, Ok(typed_script(alloc, commands)?));
+    Ok(Some(Script { name, text }))
 }
 
-/// Refuses a typed command that isn't one line of TOML on its own.
-fn validate(alloc: Global, line: &str) -> Result<(), Unread> {
+/// What is wrong with a typed command that isn't one line of TOML on its own.
+fn flaw_of(alloc: Global, line: &str) -> Result<Option<String>, AllocError> {
     if !is_line(line) {
         let flaw = "a command of -e is one line, as in a script below [[command]]";
-        return Err(Unread::of_text(String::from_str(alloc, flaw)));
+        return Ok(Some(String::from_str(alloc, flaw)?));
     }
     match toml::table_from_str(alloc, line) {
         Ok(table) => {
             drop(table);
-            Ok(())
+            Ok(None)
         }
-        Err(error) if error.is_memory() => Err(Unread::Memory),
+        Err(error) if error.is_memory() => Err(AllocError),
         Err(error) => {
             let why = error.message();
-            Err(Unread::of_text(format!(in alloc; "-e '{line}' is no TOML: {why}")))
+            Ok(Some(format!(in alloc; "-e '{line}' is no TOML: {why}")?))
         }
     }
 }

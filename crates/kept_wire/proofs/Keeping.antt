@@ -64,7 +64,7 @@ module _ {L F C : Type 0} where
         files.holds (follows.sound going) (runs_on running) JournalFile mid refl
         (subst (λ (l : List Asked). BecomesBy (of_file JournalFile l) file mid) (sym same) becomes)
 
-    holds_after : device.is_over ≡ false → seen.is_stopped ≡ false → HoldsAfter done.all begun seen.state
+    pub holds_after : device.is_over ≡ false → seen.is_stopped ≡ false → HoldsAfter done.all begun seen.state
     holds_after going running = record { journal = journal_after going running; slaves = slaves_after going running }
 
     -- a pair that a cut leaves is one that it could have left since the site began

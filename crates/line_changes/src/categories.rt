@@ -5,12 +5,11 @@ use station_rows::{Cell, Line, Rows, Value, bare, data, lines_of, named, printed
 use std::alloc::AllocError;
 
 /// One of the two images: its key in JSON, and what text calls it.
-#[derive(Clone, Copy)]
-struct Side(&'static str, &'static str);
+type Side = (&'static str, &'static str);
 
-const FIRST: Side = Side("a", "A");
+const FIRST: Side = ("a", "A");
 
-const SECOND: Side = Side("b", "B");
+const SECOND: Side = ("b", "B");
 
 /// Puts what the categories of two images differ in, in the order of the first; after this what only the second one has. Where the chain of
 /// one of them is cut off, only that.
@@ -22,24 +21,21 @@ pub(crate) fn put_categories(
     match (old, new) {
         (ListedChain::Complete(olds), ListedChain::Complete(news)) => put_chains(rows, olds, news),
         (ListedChain::RunsOut { at }, ListedChain::RunsOut { at: other }) if at == other => Ok(()),
-        (one, other) => {
-            put_cut(rows, FIRST, one)?;
-            put_cut(rows, SECOND, other)
+        _ => {
+            for (side, chain) in [(FIRST, old), (SECOND, new)] {
+                if let ListedChain::RunsOut { at } = chain {
+                    let row = [
+                        said("", "runs out"),
+                        data("image", side.0),
+                        named("at", *at),
+                        said("in", side.1),
+                    ];
+                    rows.put("runs_out", &row)?;
+                }
+            }
+            Ok(())
         }
     }
-}
-
-fn put_cut(rows: &mut Rows, side: Side, chain: &ListedChain) -> Result<(), AllocError> {
-    let ListedChain::RunsOut { at } = chain else {
-        return Ok(());
-    };
-    let row = [
-        said("", "runs out"),
-        data("image", side.0),
-        named("at", *at),
-        said("in", side.1),
-    ];
-    rows.put("runs_out", &row)
 }
 
 /// Puts what two chains differ in. A category is compared with the one of its type that has as many others of this type before it.

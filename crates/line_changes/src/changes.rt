@@ -1,5 +1,5 @@
 //! The words in which two contents of a line differ.
-ghost use Rattle.std.specs.Prelude.{◌≡◌, ◌<◌, ◌≤◌, ◌++◌, length, IfOk, OnOk};
+ghost use Rattle.std.specs.Prelude.{◌≡◌, ◌≤◌, ◌++◌, length, IfOk, OnOk};
 ghost use Rattle.line_changes.specs.Changes.{change_at, changes_between, changes_of};
 
 use sii_words::Plant;
@@ -80,34 +80,22 @@ fn note_word(
 /// Puts a row for each changed word. Text has a line for each run of them with consecutive addresses, and of a long run only its number of
 /// words.
 pub fn put_changes(rows: &mut Rows, changes: &[ChangedWord]) -> Result<(), AllocError> {
-    let mut put = 0;
-    for at in 0..changes.len() {
-        let change = changes[at];
-        let row = [
-            data("slave", change.slave),
-            data("word", change.at),
-            data("old", change.old),
-            data("new", change.new),
-        ];
-        rows.put("change", &row)?;
-        if ends_run(changes, at) {
-            say_run(rows, changes.get(put..at + 1).unwrap_or(&[]))?;
-            put = at + 1;
+    let runs = changes.chunk_by(|one, next| {
+        one.slave == next.slave && one.at.checked_add(1) == Some(next.at)
+    });
+    for run in runs {
+        for change in run {
+            let row = [
+                data("slave", change.slave),
+                data("word", change.at),
+                data("old", change.old),
+                data("new", change.new),
+            ];
+            rows.put("change", &row)?;
         }
+        say_run(rows, run)?;
     }
     Ok(())
-}
-
-/// Whether the change at this position is the last one of its run.
-fn ends_run(changes: &[ChangedWord], at: usize) -> bool
-    requires { at < length changes.now }
-{
-    match (changes.get(at), changes.get(at + 1)) {
-        (Some(one), Some(next)) => {
-            one.slave != next.slave || one.at.checked_add(1) != Some(next.at)
-        }
-        _ => true,
-    }
 }
 
 /// Says a run of changed words on a line.

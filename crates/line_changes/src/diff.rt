@@ -1,10 +1,10 @@
 //! The subcommand `diff`.
 ghost use Rattle.std.specs.Prelude.{◌≡◌, IfOk, IfErr, option_map};
-ghost use Rattle.line_changes.specs.Diff.{IfKnown, IsStatusOf, IsStatusOfPair, RefusesPair, TellsDifference};
+ghost use Rattle.line_changes.specs.Diff.{IfKnown, IsStatusOfPair, RefusesPair, TellsDifference};
 ghost use Rattle.station_files.specs.Faults.{IsOfStream};
 
 use crate::categories::put_categories;
-use crate::difference::{Difference, compare};
+use crate::difference::compare;
 use crate::head::put_heads;
 use crate::words::put_words;
 use sii_words::ImageFile;
@@ -71,17 +71,4 @@ fn print_difference<W: Write>(
     put_words(&mut rows, &difference.words)?;
     rows.write(output)?;
     Ok(difference.status())
-}
-
-impl Difference {
-    /// `Done` where nothing differs, `Refused` where something does.
-    pub fn status(&self) -> ExitStatus
-        ensures { IsStatusOf self.now result }
-    {
-        if self.is_none() {
-            ExitStatus::Done
-        } else {
-            ExitStatus::Refused
-        }
-    }
 }

@@ -1,10 +1,12 @@
 //! What two images differ in.
-ghost use Rattle.std.specs.Prelude.{◌≡◌, ◌↔◌, IfOk, IsTrue};
+ghost use Rattle.std.specs.Prelude.{◌≡◌, ◌↔◌, IfOk};
+ghost use Rattle.line_changes.specs.Diff.{IsStatusOf};
 ghost use Rattle.line_changes.specs.Difference.{Compares, NothingDiffers, NamesDifferences};
 
 use crate::head::Head;
 use crate::words::{WordChanges, compare_words};
 use sii_words::ImageFile;
+use station_files::ExitStatus;
 use station_listing::{ListedChain, list_chain};
 use std::alloc::{AllocError, Global};
 
@@ -42,10 +44,14 @@ fn compare_parts(alloc: Global, old: &ImageFile, new: &ImageFile) -> Result<Diff
 }
 
 impl Difference {
-    /// Whether the images have the same words.
-    pub fn is_none(&self) -> bool
-        ensures { IsTrue result ↔ NothingDiffers self.now }
+    /// `Done` where the images have the same words, `Refused` where they differ.
+    pub fn status(&self) -> ExitStatus
+        ensures { IsStatusOf self.now result }
     {
-        self.old.count == self.new.count && self.words.new.is_empty()
+        if self.old.count == self.new.count && self.words.new.is_empty() {
+            ExitStatus::Done
+        } else {
+            ExitStatus::Refused
+        }
     }
 }

@@ -11,7 +11,7 @@ use station_files::{ExitStatus, Fault, Store, load_line, load_slaves};
 use station_listing::CheckByte;
 use station_rows::{Form, Rows, data, named, said};
 use station_text::LineFile;
-use std::alloc::{AllocError, Global};
+use std::alloc::Global;
 use std::io::Write;
 
 /// The help text on the option that asks for a report.
@@ -97,21 +97,16 @@ pub fn print_report<S: Store, W: Write>(
     ensures same { S.files store.new ≡ S.files store.old }
 {
     let report = changes_since(alloc, before, store)?;
-    let rows = rows_of(alloc, form, &report)?;
-    rows.write(output)
-}
-
-/// The rows of a report.
-fn rows_of(alloc: Global, form: Form, report: &Report) -> Result<Rows, AllocError> {
     let mut rows = Rows::new(alloc, form);
     put_changes(&mut rows, &report.changes)?;
-    let mut wrong = 0usize;
     for (slave, check) in report.checks.iter().enumerate() {
         rows.put("check", &[named("slave", slave), named("check", *check)])?;
-        if *check != CheckByte::Right {
-            wrong = wrong.saturating_add(1);
-        }
     }
+    let others = report
+        .checks
+        .iter()
+        .filter(|check| **check != CheckByte::Right);
+    let wrong = others.count();
     let starts = "a slave acts on its new words only when it starts again";
     let line = match wrong {
         0 => format!(in alloc; "line in order; {starts}")?,
@@ -123,7 +118,7 @@ fn rows_of(alloc: Global, form: Form, report: &Report) -> Result<Rows, AllocErro
         data("wrong", wrong),
     ];
     rows.put("order", &row)?;
-    Ok(rows)
+    rows.write(output)
 }
 
 /// Reads a line and its words as its files hold them, if a report is asked for. No file changes.

@@ -1,6 +1,5 @@
 //! The words in which two images differ.
-ghost use Rattle.std.specs.Prelude.{◌≡◌, ◌≤◌, IfOk, length};
-ghost use Rattle.sii_words.specs.Run.{stretches};
+ghost use Rattle.std.specs.Prelude.{◌≤◌, IfOk, length};
 ghost use Rattle.line_changes.specs.Difference.{AreChanges};
 
 use sii_words::{Run, push_stretches};
@@ -25,16 +24,7 @@ pub(crate) fn compare_words(
     ensures { IfOk result (AreChanges old.now new.now) }
 {
     let count = old.len().min(new.len());
-    compare_same(alloc, &old[..count], &new[..count])
-}
-
-/// The words in which two lists of one length differ.
-fn compare_same(alloc: Global, old: &[u16], new: &[u16]) -> Result<WordChanges, AllocError>
-    requires same { length old.now ≡ length new.now }
-    requires most { length old.now ≤ 4096 }
-    ensures old { IfOk result (λ changes. changes.old.items ≡ stretches 0 0 new.now old.now) }
-    ensures new { IfOk result (λ changes. changes.new.items ≡ stretches 0 0 old.now new.now) }
-{
+    let (old, new) = (&old[..count], &new[..count]);
     let mut back = Vec::new(alloc);
     push_stretches(alloc, &mut back, 0, new, old)?;
     let mut forth = Vec::new(alloc);

@@ -4,19 +4,15 @@ use denote.RattleType.{RattleType}
 use denote.Ref.{NamedLft}
 use denote.Param.Send.{IsSend, IsSync, sendable}
 use Rattle.std.proofs.Crossing.{crosses}
-use Rattle.line_watch.specs.contracts.capture.End as End
 use Rattle.line_watch.specs.contracts.capture.Capture as Capture
 use Rattle.line_watch.specs.contracts.observed_wire.ObservedWire as ObservedWire
 use Rattle.line_watch.specs.contracts.progress.Line as Line
 use Rattle.line_watch.specs.contracts.progress.Progress as Progress
 use Rattle.line_watch.specs.contracts.watched_device.Watched as Watched
 
-end-send : IsSend End.the_row
-end-send = search (crosses, sendable) depth 40
-
 module _ (F : RattleType) (file-sync : IsSync F) where
   capture-sync : IsSync (Capture.the_row F)
-  capture-sync = search (end-send, crosses, sendable) depth 40
+  capture-sync = search (crosses, sendable) depth 40
 
 module _ (T : RattleType) (terminal : IsSend T) where
   line-send : IsSend (Line.the_row T)

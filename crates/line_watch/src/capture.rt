@@ -32,14 +32,8 @@ impl From<io::Error> for BeginFault {
 #[derive(Drop)]
 pub struct Capture<F> {
     file: F,
-    end: Mutex<End>,
-}
-
-/// Where the next record begins, and whether one couldn't be written.
-#[derive(Drop)]
-struct End {
-    at: u64,
-    has_failed: bool,
+    /// Where the next record begins; `None` once one couldn't be written.
+    end: Mutex<Option<u64>>,
 }
 
 impl<F: RandomAccessFile + Drop> Capture<F> {
@@ -57,10 +51,7 @@ impl<F: RandomAccessFile + Drop> Capture<F> {
         file.write_all_at(&file_header(), 0)?;
         Ok(Capture {
             file,
-            end: Mutex::new(End {
-                at: BEGIN as u64,
-                has_failed: false,
-            }),
+            end: Mutex::new(Some(BEGIN as u64)),
         })
     }
 
@@ -70,15 +61,12 @@ impl<F: RandomAccessFile + Drop> Capture<F> {
         requires { length frame.now ≤ MAX_LEN }
     {
         let mut end = self.end.lock(rt);
-        if end.has_failed {
+        let Some(at) = *end else {
             return;
-        }
-        match append(&self.file, end.at, rt, way, frame) {
-            Ok(at) => end.at = at,
-            Err(_) => {
-                end.has_failed = true;
-                let _ = self.file.set_len(end.at);
-            }
+        };
+        *end = append(&self.file, at, rt, way, frame).ok();
+        if end.is_none() {
+            let _ = self.file.set_len(at);
         }
     }
 
@@ -88,10 +76,10 @@ impl<F: RandomAccessFile + Drop> Capture<F> {
     ///
     /// If not every frame was written down.
     pub fn end(self) -> io::Result<()> {
-        if self.end.into_inner().has_failed {
-            return Err(io::Error::other("the capture has no further frames"));
+        match self.end.into_inner() {
+            Some(_) => Ok(()),
+            None => Err(io::Error::other("the capture has no further frames")),
         }
-        Ok(())
     }
 }
 

@@ -20,7 +20,7 @@ const CONTROL: u32 = 0x0502;
 const SIZE: u16 = 0x3e;
 
 /// What was seen of the slave with this station address.
-#[derive(Clone, Copy)]
+#[derive(Clone, Copy, Default)]
 struct SeenSlave {
     station: u16,
     /// How many of its words were read, from word 0 on.
@@ -85,13 +85,7 @@ impl<'o, W, F, T, R> ObservedWire<'o, W, F, T, R> {
             capture,
             progress,
             rt,
-            slaves: [SeenSlave {
-                station: 0,
-                read: 0,
-                at: 0,
-                size: 0,
-                left: 0,
-            }; MAX_SLAVES],
+            slaves: [SeenSlave::default(); MAX_SLAVES],
             reported: 0,
             is_writing: false,
         }
@@ -108,16 +102,15 @@ impl<W: Wire, F: RandomAccessFile + Drop, T: Write, R: Wait + Clock> ObservedWir
 
     /// The place of a slave among those that were seen.
     fn place_of(&mut self, progress: &Progress<T>, station: u16) -> usize {
-        for place in 0..self.reported.min(MAX_SLAVES) {
-            if self.slaves[place].station == station {
-                return place;
-            }
+        let mut seen = self.slaves.iter().take(self.reported);
+        if let Some(place) = seen.position(|slave| slave.station == station) {
+            return place;
         }
         let place = self.reported;
-        if place < MAX_SLAVES {
-            self.slaves[place].station = station;
+        if let Some(slave) = self.slaves.get_mut(place) {
+            slave.station = station;
             self.reported = place + 1;
-            progress.slaves.fetch_add(1, SeqCst);
+            progress.counts.slaves.fetch_add(1, SeqCst);
         }
         place
     }
@@ -136,10 +129,10 @@ impl<W: Wire, F: RandomAccessFile + Drop, T: Write, R: Wait + Clock> ObservedWir
             return;
         }
         let more = u64::from(read - slave.read);
-        progress.read.fetch_add(more, SeqCst);
+        progress.counts.read.fetch_add(more, SeqCst);
         slave.read = read;
         if read == slave.size && !self.is_writing {
-            progress.done.fetch_add(1, SeqCst);
+            progress.counts.done.fetch_add(1, SeqCst);
         }
     }
 
@@ -156,13 +149,13 @@ impl<W: Wire, F: RandomAccessFile + Drop, T: Write, R: Wait + Clock> ObservedWir
             let said = 64 * (usize::from(u16::from_le_bytes([*low, *high])) + 1);
             let size = said.min(MAX_WORDS);
             slave.size = size as u16;
-            progress.to_read.fetch_add(size as u64, SeqCst);
+            progress.counts.to_read.fetch_add(size as u64, SeqCst);
         }
     }
 
     /// A slave is told to write a word.
     fn note_writing(&mut self, progress: &Progress<T>, place: usize) {
-        progress.words.fetch_add(1, SeqCst);
+        progress.counts.words.fetch_add(1, SeqCst);
         if !self.is_writing {
             self.is_writing = true;
             self.begin_writing(progress);
@@ -171,7 +164,7 @@ impl<W: Wire, F: RandomAccessFile + Drop, T: Write, R: Wait + Clock> ObservedWir
             Some(slave) if slave.left > 0 => {
                 slave.left -= 1;
                 if slave.left == 0 {
-                    progress.done.fetch_add(1, SeqCst);
+                    progress.counts.done.fetch_add(1, SeqCst);
                 }
             }
             _ => {}

@@ -3,7 +3,6 @@ ghost use Rattle.std.specs.Io.{WritesAtMost};
 
 use crate::stage::{Stage, line_of};
 use sii_words::MAX_SLAVES;
-use std::alloc::AllocError;
 use std::io::{self, Write};
 use std::rt::Clock;
 use std::sync::atomic::AtomicU64;
@@ -20,30 +19,30 @@ const AGAIN: u64 = 100;
 /// What goes to the left edge of a terminal, and erases what stands there.
 const ERASE: &[u8] = b"\r\x1b[K";
 
-/// What a run has done so far. Several threads may count.
-///
-/// How long it takes still is told by the pace so far: that of reading, until a word is written, and then that of writing.
-///
-/// One line on a terminal tells it, once the run has taken a second, and ten times a second at most. Each line is drawn over the one before
-/// it. If the terminal can't be written, the run goes on without it.
-#[derive(Drop)]
-pub struct Progress<T> {
-    /// How many commands the script has, and how many of them are durable.
+/// What a run has done so far, as `Stage` says it. Several threads may count.
+#[derive(Default, Drop)]
+pub(crate) struct Counts {
     commands: AtomicU64,
     pub(crate) durable: AtomicU64,
-    /// How many words were read from slaves, and are to be.
     pub(crate) read: AtomicU64,
     pub(crate) to_read: AtomicU64,
-    /// How many words the slaves have written, and are to write.
     pub(crate) words: AtomicU64,
     to_write: AtomicU64,
-    /// How many slaves have all their words read, or written, and how many have words to be.
     pub(crate) done: AtomicU64,
     pub(crate) slaves: AtomicU64,
-    /// How many words each slave is to write; 0 where that isn't known.
-    expected: Mutex<[u32; MAX_SLAVES]>,
     /// Bit i stands for slave i, which is busy with a word.
     busy: AtomicU64,
+}
+
+/// What a run has done so far. One line on a terminal tells it, once the run has taken a second, and ten times a second at most. Each line is drawn
+/// over the one before it. If the terminal can't be written, the run goes on without it.
+///
+/// How long it takes still is told by the pace so far: that of reading, until a word is written, and then that of writing.
+#[derive(Drop)]
+pub struct Progress<T> {
+    pub(crate) counts: Counts,
+    /// How many words each slave is to write; 0 where that isn't known.
+    expected: Mutex<[u32; MAX_SLAVES]>,
     line: Mutex<Line<T>>,
 }
 
@@ -76,109 +75,33 @@ impl<T: Write> Line<T> {
         }
         self.next = now.saturating_add(Duration::from_millis(AGAIN));
         self.is_drawn = true;
-        let left = self.seconds_left(now, stage);
-        if let Ok(text) = line_of(Stage { left, ..stage }) {
+        if let Ok(text) = line_of(stage) {
             let _ = self.terminal.write_all(text.as_slice());
         }
     }
 
-    /// How many seconds are left, as it seems now; 0 where that isn't known.
-    fn seconds_left(&self, now: Duration, stage: Stage) -> u64 {
-        let (since, done, all) = if stage.words > 0 {
-            (self.writing, stage.words, stage.to_write)
-        } else {
-            (self.reading, stage.read, stage.to_read)
+    /// How many seconds the rest takes, as it seems now; 0 where that isn't known.
+    fn seconds_left(&mut self, now: Duration, stage: Stage) -> u64 {
+        let (done, all) = match stage.words {
+            0 => (stage.read, stage.to_read),
+            words => (words, stage.to_write),
         };
-        since.map_or(0, |since| seconds_for(now.saturating_sub(since), done, all))
-    }
-
-    /// Notes when the first words are read, and when the first ones are written.
-    fn note_begin(&mut self, now: Duration, stage: Stage) {
-        if stage.read > 0 && self.reading.is_none() {
-            self.reading = Some(now);
+        if done == 0 {
+            return 0;
         }
-        if stage.words > 0 && self.writing.is_none() {
-            self.writing = Some(now);
-        }
+        let begun = match stage.words {
+            0 => *self.reading.get_or_insert(now),
+            _ => *self.writing.get_or_insert(now),
+        };
+        let taken = now.saturating_sub(begun);
+        let seconds = taken.as_secs().saturating_mul(1000);
+        let milliseconds = seconds.saturating_add(u64::from(taken.subsec_millis()));
+        let rest = all.saturating_sub(done).saturating_mul(milliseconds);
+        (rest / done).div_ceil(1000)
     }
 }
 
-/// How many seconds the rest of so many takes, of which this many took so long; 0 where none is left.
-fn seconds_for(taken: Duration, done: u64, all: u64) -> u64 {
-    if done == 0 {
-        return 0;
-    }
-    let seconds = taken.as_secs().saturating_mul(1000);
-    let milliseconds = seconds.saturating_add(u64::from(taken.subsec_millis()));
-    let rest = all.saturating_sub(done).saturating_mul(milliseconds);
-    (rest / done).div_ceil(1000)
-}
-
-impl<T: Write> Progress<T> {
-    /// Begins to count, for a line on this terminal. None where there is none, or the clock can't be read.
-    pub fn begin<R: Clock>(rt: &R, terminal: Option<T>) -> Option<Progress<T>>
-    where
-        T: Drop,
-    {
-        let terminal = terminal?;
-        let now = rt.monotonic().ok()?;
-        Some(Progress {
-            commands: AtomicU64::new(0),
-            durable: AtomicU64::new(0),
-            read: AtomicU64::new(0),
-            to_read: AtomicU64::new(0),
-            words: AtomicU64::new(0),
-            to_write: AtomicU64::new(0),
-            done: AtomicU64::new(0),
-            slaves: AtomicU64::new(0),
-            expected: Mutex::new([0; MAX_SLAVES]),
-            busy: AtomicU64::new(0),
-            line: Mutex::new(Line {
-                terminal,
-                next: now.saturating_add(Duration::from_millis(FIRST)),
-                reading: None,
-                writing: None,
-                is_drawn: false,
-                is_taken: false,
-            }),
-        })
-    }
-
-    /// The run is one of so many commands.
-    pub fn expect(&self, commands: usize) {
-        self.commands.store(commands as u64, SeqCst);
-    }
-
-    /// Each slave is to write so many words. This is to be known before the first one is written.
-    pub fn expect_words<R: Wait>(&self, rt: &R, words: [u32; MAX_SLAVES]) {
-        *self.expected.lock(rt) = words;
-    }
-
-    /// How many words each slave is to write; 0 where that isn't known.
-    pub(crate) fn expected<R: Wait>(&self, rt: &R) -> [u32; MAX_SLAVES] {
-        *self.expected.lock(rt)
-    }
-
-    /// So many slaves are to write so many words. None of them is done.
-    pub(crate) fn begin_writing(&self, slaves: u64, words: u64) {
-        self.done.store(0, SeqCst);
-        self.slaves.store(slaves, SeqCst);
-        self.to_write.store(words, SeqCst);
-    }
-
-    /// Remembers whether a slave is busy with a word.
-    pub(crate) fn set_busy(&self, slave: usize, is_busy: bool) {
-        if slave >= MAX_SLAVES {
-            return;
-        }
-        let bit = 1u64 << slave;
-        if is_busy {
-            self.busy.fetch_or(bit, SeqCst);
-        } else {
-            self.busy.fetch_and(!bit, SeqCst);
-        }
-    }
-
+impl Counts {
     fn stage(&self) -> Stage {
         Stage {
             commands: self.commands.load(SeqCst),
@@ -193,6 +116,59 @@ impl<T: Write> Progress<T> {
             left: 0,
         }
     }
+}
+
+impl<T: Write> Progress<T> {
+    /// Begins to count, for a line on this terminal. None where there is none, or the clock can't be read.
+    pub fn begin<R: Clock>(rt: &R, terminal: Option<T>) -> Option<Progress<T>>
+    where
+        T: Drop,
+    {
+        let terminal = terminal?;
+        let now = rt.monotonic().ok()?;
+        Some(Progress {
+            counts: Counts::default(),
+            expected: Mutex::new([0; MAX_SLAVES]),
+            line: Mutex::new(Line {
+                terminal,
+                next: now.saturating_add(Duration::from_millis(FIRST)),
+                reading: None,
+                writing: None,
+                is_drawn: false,
+                is_taken: false,
+            }),
+        })
+    }
+
+    /// Each slave is to write so many words. This is to be known before the first one is written.
+    pub fn expect_words<R: Wait>(&self, rt: &R, words: [u32; MAX_SLAVES]) {
+        *self.expected.lock(rt) = words;
+    }
+
+    /// How many words each slave is to write; 0 where that isn't known.
+    pub(crate) fn expected<R: Wait>(&self, rt: &R) -> [u32; MAX_SLAVES] {
+        *self.expected.lock(rt)
+    }
+
+    /// So many slaves are to write so many words. None of them is done.
+    pub(crate) fn begin_writing(&self, slaves: u64, words: u64) {
+        self.counts.done.store(0, SeqCst);
+        self.counts.slaves.store(slaves, SeqCst);
+        self.counts.to_write.store(words, SeqCst);
+    }
+
+    /// Remembers whether a slave is busy with a word.
+    pub(crate) fn set_busy(&self, slave: usize, is_busy: bool) {
+        if slave >= MAX_SLAVES {
+            return;
+        }
+        let bit = 1u64 << slave;
+        if is_busy {
+            self.counts.busy.fetch_or(bit, SeqCst);
+        } else {
+            self.counts.busy.fetch_and(!bit, SeqCst);
+        }
+    }
 
     /// Draws the line, if its time has come and no other thread is at it.
     pub(crate) fn look<R: Clock>(&self, rt: &R) {
@@ -200,15 +176,10 @@ impl<T: Write> Progress<T> {
             return;
         };
         if let Some(mut line) = self.line.try_lock() {
-            let stage = self.stage();
-            line.note_begin(now, stage);
+            let mut stage = self.counts.stage();
+            stage.left = line.seconds_left(now, stage);
             line.draw(now, stage);
         }
-    }
-
-    /// Erases the line, if it is drawn.
-    pub fn erase<R: Wait>(&self, rt: &R) {
-        self.line.lock(rt).erase();
     }
 
     /// Erases the line, and writes these bytes. No line is drawn until they end with a line feed. Then they are flushed, so that whole lines
@@ -233,8 +204,7 @@ impl<T: Write> Progress<T> {
 #[derive(Drop)]
 pub struct Cleared<'a, W, T, R> {
     writer: &'a mut W,
-    progress: Option<&'a Progress<T>>,
-    rt: &'a R,
+    watch: Watch<'a, T, R>,
 }
 
 impl<'a, W: Write, T: Write, R: Wait> Cleared<'a, W, T, R> {
@@ -244,57 +214,45 @@ impl<'a, W: Write, T: Write, R: Wait> Cleared<'a, W, T, R> {
         progress: Option<&'a Progress<T>>,
         rt: &'a R,
     ) -> Cleared<'a, W, T, R> {
-        Cleared {
-            writer,
-            progress,
-            rt,
-        }
+        let watch = Watch { rt, progress };
+        Cleared { writer, watch }
     }
 }
 
 impl<'a, W: Write, T: Write, R: Wait> Write for Cleared<'a, W, T, R> {
     fn write(&mut self, bytes: &[u8]) -> io::Result<usize> {
-        match self.progress {
-            Some(progress) => progress.give_way(self.rt, self.writer, bytes),
+        match self.watch.progress {
+            Some(progress) => progress.give_way(self.watch.rt, self.writer, bytes),
             None => self.writer.write(bytes),
         }
     }
 
     fn flush(&mut self) -> io::Result<()> {
-        if let Some(progress) = self.progress {
-            progress.erase(self.rt);
-        }
+        self.watch.erase();
         self.writer.flush()
     }
 }
 
 /// The runtime of a call, and the progress that counts what it does, if there is one.
+#[derive_where(Clone, Copy)]
 #[derive(Drop)]
 pub struct Watch<'a, T, R> {
     pub rt: &'a R,
     pub progress: Option<&'a Progress<T>>,
 }
 
-impl<'a, T, R> Copy for Watch<'a, T, R> {}
-
-impl<'a, T, R> Clone for Watch<'a, T, R> {
-    fn clone(&self) -> Result<Self, AllocError> {
-        Ok(*self)
-    }
-}
-
 impl<'a, T: Write, R: Wait> Watch<'a, T, R> {
     /// Tells the progress how many commands there are.
     pub fn expect(self, commands: usize) {
         if let Some(progress) = self.progress {
-            progress.expect(commands);
+            progress.counts.commands.store(commands as u64, SeqCst);
         }
     }
 
     /// Erases the line of the progress.
     pub fn erase(self) {
         if let Some(progress) = self.progress {
-            progress.erase(self.rt);
+            progress.line.lock(self.rt).erase();
         }
     }
 }

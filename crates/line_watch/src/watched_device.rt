@@ -83,7 +83,10 @@ impl<'p, D, T: Write, R: Clock> Watched<'p, D, T, R> {
         ensures { self.new.device ≡ self.old.device }
     {
         if self.is_open {
-            progress.durable.fetch_add(u64::from(self.appended), SeqCst);
+            progress
+                .counts
+                .durable
+                .fetch_add(u64::from(self.appended), SeqCst);
             self.appended = 0;
             self.is_open = false;
         }
@@ -129,7 +132,7 @@ impl<'p, D: Device, T: Write, R: Clock> Device for Watched<'p, D, T, R> {
         let resting = self.device.rest(slave, half, frame, k);
         let word = half.in_flight();
         if let (Some(progress), Some(_), Resting::Well) = (self.progress, word, resting) {
-            progress.words.fetch_add(1, SeqCst);
+            progress.counts.words.fetch_add(1, SeqCst);
             progress.set_busy(slave, false);
             progress.look(self.rt);
         }

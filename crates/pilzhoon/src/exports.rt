@@ -186,13 +186,10 @@ fn number_of(code: u32, by: u32) -> u32
     requires { by ≤ 200 }
     ensures { IsNumberOf by code result }
 {
-    if code < 100 {
-        return code;
+    match code {
+        100..=199 => code + by,
+        _ => code,
     }
-    if code >= 200 {
-        return code;
-    }
-    code + by
 }
 
 /// Tells what is to be done next, as `rom_steps::calls::next` does; its codes from 100 on are 200 higher.

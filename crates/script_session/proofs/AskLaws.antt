@@ -1,21 +1,18 @@
 -- Commands that are submitted one by one.
 use Rattle.std.proofs.Common.{◌≡◌, ℕ, zero, suc, ◌<◌, ◌≤◌, List, [], ◌∷◌, ◌++◌, length, refl, sym, ◌∙◌, ap, subst}
-use Rattle.std.proofs.Common.{arith, inl, inr, false, Option, Some, None, option_to_list, Result, Ok, Err}
+use Rattle.std.proofs.Common.{arith, inl, inr, Option, Some, None, option_to_list}
 use Rattle.std.proofs.lemmas.List.{append-nil, length-append, map-append}
 use Rattle.std.proofs.lemmas.Bool.{cases_lt}
 use Rattle.std.proofs.lemmas.Option.{slice_get_within, get_or_from_slice_get}
-use Rattle.std.specs.Prelude.{slice_get, is_some, All, IfErr, IfOk}
-use Rattle.std.specs.Global.{Vec}
+use Rattle.std.specs.Prelude.{slice_get, All}
 use Rattle.sii_edit.specs.declared.command.Command.{Command}
 use Rattle.desk_book.specs.Numbered.{Numbered}
 use Rattle.desk_book.specs.Serving.{ShareCounts}
 use Rattle.desk_book.specs.Closing.{StandsAt}
-use Rattle.station_files.specs.declared.faults.Fault.{Fault}
 use Rattle.station_line.specs.declared.answered.Answered.{Answered}
-use Rattle.station_line.specs.declared.answered.Answered.TheVariants.{AllAccepted}
 use Rattle.station_line.specs.Rounds.{AreAmong}
 use Rattle.station_line.proofs.RoundSubmitting.{among-then}
-use Rattle.script_session.specs.Asking.{commands_of, no_counts, AreInOrder, Asks, AsksAll, ComesTo, GivesUp, Receives}
+use Rattle.script_session.specs.Asking.{commands_of, AreInOrder, Asks, AsksAll}
 
 one-more : {A : Type 0} {P : Type 0} (xs : List A) (x : A) → xs ++ x ∷ [] ≡ [] → P
 one-more xs x is = let none = ap length is in absurd (omega (arith, none, length-append xs (x ∷ [])))

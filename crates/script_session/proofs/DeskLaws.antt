@@ -42,17 +42,17 @@ use Rattle.station_jobs.specs.declared.log.SlaveLog.{SlaveLog}
 use Rattle.station_jobs.specs.Ends.{Stay}
 use Rattle.station_threads.specs.Parts.{IsEndOfSlave}
 use Rattle.station_threads.proofs.PlaceLaws.{placed-long}
-use Rattle.script_session.specs.Parts.{Sites, AreFollowed, AreSound, BeginsWith, EndsSynced, HasDiskOf, IsSeparate, IsDeskLeft, IsDeskReported, IsLineReported}
+use Rattle.script_session.specs.Parts.{Sites, AreSound, BeginsWith, EndsSynced, HasDiskOf, IsSeparate, IsDeskLeft, IsDeskReported, IsLineReported}
 use Rattle.script_session.specs.Parts.{IsServable, AreEndsOfParts}
 use Rattle.script_session.specs.AtDesk as at_desk
 use Rattle.script_session.specs.AtDesk.{seen_of, Closes, ClosesWith, DeskServes, IsUnservedReported, EndsSo, IsServedAtDesk, IsStopped}
 use Rattle.script_session.specs.Parts.{IsCount, IsTogether, Telling, issues_of}
-use Rattle.script_session.specs.AtDesk.{IsStoppedAtDesk, LeavesSo, ServesFollowed, TellsWhy}
+use Rattle.script_session.specs.AtDesk.{ServesFollowed, ServesParts, TellsWhy}
 use Rattle.script_session.proofs.AskLaws.{all-received}
 use Rattle.script_session.proofs.SlaveLaws.{contents-together}
 use Rattle.station_line.specs.Site.{IsFollowed}
-use Rattle.script_session.proofs.SoundLaws.{followed_ends, on_ok}
-use Rattle.script_session.proofs.LeftLaws.{kept-together, left-together}
+use Rattle.script_session.proofs.SoundLaws.{ends_synced, on_ok}
+use Rattle.script_session.proofs.LeftLaws.{left-together}
 
 -- the result for a closed desk
 pub closes-now : (opened : Book) (calls : List Call) (shares : List ShareCounts) (receipts : List Numbered) (ends left : Ends SiteValue) (closed : Result (Unit {0}) CloseFault) (reported : Result (Unit {0}) Fault) → AreAnswered opened calls → is_served (replayed opened calls) ≡ true
@@ -218,35 +218,19 @@ servable sites capacity entire None halves long bytes held disk new slaves owned
 
 -- ---- a line that was served at a desk
 
-module _ (opened : Station) (commands : List Command) (sites : Sites) (ends : Ends SiteValue) (site : SiteValue) (separate : IsSeparate opened.seen.state sites) (of_sites : AreEndsOfParts sites ends) (together : IsTogether ends site) where
-  leaves-so : (is_driven : Bool) (answered : Answered) (reported : Result (Unit {0}) Fault) (closed : Result (Unit {0}) CloseFault)
-      → MatchResult closed (λ done. ClosesWith opened.book commands is_driven answered reported ends) (λ why. IsStopped opened.book why reported ends)
-      → MatchResult closed (λ done. IsServedAtDesk opened commands is_driven answered reported site) (λ why. IsStoppedAtDesk opened why reported site)
-  leaves-so is_driven answered reported (Ok done) closes = record {
-    sites = sites;
-    separate = separate;
-    ends = ends;
-    of_sites = of_sites;
-    closes = closes;
-    together = together;
-    contents = λ just. contents-together opened.book (replayed opened.book closes.calls) opened.seen.state sites ends site separate of_sites together (closes.closed.contents just);
-    left = left-together opened closes.calls sites ends separate of_sites site together closes.closed.left;
-  }
-  leaves-so is_driven answered reported (Err why) stops = record {
-    calls = stops.calls;
-    answered = stops.answered;
-    kept = λ unserved. kept-together opened stops.calls sites ends separate of_sites site together (stops.kept unserved);
-    tells = stops.tells;
-  }
-
-pub served-at-desk : {T E : Type 0} (opened : Station) (commands : List Command) (book : Book) (seen : Seen) (sites : Sites) (at : AtDesk SiteValue) (result : Result (Left SiteValue T) E) → book ≡ opened.book → seen ≡ opened.seen → IsSeparate seen.state sites → AreEndsOfParts sites at.ends
-    → IfOk result (λ (left : Left SiteValue T). IsTogether at.ends left.site × (left.ending ≡ at.ending)) → EndsSo book commands at.ends at.ending → IfOk result (λ (left : Left SiteValue T). LeavesSo opened commands left.ending left.site)
-served-at-desk opened commands book seen sites at (Ok left) of_book of_seen separate of_sites is ends =
-    let here : EndsSo opened.book commands at.ends at.ending = subst (λ (b : Book). EndsSo b commands at.ends at.ending) of_book ends in
-    let same : EndsSo opened.book commands at.ends left.ending = subst (λ (e : Ending). EndsSo opened.book commands at.ends e) (sym is.1) here in
-    let parts : IsSeparate opened.seen.state sites = subst (λ (s : Seen). IsSeparate s.state sites) of_seen separate in
-    record { reported = same.reported; left = leaves-so opened commands sites at.ends left.site parts of_sites is.0 left.ending.is_driven left.ending.answered left.ending.reported left.ending.closed same.ended }
-served-at-desk opened commands book seen sites at (Err fault) of_book of_seen separate of_sites is ends = tt
+abbrev pub served-at-desk : (opened : Station) (commands : List Command) (sites : Sites) (ends : Ends SiteValue) (site : SiteValue) (is_driven : Bool) (answered : Answered) (reported : Result (Unit {0}) Fault)
+    → IsSeparate opened.seen.state sites → AreEndsOfParts sites ends → IsTogether ends site → ClosesWith opened.book commands is_driven answered reported ends
+    → IsServedAtDesk opened commands is_driven answered reported site
+served-at-desk opened commands sites ends site is_driven answered reported separate of_sites together closes = record {
+  sites = sites;
+  separate = separate;
+  ends = ends;
+  of_sites = of_sites;
+  closes = closes;
+  together = together;
+  contents = λ just. contents-together opened.book (replayed opened.book closes.calls) opened.seen.state sites ends site separate of_sites together (closes.closed.contents just);
+  left = left-together opened closes.calls sites ends separate of_sites site together closes.closed.left;
+}
 
 -- a desk served these sites
 module _ (opened : Station) (commands : List Command) (book : Book) (seen : Seen) (sites : Sites) (at : AtDesk SiteValue)
@@ -271,17 +255,18 @@ module _ (opened : Station) (commands : List Command) (book : Book) (seen : Seen
         → IsDeskReported follows well tells s left.reported at.ends)
         → IfOk result (λ (left : Left SiteValue T). OnOk left.sound (AreSound left.reported × EndsSynced at.ends.flusher.log))
         → IfOk result (λ (left : Left SiteValue T). IsCount (issues_of at.ends.workers.items) left.words)
-        → IsFollowed (Telling follows well tells line) seen → length opened.line.sizes ≡ length seen.state.halves → AreFollowed follows at.ends
+        → IsFollowed (Telling follows well tells line) seen → length opened.line.sizes ≡ length seen.state.halves
         → IfOk result (λ (left : Left SiteValue T). ServesFollowed follows well tells turns opened commands left)
-    serves-parts well tells turns line (Ok left) turning is reported sound words before count all = record {
+    serves-parts well tells turns line (Ok left) turning is reported sound words before count = record {
       parts = record { desk = desk-serves left.ending is.1; together = is.0 };
       turning = turning;
-      followed = followed_ends follows well tells opened seen sites at.ends left.reported left.sound of_seen separate of_sites (reported seen before) count sound all;
+      count = count ∙ ap (λ (s : Seen). length s.state.halves) of_seen;
       reported = reported opened.seen (subst (IsFollowed (Telling follows well tells line)) of_seen before);
-      sound = on_ok left.sound (λ (both : AreSound left.reported × EndsSynced at.ends.flusher.log). both.0) sound;
+      sound = on_ok left.sound (λ (both : AreSound left.reported × EndsSynced at.ends.flusher.log).
+          (both.0, ends_synced seen.state sites at.ends separate of_sites (reported seen before).flushed both.1)) sound;
       words = words;
     }
-    serves-parts well tells turns line (Err fault) turning is reported sound words before count all = tt
+    serves-parts well tells turns line (Err fault) turning is reported sound words before count = tt
 
     -- or not
     pub ends-separate : {T : Type 0} (well : D → Type 0) (tells : D → T → Type 0) (line : PartLog T) (result : Result (Left SiteValue T) (NotServed T))
@@ -309,9 +294,19 @@ as-many-ends sites ends room of_sites enough =
     let long = placed-long (λ slave (site : SiteValue) (end : Stay SiteValue SlaveLog). IsEndOfSlave slave site end) 0 sites.slaves.items ends.workers.items of_sites.workers in
     omega (arith, long, enough)
 
--- where no fault is told, the desk was closed, and the line was served
-pub served-reported : (opened : Station) (commands : List Command) (ending : Ending) (site : SiteValue) → ending.reported ≡ Ok tt → LeavesSo opened commands ending site → IsServedAtDesk opened commands ending.is_driven ending.answered (Ok tt) site
-served-reported opened commands ending site good leaves =
-    let closed : ending.closed ≡ Ok tt = subst (λ (r : Result (Unit {0}) Fault). OnOk r (ending.closed ≡ Ok tt)) good leaves.reported in
-    subst (λ (reported : Result (Unit {0}) Fault). IsServedAtDesk opened commands ending.is_driven ending.answered reported site) good
-    (subst (λ (r : Result (Unit {0}) CloseFault). MatchResult r (λ done. IsServedAtDesk opened commands ending.is_driven ending.answered ending.reported site) (λ why. IsStoppedAtDesk opened why ending.reported site)) closed leaves.left)
+-- where no fault is told, the desk was closed
+pub closed-quietly : (book : Book) (commands : List Command) (ending : Ending) (ends : Ends SiteValue) → ending.reported ≡ Ok tt → EndsSo book commands ends ending
+    → ClosesWith book commands ending.is_driven ending.answered (Ok tt) ends
+closed-quietly book commands ending ends good ended =
+    let closed : ending.closed ≡ Ok tt = subst (λ (r : Result (Unit {0}) Fault). OnOk r (ending.closed ≡ Ok tt)) good ended.reported in
+    subst (λ (reported : Result (Unit {0}) Fault). ClosesWith book commands ending.is_driven ending.answered reported ends) good
+    (subst (λ (r : Result (Unit {0}) CloseFault). MatchResult r (λ done. ClosesWith book commands ending.is_driven ending.answered ending.reported ends)
+    (λ why. IsStopped book why ending.reported ends)) closed ended.ended)
+
+-- and the line was served
+pub served-quietly : (opened : Station) (commands : List Command) (ending : Ending) (site : SiteValue) → ending.reported ≡ Ok tt → ServesParts opened commands ending site
+    → IsServedAtDesk opened commands ending.is_driven ending.answered (Ok tt) site
+served-quietly opened commands ending site good parts =
+    let desk = parts.desk in
+    served-at-desk opened commands desk.sites desk.ends site ending.is_driven ending.answered (Ok tt) desk.separate desk.of_sites parts.together
+    (closed-quietly opened.book commands ending desk.ends good desk.ended)

@@ -115,10 +115,6 @@ module _ (opened : Station) (calls : List Call) (sites : Sites) (ends : Ends Sit
     kept-less : (machine : Machine) (book : Book) → IsKeptAs machine book new → IsKeptAs machine book site.seen.state
     kept-less machine book is = record { k = is.k; may_keep = is.may_keep; base = is.base; kept = λ pair leaves. is.kept pair (less pair leaves) }
 
-    pub kept-together : AllEndSo IsKeptAs opened.book calls seen_of ends.flusher ends.workers.items → AllLeftSo IsKeptAs opened calls site
-    kept-together all machine begins = kept-less machine (replayed opened.book calls)
-        (all machine begins.journal old new begins.book (opened-on machine begins) first last)
-
     pub left-together : AllEndSo IsLeft opened.book calls seen_of ends.flusher ends.workers.items → AllLeftSo IsLeft opened calls site
     left-together all machine begins =
         let is = all machine begins.journal old new begins.book (opened-on machine begins) first last in

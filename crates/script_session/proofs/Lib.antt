@@ -8,7 +8,9 @@ pub mod ReportedLaws
 pub mod SoundLaws
 pub mod DeskLaws
 pub mod IssueLaws
-pub mod RedoLaws
+pub mod RecoveryLaws
 pub mod SavingLaws
+pub mod ThreeDevices
 pub mod AfterLaws
 pub mod RunLaws
+pub mod SaysLaws

@@ -7,7 +7,6 @@ use Rattle.std.specs.List.{AllByRecursion}
 use Rattle.std.proofs.lemmas.Bool.{false≢true}
 use Rattle.std.proofs.lemmas.List.{length-map, map-append}
 use Rattle.esc_model.specs.SlaveHalf.{SlaveHalf}
-use Rattle.site_core.specs.State.{Seen}
 use Rattle.site_shadow.specs.Line.{half_of, halves_of}
 use Rattle.site_shadow.specs.Site.{SiteValue}
 use Rattle.site_shadow.specs.Parts.{bytes_or_none, site_of}
@@ -16,11 +15,9 @@ use Rattle.site_shadow.specs.Unsynced.{of_bytes}
 use Rattle.station_threads.specs.declared.closing.Ends.{Ends}
 use Rattle.station_jobs.specs.declared.log.SlaveLog.{SlaveLog}
 use Rattle.station_jobs.specs.Ends.{Stay}
-use Rattle.station_jobs.specs.Flushing.{IsFlushed}
 use Rattle.station_threads.specs.Places.{AllPlaced}
 use Rattle.station_threads.proofs.PlaceLaws.{placed-long, placed-more}
-use Rattle.script_session.specs.Parts.{AreFollowed, BeginsWith, HasDiskOf, EndsWith, IsLineOf, IsTogether, IsWorkFollowed}
-use Rattle.station_line.specs.Site.{IsFollowed}
+use Rattle.script_session.specs.Parts.{BeginsWith, HasDiskOf, EndsWith, IsLineOf, IsTogether}
 
 -- one site more
 pub sites-more : (halves : List (Option SlaveHalf)) (sites : List SiteValue) (half : Option SlaveHalf) (site : SiteValue) (slave : ℕ) → AllPlaced BeginsWith 0 (halves_of halves) sites → slave ≡ length sites → BeginsWith slave (half_of half) site

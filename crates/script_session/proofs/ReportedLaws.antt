@@ -1,24 +1,21 @@
 -- What is told of the devices of a line that was served at a desk.
-use Rattle.std.proofs.Common.{◌≡◌, ℕ, suc, ◌+◌, ◌<◌, List, [], ◌∷◌, ◌++◌, length, slice_get, Some, refl, sym, ap, subst}
+use Rattle.std.proofs.Common.{◌≡◌, ℕ, zero, suc, ◌+◌, ◌<◌, List, [], ◌∷◌, ◌++◌, length, slice_get, Some, refl, sym, ap, subst}
 use Rattle.std.proofs.Common.{◌∙◌, inl, inr, arith}
 use Rattle.std.proofs.lemmas.Bool.Decides.{leb_tells}
-use Rattle.std.specs.Prelude.{IsTrue, IfOk, Option, Result, Ok, Err}
+use Rattle.std.specs.Prelude.{IfOk, Option, Result, Ok, Err}
 use Rattle.std.specs.Global.{Vec}
+use Rattle.std.specs.List.{AllByRecursion}
 use Rattle.esc_model.specs.SlaveHalf.{SlaveHalf}
 use Rattle.site_shadow.specs.Line.{halves_of}
 use Rattle.station_threads.specs.Places.{AllPlaced}
 use Rattle.station_files.specs.declared.faults.Fault.{Fault}
 use Rattle.script_session.specs.declared.together.OfSlaves.{OfSlaves}
-use Rattle.std.specs.List.{AllByRecursion}
 use Rattle.site_core.specs.State.{Seen}
 use Rattle.site_shadow.specs.Site.{SiteValue}
 use Rattle.station_jobs.specs.Ends.{Stay}
 use Rattle.station_jobs.specs.declared.log.SlaveLog.{SlaveLog}
-use Rattle.station_threads.specs.declared.closing.Ends.{Ends}
-use Rattle.station_line.specs.Site.{IsFollowed}
 use Rattle.script_session.specs.declared.logs.PartLog.{PartLog}
-use Rattle.script_session.specs.declared.logs.DeskLog.{DeskLog}
-use Rattle.script_session.specs.Parts.{AreFollowed, AreLeftBy, AreSound, EndsWith, IsRoom, AreReportedOf, IsDeskReported, IsWorkFollowed, Soundly, Telling}
+use Rattle.script_session.specs.Parts.{AreLeftBy, EndsWith, IsRoom, AreReportedOf, IsWorkFollowed, Telling}
 
 -- What holds at each place before one, and there, holds at each place before the next.
 pub before-next : {T : Type 0} (P : ℕ → T → Type 0) (xs : List T) (place : ℕ) (x : T) → slice_get xs place ≡ Some x → P place x
@@ -30,6 +27,23 @@ before-next P xs place x at holds before k y inside here = elim (leb_tells place
       subst (λ (n : ℕ). P n y) same (subst (P place) is holds)
   | inr under ↦ before k y under.1 here
 ]
+
+-- what holds of all holds of each
+pub at-place : {A : Type 0} (P : A → Type 0) (xs : List A) (k : ℕ) (a : A) → AllByRecursion P xs → slice_get xs k ≡ Some a → P a
+at-place P [] k a all at = absurd cc
+at-place P (b ∷ xs) zero a all at = let same : b ≡ a = cc in subst P same all.0
+at-place P (b ∷ xs) (suc k) a all at = at-place P xs k a all.1 at
+
+-- each end is of a worker whose device is told of
+pub reported-work : {D T : Type 0} (follows : D → Seen → Type 0) (well : D → Type 0) (tells : D → T → Type 0) (reported : List (PartLog T)) (workers : List (Stay SiteValue SlaveLog))
+    → AreReportedOf follows well tells reported workers → (slave : ℕ) (end : Stay SiteValue SlaveLog) → slice_get workers slave ≡ Some end
+    → (part : PartLog T) × (slice_get reported slave ≡ Some part) × IsWorkFollowed (Telling follows well tells part) end
+reported-work follows well tells [] [] all slave end here = absurd cc
+reported-work follows well tells [] (e ∷ workers) all slave end here = absurd all
+reported-work follows well tells (t ∷ reported) [] all slave end here = absurd all
+reported-work follows well tells (t ∷ reported) (e ∷ workers) all zero end here =
+    let same : e ≡ end = cc in (t, refl, subst (IsWorkFollowed (Telling follows well tells t)) same all.0)
+reported-work follows well tells (t ∷ reported) (e ∷ workers) all (suc slave) end here = reported-work follows well tells reported workers all.1 slave end here
 
 module _ {D T : Type 0} (follows : D → Seen → Type 0) (well : D → Type 0) (tells : D → T → Type 0) where
   -- one end more
@@ -57,30 +71,3 @@ module _ {D T : Type 0} (follows : D → Seen → Type 0) (well : D → Type 0) 
   reported-long [] (e ∷ ends) all = absurd all
   reported-long (t ∷ tellings) [] all = absurd all
   reported-long (t ∷ tellings) (e ∷ ends) all = ap suc (reported-long tellings ends all.1)
-
-  -- where a part is called sound
-  soundly : (reported : PartLog T) (seen : Seen) → IsTrue reported.is_sound → IsFollowed (Telling follows well tells reported) seen
-      → IsFollowed (Soundly follows well) seen
-  soundly reported seen sound is = let so = is.1.2 sound in (is.0, (is.1.0, so.0, so.1))
-
-  all_soundly : (tellings : List (PartLog T)) (ends : List (Stay SiteValue SlaveLog))
-      → AllByRecursion (λ (part : PartLog T). IsTrue part.is_sound) tellings → AreReportedOf follows well tells tellings ends
-      → AllByRecursion (IsWorkFollowed (Soundly follows well)) ends
-  all_soundly [] [] sound all = tt
-  all_soundly [] (e ∷ ends) sound all = absurd all
-  all_soundly (t ∷ tellings) [] sound all = absurd all
-  all_soundly (t ∷ tellings) (e ∷ ends) sound all =
-      (record { worked = all.0.worked; followed = soundly t e.site.seen sound.0 all.0.followed }, all_soundly tellings ends sound.1 all.1)
-
-  -- the line before, and its parts
-  pub line_soundly : (opened : Seen) (reported : DeskLog T) (ends : Ends SiteValue) → IsDeskReported follows well tells opened reported ends → AreSound reported
-      → IsFollowed (Soundly follows well) opened
-  line_soundly opened reported ends is sound = soundly reported.line opened sound.line is.before
-
-  pub parts_soundly : (opened : Seen) (reported : DeskLog T) (ends : Ends SiteValue) → IsDeskReported follows well tells opened reported ends → AreSound reported
-      → AreFollowed (Soundly follows well) ends
-  parts_soundly opened reported ends is sound = record {
-    flushed = is.flushed;
-    followed = soundly reported.disk ends.flusher.site.seen sound.disk is.disk;
-    workers = all_soundly reported.slaves.items ends.workers.items sound.slaves is.slaves;
-  }

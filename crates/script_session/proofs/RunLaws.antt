@@ -14,6 +14,8 @@ use Rattle.kept_files.specs.KeptFiles.{KeptAfter}
 use Rattle.station_alone.specs.Station.{Station}
 use Rattle.station_alone.specs.Keeping.{KeptFor}
 use Rattle.station_alone.specs.Opening.{BeginsSession}
+use Rattle.station_alone.specs.declared.recovery.Recovered.{Recovered}
+use Rattle.station_threads.specs.declared.closing.Ends.{Ends}
 use Rattle.station_text.specs.declared.line_file.LineFile.{LineFile}
 use Rattle.station_files.specs.Files.{Known}
 use Rattle.station_line.specs.declared.answered.Answered.{Answered}
@@ -29,15 +31,16 @@ use Rattle.script_session.specs.declared.logs.UnservedLog.{UnservedLog}
 use Rattle.script_session.specs.declared.logs.UnservedLog.TheVariants as unserved
 use Rattle.script_session.specs.declared.running.LineRun.{LineRun}
 use Rattle.script_session.specs.declared.threads.Left.{Left}
-use Rattle.script_session.specs.After.{GoesAfterDesk, GoesFollowed, LedOn, SavesFollowed, ServesSome, Tells}
-use Rattle.script_session.specs.AtDesk.{IsServedReported, IsUnservedReported, LeavesSo, ServesFollowed}
+use Rattle.script_session.specs.After.{GoesAfterDesk, GoesFollowed, LedOn, SavesRecovered, ServesSome, Tells}
+use Rattle.script_session.specs.AtDesk.{IsServedReported, IsUnservedReported, ServesFollowed, ServesParts}
 use Rattle.script_session.specs.AtDesk as at_desk
-use Rattle.script_session.specs.Parts.{IsDeskReported}
-use Rattle.script_session.specs.Running.{DeskGoes, EndsReported, GoesAfter, GoesAlone, HasEnded, LedAtDesk, OfDevices, SavesDesk, SavesSite, Says, ServesOn}
+use Rattle.script_session.specs.Parts.{AreSound, IsDeskReported, IsSynced}
+use Rattle.script_session.specs.Running.{DeskGoes, DeskTells, EndsReported, GoesAfter, GoesAlone, HasEnded, LedAtDesk, OfDevices, SavesDesk, SavesSite, Says, ServesOn}
 use Rattle.script_session.specs.Running.{TellsOf, desk_of, line_reported, opening_of, whole_of}
-use Rattle.script_session.specs.Running.{idle, recovered, separate, unbegun, unrecovered}
+use Rattle.script_session.specs.Running.{idle, recovered, separate, served, unbegun, unrecovered}
 use Rattle.script_session.specs.Saving.{SavesAfter, SavesLeft, Serves}
-use Rattle.script_session.proofs.DeskLaws.{served-reported}
+use Rattle.script_session.proofs.AfterLaws.{saves_weaker}
+use Rattle.script_session.proofs.DeskLaws.{served-quietly}
 use Rattle.script_session.proofs.SavingLaws.{after-unserved, after-worse}
 use Rattle.script_session.proofs.SoundLaws.{served_soundly}
 
@@ -121,16 +124,38 @@ goes_after_desk {D} {T} follows well tells reported after false sound commands l
     (subst (λ (t : Option T). ServesSome (TellsOf follows tells t) commands serves.r) (sym tells_so) serves.serves))
 
 -- what a line was not served with, by what `serve_task` tells
-pub not_served : {D T : Type 0} (follows : D → Seen → Type 0) (well : D → Type 0) (tells : D → T → Type 0) (reported : RunLog T) (station : Station)
-    (commands : List Command) (why : UnservedLog T) (Failed : Type 0) → Failed → reported.desk ≡ desk_of why
-    → IsUnservedReported follows well tells station commands why → DeskGoes (OfDevices follows well tells reported) station commands Failed
-not_served follows well tells reported station commands (unserved.Line part) Failed bad is (at_desk.line _ followed) = unbegun bad
-not_served follows well tells reported station commands (unserved.Separate devices) Failed bad is (at_desk.separate _ parts none tellings) =
-    idle parts none
-    (subst (λ (d : Option (DeskLog _)). IsSomeAnd d (λ one. IsDeskReported follows well tells station.seen one parts.ends)) (sym is) tellings) bad
-not_served follows well tells reported station commands (unserved.Desk devices) Failed bad is (at_desk.desk _ ending served_by tellings) =
+pub not_served : {D T : Type 0} (follows : D → Seen → Type 0) (well : D → Type 0) (tells : D → T → Type 0) (reported : Option (DeskLog T)) (says : Says) (station : Station)
+    (commands : List Command) (why : UnservedLog T) (Failed : Type 0) → Failed → reported ≡ desk_of why
+    → (reported ≡ None → says.unbegun) → ((ends : Ends SiteValue) → IsSomeAnd reported (λ one. IsDeskReported follows well tells station.seen one ends) → says.parts station ends)
+    → IsUnservedReported follows well tells station commands why → DeskGoes says station commands Failed
+not_served follows well tells reported says station commands (unserved.Line part) Failed bad is none_begun parts (at_desk.line _ followed) = unbegun (none_begun is) bad
+not_served follows well tells reported says station commands (unserved.Separate devices) Failed bad is none_begun parts (at_desk.separate _ ends none tellings) =
+    idle ends none
+    (parts ends.ends (subst (λ (d : Option (DeskLog _)). IsSomeAnd d (λ one. IsDeskReported follows well tells station.seen one ends.ends)) (sym is) tellings)) bad
+not_served follows well tells reported says station commands (unserved.Desk devices) Failed bad is none_begun parts (at_desk.desk _ ending served_by tellings) =
     separate ending served_by
-    (subst (λ (d : Option (DeskLog _)). IsSomeAnd d (λ one. IsDeskReported follows well tells station.seen one served_by.ends)) (sym is) tellings) bad
+    (parts served_by.ends (subst (λ (d : Option (DeskLog _)). IsSomeAnd d (λ one. IsDeskReported follows well tells station.seen one served_by.ends)) (sym is) tellings)) bad
+
+-- a desk served it
+module _ {D T : Type 0} (follows : D → Seen → Type 0) (well : D → Type 0) (tells : D → T → Type 0) (turns : Bool) (run : LineRun T) (opened : Station)
+    (commands : List Command) (left : Left SiteValue T) (serves : ServesFollowed follows well tells turns opened commands left)
+    (desk : run.reported.desk ≡ Some left.reported) where
+  pub served_line : IsFollowed (TellsOf follows tells (line_reported run.reported.desk run.reported.opening)) opened.seen
+  served_line =
+      let before = serves.reported.before in
+      subst (λ d. IsFollowed (TellsOf follows tells (line_reported d run.reported.opening)) opened.seen) (sym desk) (before.0, (before.1.0, before.1.1))
+
+  pub desk_tells : DeskTells follows well tells run.reported.desk opened left.sound serves.parts.desk.ends
+  desk_tells =
+      subst (λ d. IsSomeAnd d (λ reported. IsDeskReported follows well tells opened.seen reported serves.parts.desk.ends
+      × OnOk left.sound (AreSound reported × IsSynced serves.parts.desk.ends))) (sym desk) (serves.reported, serves.sound)
+
+  pub served_goes : (says : Says) → says.desk opened left.sound serves.parts.desk.ends left.site → (left.ending.is_driven ≡ false → left.unserved.items ≡ commands)
+      → (left.ending.closed ≡ Ok tt → GoesAfter says left.ending.is_driven left.sound left.unserved.items left.site.seen (IsErr run.ended))
+      → DeskGoes says opened commands (IsErr run.ended)
+  served_goes says tells_so same goes =
+      served left.ending left.site left.sound serves.parts tells_so
+      (λ closed. after_unserved says left.ending.is_driven left.sound left.unserved.items commands left.site.seen (IsErr run.ended) same (goes closed))
 
 pub unserved_line : {D T : Type 0} (follows : D → Seen → Type 0) (well : D → Type 0) (tells : D → T → Type 0) (reported : RunLog T) (station : Station)
     (commands : List Command) (why : UnservedLog T) → reported.desk ≡ desk_of why → reported.opening ≡ opening_of why
@@ -161,73 +186,73 @@ saves_left files line left closed ready (Ok given) answered told is good saves h
 saves_left files line left closed ready (Err fault) answered told is good saves has = absurd has
 
 -- what holds where the run ended without a fault
-of_ended : {P : Type 0} (Q : Answered → Type 0) (ended : Result Answered Fault) → IsOkAnd ended Q → OnOk ended P → P
+pub of_ended : {P : Type 0} (Q : Answered → Type 0) (ended : Result Answered Fault) → IsOkAnd ended Q → OnOk ended P → P
 of_ended Q (Ok given) has holds = holds
 of_ended Q (Err fault) has holds = absurd has
 
 at_the_desk : {T : Type 0} (files : Known) (line : LineFile) (opened : Station) (commands : List Command) (left : Left SiteValue T) (answered : Answered)
-    → LeavesSo opened commands left.ending left.site → (left.ending.is_driven ≡ false → left.unserved.items ≡ commands)
+    → ServesParts opened commands left.ending left.site → (left.ending.is_driven ≡ false → left.unserved.items ≡ commands)
     → SavesLeft files line left answered → Serves false files line opened commands answered
-at_the_desk files line opened commands left answered leaves same saves = record {
+at_the_desk files line opened commands left answered parts same saves = record {
   is_driven = left.ending.is_driven;
   answers = left.ending.answered;
   worst = saves.worst;
   site = left.site;
-  served = served-reported opened commands left.ending left.site saves.reported leaves;
+  served = served-quietly opened commands left.ending left.site saves.reported parts;
   after = after-unserved left.ending.is_driven files line left.site.seen left.unserved.items commands answered same saves.after;
 }
 
+-- what is said of what is told, if anything is
+pub some_weaker : {A : Type 0} {P Q : A → Type 0} (option : Option A) → ((a : A) → P a → Q a) → IsSomeAnd option P → IsSomeAnd option Q
+some_weaker (Some a) says holds = says a holds
+some_weaker None says holds = absurd holds
+
 module _ {D T : Type 0} (follows : D → Seen → Type 0) (well : D → Type 0) (tells : D → T → Type 0) (turns : Bool) (slaves : ℕ) (files : Known) (line : LineFile) where
   -- what is told of the devices at the desk and after it is all that is told
-  led_whole : (desk : Option (DeskLog T)) (after : Option T) (opened : Station) (left : SiteValue) (reported : DeskLog T) → desk ≡ Some reported
-      → IsServedReported follows well tells turns opened reported left
-      → IsSomeAnd after (λ one. SavesFollowed (LedOn follows well tells one slaves left.seen) files line)
-      → SavesFollowed (λ last. IsSomeAnd (whole_of desk after) (λ whole. LedAtDesk follows well tells turns slaves opened whole last)) files line
-  led_whole desk None opened left reported is served led = absurd led
-  led_whole desk (Some after) opened left reported is served led = record {
-    s = led.s;
-    recovered = led.recovered;
-    held = led.held;
-    way = subst (λ (d : Option (DeskLog T)). IsSomeAnd (whole_of d (Some after)) (λ whole. LedAtDesk follows well tells turns slaves opened whole led.s.seen)) (sym is)
-        (record { leads = record { left = left; served = served; after = led.way.leads }; ends = led.way.ends });
-  }
+  pub led_whole : (Way : LineLog T → Station → Type 0) (desk : Option (DeskLog T)) (after : Option T) (left : SiteValue) (counts : Option Recovered) (reported : DeskLog T)
+      → desk ≡ Some reported → ((one : T) (s : Station) → LedOn follows well tells one slaves counts left s → Way (record { desk = reported; after = one }) s)
+      → IsSomeAnd after (λ one. SavesRecovered (LedOn follows well tells one slaves counts left) files line left.seen)
+      → SavesRecovered (λ s. IsSomeAnd (whole_of desk after) (λ whole. Way whole s)) files line left.seen
+  led_whole Way desk None left counts reported is says led = absurd led
+  led_whole Way desk (Some after) left counts reported is says led =
+      saves_weaker (λ s recovered way. subst (λ (d : Option (DeskLog T)). IsSomeAnd (whole_of d (Some after)) (λ whole. Way whole s)) (sym is) (says after s way))
+      (λ s begins. begins) led
+
+  pub led_desk : (opened : Station) (left : SiteValue) (counts : Option Recovered) (reported : DeskLog T) → IsServedReported follows well tells turns opened reported left
+      → (one : T) (s : Station) → LedOn follows well tells one slaves counts left s
+      → LedAtDesk follows well tells turns slaves opened (record { desk = reported; after = one }) s.seen
+  led_desk opened left counts reported was one s led = record { left = left; served = was; after = led.leads; ends = led.ends }
 
   pub saves_desk : (run : LineRun T) (opened : Station) (commands : List Command) (left : Left SiteValue T) (answered : Answered)
-      → LeavesSo opened commands left.ending left.site → (left.ending.is_driven ≡ false → left.unserved.items ≡ commands)
-      → ServesFollowed follows well tells turns opened commands left → OnOk run.ended (left.sound ≡ Ok tt) → run.reported.desk ≡ Some left.reported
-      → OnOk run.ended (IsTrue left.ending.is_driven
-      → IsSomeAnd run.reported.after (λ after. SavesFollowed (LedOn follows well tells after slaves left.site.seen) files line))
+      → (left.ending.is_driven ≡ false → left.unserved.items ≡ commands) → ServesFollowed follows well tells turns opened commands left
+      → OnOk run.ended (left.sound ≡ Ok tt) → run.reported.desk ≡ Some left.reported → OnOk run.ended (IsTrue left.ending.is_driven
+      → IsSomeAnd run.reported.after (λ after. SavesRecovered (LedOn follows well tells after slaves run.recovered left.site) files line left.site.seen))
       → HasEnded run answered → SavesLeft files line left answered
-      → SavesDesk (λ last. IsSomeAnd (whole_of run.reported.desk run.reported.after) (λ whole. LedAtDesk follows well tells turns slaves opened whole last)) files line opened commands answered
+      → SavesDesk (λ s. IsSomeAnd (whole_of run.reported.desk run.reported.after) (λ whole. LedAtDesk follows well tells turns slaves opened whole s.seen)) files line opened commands answered
   unfolding at_the_desk
-  saves_desk run opened commands left answered leaves same serves sound desk followed has saves =
+  saves_desk run opened commands left answered same serves sound desk followed has saves =
       let Ends : Answered → Type 0 = λ given. answered ≡ AllAccepted → (run.answers ≡ AllAccepted) × (given ≡ AllAccepted) in
       record {
-        serves = at_the_desk files line opened commands left answered leaves same saves;
+        serves = at_the_desk files line opened commands left answered serves.parts same saves;
         followed = λ driven.
-            led_whole run.reported.desk run.reported.after opened left.site left.reported desk
-            (served_soundly follows well tells turns opened commands left serves (of_ended Ends run.ended has.ended sound))
+            led_whole (λ whole s. LedAtDesk follows well tells turns slaves opened whole s.seen) run.reported.desk run.reported.after left.site run.recovered left.reported desk
+            (led_desk opened left.site run.recovered left.reported
+            (served_soundly follows well tells turns opened commands left serves (of_ended Ends run.ended has.ended sound)))
             (of_ended Ends run.ended has.ended followed driven);
       }
 
-  -- what is said of what is told, if anything is
-  reported_weaker : {A : Type 0} {P Q : A → Type 0} (reported : Option A) → ((a : A) → P a → Q a) → IsSomeAnd reported P → IsSomeAnd reported Q
-  reported_weaker (Some a) says holds = says a holds
-  reported_weaker None says holds = absurd holds
-
   -- the station was opened on this site
+  pub led_site : (site : SiteValue) (opened : Station) → opened.line ≡ site.line → Follows site.seen opened.seen → (whole : LineLog T) (last : Seen)
+      → LedAtDesk follows well tells turns slaves opened whole last → EndsReported follows well tells turns site slaves whole last
+  led_site site opened same opens whole last led = record { opened = opened; line = same; opens = opens; desk = led }
+
   pub saves_site : (reported : Option (LineLog T)) (site : SiteValue) (was_old : Bool) (opened : Station) (commands : List Command) (answered : Answered)
       → was_old ≡ is_old site.seen.state.disk.bytes → StartsFrom was_old site opened → opened.line ≡ site.line → Follows site.seen opened.seen
-      → SavesDesk (λ last. IsSomeAnd reported (λ whole. LedAtDesk follows well tells turns slaves opened whole last)) files line opened commands answered
-      → SavesSite (λ last. IsSomeAnd reported (λ whole. EndsReported follows well tells turns site slaves whole last)) files line site commands answered
+      → SavesDesk (λ s. IsSomeAnd reported (λ whole. LedAtDesk follows well tells turns slaves opened whole s.seen)) files line opened commands answered
+      → SavesSite (λ s. IsSomeAnd reported (λ whole. EndsReported follows well tells turns site slaves whole s.seen)) files line site commands answered
   saves_site reported site was_old opened commands answered by_version starts same opens saves = record {
     saves = record { opened = opened; starts = subst (λ (b : Bool). StartsFrom b site opened) by_version starts; serves = saves.serves };
     followed = λ driven.
-        let led = saves.followed driven in
-        record {
-          s = led.s;
-          recovered = led.recovered;
-          held = led.held;
-          way = reported_weaker reported (λ whole way. record { leads = record { opened = opened; line = same; opens = opens; after = way.leads }; ends = way.ends }) led.way;
-        };
+        saves_weaker (λ s recovered way. some_weaker reported (λ whole led. led_site site opened same opens whole s.seen led) way) (λ s begins. begins)
+        (saves.followed driven);
   }

@@ -19,7 +19,7 @@ use Rattle.script_session.specs.declared.logs.PartLog.{PartLog}
 use Rattle.script_session.specs.declared.logs.UnservedLog.TheVariants as unserved
 use Rattle.script_session.specs.Parts.{AreSame, AreReportedOf, BeginsWith, IsSeparate, IsServable, Sites, Telling}
 use Rattle.script_session.specs.AtDesk as at_desk
-use Rattle.script_session.specs.AtDesk.{IsUnservedReported, PartsEnd}
+use Rattle.script_session.specs.AtDesk.{IsUnservedReported}
 use Rattle.station_line.specs.Site.{IsFollowed}
 
 -- one item more in each list

@@ -1,5 +1,5 @@
 -- The parts of a line that ended soundly at a desk: what their devices have followed, and that the disk is synced.
-use Rattle.std.proofs.Common.{Bool, false, ◌≡◌, ℕ, zero, suc, ◌+◌, List, [], ◌∷◌, ◌++◌, length, slice_get, sym, ◌∙◌, ap, subst, arith}
+use Rattle.std.proofs.Common.{Bool, ◌≡◌, ℕ, zero, suc, ◌+◌, List, [], ◌∷◌, ◌++◌, length, slice_get, sym, ◌∙◌, ap, subst, arith}
 use Rattle.std.proofs.Common.{inl, inr, Some, Result, Ok}
 use Rattle.std.proofs.Common.{Err}
 use Rattle.std.specs.Prelude.{OnOk}
@@ -17,13 +17,10 @@ use Rattle.station_jobs.specs.Jobs.{DoneInTurn, IsDone, IsLast, MayEnd}
 use Rattle.station_threads.specs.declared.closing.Ends.{Ends}
 use Rattle.station_alone.specs.Station.{Station}
 use Rattle.station_files.specs.declared.faults.Fault.{Fault}
-use Rattle.script_session.specs.Parts.{Sites, IsSeparate, AreEndsOfParts, AreFollowed, AreSound, EndsSynced, IsDeskReported, Soundly}
-use Rattle.script_session.specs.declared.logs.DeskLog.{DeskLog}
-use Rattle.script_session.proofs.ReportedLaws.{line_soundly, parts_soundly}
-use Rattle.station_line.specs.Site.{IsFollowed}
+use Rattle.script_session.specs.Parts.{Sites, IsSeparate, AreEndsOfParts, AreSound, EndsSynced, IsSynced}
 use Rattle.sii_edit.specs.declared.command.Command.{Command}
 use Rattle.script_session.specs.declared.threads.Left.{Left}
-use Rattle.script_session.specs.AtDesk.{EndsFollowed, IsServedReported, PartsFollowed, ServesFollowed}
+use Rattle.script_session.specs.AtDesk.{IsServedReported, ServesFollowed}
 
 -- ---- the disk
 
@@ -91,48 +88,40 @@ synced_after log old new flushed began ends = elim ends [
   | inr there ↦ led_synced log flushed.led.done flushed.led.last old flushed.led.mid new there.0 flushed.led.log_is flushed.led.in_turn flushed.led.ends there.1 there.2
 ]
 
--- ---- the devices
+-- the disk of a line that was taken apart, with all bytes synced
+pub ends_synced : (entire : State) (sites : Sites) (ends : Ends SiteValue) → IsSeparate entire sites → AreEndsOfParts sites ends
+    → IsFlushed ends.flusher.log ends.flusher.start.seen ends.flusher.site.seen → EndsSynced ends.flusher.log → IsSynced ends
+ends_synced entire sites ends separate of_sites flushed synced =
+    let start : ends.flusher.start.seen.state.disk ≡ of_bytes entire.disk.bytes = ap (λ (s : SiteValue). s.seen.state.disk) of_sites.flusher ∙ separate.disk in
+    synced_after ends.flusher.log ends.flusher.start.seen ends.flusher.site.seen flushed (start ∙ ap of_bytes (sym (ap (λ (d : Disk). d.bytes) start))) synced
 
--- what devices have followed of parts that ended soundly
-pub parts_followed : {D : Type 0} (follows : D → Seen → Type 0) (well : D → Type 0) (opened : Station) (seen : Seen) (sites : Sites) (ends : Ends SiteValue) → seen ≡ opened.seen → IsSeparate seen.state sites → AreEndsOfParts sites ends
-    → IsFollowed (Soundly follows well) seen → length opened.line.sizes ≡ length seen.state.halves → AreFollowed (Soundly follows well) ends → EndsSynced ends.flusher.log → PartsFollowed (Soundly follows well) opened ends
-parts_followed follows well opened seen sites ends of_seen separate of_sites before count parts synced =
-    let start : ends.flusher.start.seen.state.disk ≡ of_bytes seen.state.disk.bytes = ap (λ (s : SiteValue). s.seen.state.disk) of_sites.flusher ∙ separate.disk in
-    record {
-      before = subst (λ (s : Seen). IsFollowed (Soundly follows well) s) of_seen before;
-      count = count ∙ ap (λ (s : Seen). length s.state.halves) of_seen;
-      parts = parts;
-      synced = synced_after ends.flusher.log ends.flusher.start.seen ends.flusher.site.seen parts.flushed
-          (start ∙ ap of_bytes (sym (ap (λ (d : Disk). d.bytes) start))) synced;
-    }
+-- ---- the devices
 
 -- what holds where a result is `Ok`
 pub on_ok : {A E : Type 0} {P Q : Type 0} (result : Result A E) → (P → Q) → OnOk result P → OnOk result Q
 on_ok (Ok value) step holds = step holds
 on_ok (Err fault) step holds = tt
 
--- what devices have followed, by how the ends were judged
-pub followed_ends : {D T : Type 0} (follows : D → Seen → Type 0) (well : D → Type 0) (tells : D → T → Type 0) (opened : Station) (seen : Seen) (sites : Sites) (ends : Ends SiteValue) (reported : DeskLog T) (sound : Result (Unit {0}) Fault) → seen ≡ opened.seen
-    → IsSeparate seen.state sites → AreEndsOfParts sites ends → IsDeskReported follows well tells seen reported ends → length opened.line.sizes ≡ length seen.state.halves → OnOk sound (AreSound reported × EndsSynced ends.flusher.log) → AreFollowed follows ends
-    → EndsFollowed follows well opened sound ends
-followed_ends follows well tells opened seen sites ends reported (Ok done) of_seen separate of_sites is count sound all =
-    parts_followed follows well opened seen sites ends of_seen separate of_sites (line_soundly follows well tells seen reported ends is sound.0) count
-    (parts_soundly follows well tells seen reported ends is sound.0) sound.1
-followed_ends follows well tells opened seen sites ends reported (Err fault) of_seen separate of_sites is count sound all = all
+pub on_oks : {A E : Type 0} {P Q R : Type 0} (result : Result A E) → (P → Q → R) → OnOk result P → OnOk result Q → OnOk result R
+on_oks (Ok value) step one other = step one other
+on_oks (Err fault) step one other = tt
 
 -- the parts that were served and ended soundly
 pub served_soundly : {D T : Type 0} (follows : D → Seen → Type 0) (well : D → Type 0) (tells : D → T → Type 0) (turns : Bool) (opened : Station) (commands : List Command) (left : Left SiteValue T) → ServesFollowed follows well tells turns opened commands left → left.sound ≡ Ok tt
     → IsServedReported follows well tells turns opened left.reported left.site
-served_soundly follows well tells turns opened commands left serves sound = record {
-  served = record {
-    sites = serves.parts.desk.sites;
-    separate = serves.parts.desk.separate;
-    ends = serves.parts.desk.ends;
-    of_sites = serves.parts.desk.of_sites;
-    together = serves.parts.together;
-  };
-  turning = serves.turning;
-  followed = subst (λ (r : Result (Unit {0}) Fault). EndsFollowed follows well opened r serves.parts.desk.ends) sound serves.followed;
-  devices = serves.reported;
-  sound = subst (λ (r : Result (Unit {0}) Fault). OnOk r (AreSound left.reported)) sound serves.sound;
-}
+served_soundly follows well tells turns opened commands left serves sound =
+    let both = subst (λ (r : Result (Unit {0}) Fault). OnOk r (AreSound left.reported × IsSynced serves.parts.desk.ends)) sound serves.sound in
+    record {
+      served = record {
+        sites = serves.parts.desk.sites;
+        separate = serves.parts.desk.separate;
+        ends = serves.parts.desk.ends;
+        of_sites = serves.parts.desk.of_sites;
+        together = serves.parts.together;
+      };
+      turning = serves.turning;
+      count = serves.count;
+      synced = both.1;
+      devices = serves.reported;
+      sound = both.0;
+    }

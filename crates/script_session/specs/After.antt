@@ -1,10 +1,12 @@
 -- What went after a desk on its line: a recovery, and the commands on one thread where the desk had none for them.
-use Rattle.std.specs.Prelude.{◌≡◌, ◌⊎◌, ℕ, Bool, true, false, List, Result, Err}
+use Rattle.std.specs.Prelude.{◌≡◌, ◌⊎◌, ℕ, Bool, true, false, List, Option, Result, Err, IsSomeAnd}
 use Rattle.sii_edit.specs.declared.command.Command.{Command}
 use Rattle.site_core.specs.State.{Seen}
 use Rattle.site_core.specs.Times.{Follows}
 use Rattle.station_alone.specs.Station.{Station}
-use Rattle.station_alone.specs.Recovery.{HasRecovered, BeginsRecovered}
+use Rattle.site_shadow.specs.Site.{SiteValue}
+use Rattle.station_alone.specs.declared.recovery.Recovered.{Recovered}
+use Rattle.station_alone.specs.Recovery.{HasRecovered, BeginsRecovered, CountsRecovered}
 use Rattle.station_text.specs.declared.line_file.LineFile.{LineFile}
 use Rattle.station_files.specs.Files.{Known}
 use Rattle.station_files.specs.declared.faults.Fault.{Fault}
@@ -45,15 +47,17 @@ GoesAfterDesk follows true commands left ended = (last : Seen) × GoesFollowed f
 GoesAfterDesk follows false commands left ended =
     ((last : Seen) × (fault : Fault) × GoesFollowed follows left last × (ended ≡ Err fault)) ⊎ ServesRecovered follows commands left
 
--- A site was recovered, the files hold its state then, and `Way` is said of what led there.
-pub record SavesFollowed (Way : Seen → Type 0) (files : Known) (line : LineFile) : Type 0 where
+-- A site that was so was recovered, the files hold its state then, and `Way` is said of the station after it.
+pub record SavesRecovered (Way : Station → Type 0) (files : Known) (line : LineFile) (before : Seen) : Type 0 where
   pub s : Station
   pub recovered : HasRecovered s
+  pub begins : BeginsRecovered before s
   pub held : HoldsSite files line s.seen.state
-  pub way : Way s.seen
+  pub way : Way s
 
--- From this site on calls alone led there, and this is told of a device that has followed it.
+-- From this site on a recovery with these counts led there, by calls alone, and this is told of a device that has followed it.
 pub record LedOn {D T : Type 0} (follows : D → Seen → Type 0) (well : D → Type 0) (tells : D → T → Type 0) (reported : T) (slaves : ℕ)
-    (before last : Seen) : Type 0 where
-  pub leads : Follows before last
-  pub ends : IsReportedLine follows well tells reported slaves last
+    (counts : Option Recovered) (before : SiteValue) (s : Station) : Type 0 where
+  pub leads : Follows before.seen s.seen
+  pub counted : IsSomeAnd counts (λ after. CountsRecovered before.line.sizes before.seen after s)
+  pub ends : IsReportedLine follows well tells reported slaves s.seen

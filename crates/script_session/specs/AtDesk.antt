@@ -1,5 +1,5 @@
 -- What holds of a line once its desk was closed, or a fault ended the work there.
-use Rattle.std.specs.Prelude.{◌≡◌, ◌⊎◌, ◌<◌, ℕ, Bool, true, false, List, [], ◌∷◌, length, Result, Ok, Err, IfErr, MatchResult}
+use Rattle.std.specs.Prelude.{◌≡◌, ◌⊎◌, ◌<◌, ℕ, Bool, true, false, List, [], ◌∷◌, length, Result, Ok, IfErr, MatchResult}
 use Rattle.std.specs.Prelude.{OnOk, is_some}
 use Rattle.std.specs.List.{AllByRecursion}
 use Rattle.sii_edit.specs.declared.command.Command.{Command}
@@ -9,7 +9,6 @@ use Rattle.site_core.specs.Passes.{LeavesOnly}
 use Rattle.book_model.specs.Book.{Book}
 use Rattle.book_model.specs.Machine.{Machine}
 use Rattle.site_shadow.specs.Site.{SiteValue}
-use Rattle.site_shadow.specs.Unsynced.{of_bytes}
 use Rattle.station_alone.specs.Station.{Station}
 use Rattle.station_alone.specs.Keeping.{KeptFor}
 use Rattle.desk_book.specs.declared.call.Call.{Call}
@@ -41,8 +40,8 @@ use Rattle.script_session.specs.declared.logs.PartLog.{PartLog}
 use Rattle.script_session.specs.declared.logs.UnservedLog.{UnservedLog}
 use Rattle.script_session.specs.declared.logs.UnservedLog.TheVariants as unserved
 use Rattle.script_session.specs.Asking.{commands_of, no_counts, GivesUp}
-use Rattle.script_session.specs.Parts.{Sites, IsSeparate, AreEndsOfParts, AreFollowed, AreSound, AreUnserved, IsCount, IsDeskReported, IsTogether}
-use Rattle.script_session.specs.Parts.{Soundly, Telling, issues_of}
+use Rattle.script_session.specs.Parts.{Sites, IsSeparate, AreEndsOfParts, AreSound, AreUnserved, IsCount, IsDeskReported, IsSynced, IsTogether, Telling}
+use Rattle.script_session.specs.Parts.{issues_of}
 use Rattle.station_line.specs.Site.{IsFollowed}
 
 -- the state of a site and its past
@@ -147,21 +146,6 @@ pub record IsServedAtDesk (opened : Station) (commands : List Command) (is_drive
       → ReadsAsContents (replayed opened.book closes.calls) site.seen.state slave
   pub left : AllLeftSo IsLeft opened closes.calls site
 
--- The desk wasn't closed. Unless what was handed in doesn't match what the desk handed out, a power cut leaves only what is kept for the
--- session, with the commands that the book has accepted and each durable one acknowledged.
-pub record IsStoppedAtDesk (opened : Station) (why : CloseFault) (reported : Result (Unit {0}) Fault) (site : SiteValue) : Type 0 where
-  pub calls : List Call
-  pub answered : AreAnswered opened.book calls
-  pub kept : why ≡ Unserved → AllLeftSo IsKeptAs opened calls site
-  pub tells : IfErr reported (TellsWhy (replayed opened.book calls))
-
--- The line was served if the desk was closed; otherwise it was stopped, and the user is told of a fault.
-pub record LeavesSo (opened : Station) (commands : List Command) (ending : Ending) (site : SiteValue) : Type 0 where
-  pub reported : OnOk ending.reported (ending.closed ≡ Ok tt)
-  pub left : MatchResult ending.closed
-      (λ done. IsServedAtDesk opened commands ending.is_driven ending.answered ending.reported site)
-      (λ why. IsStoppedAtDesk opened why ending.reported site)
-
 -- The line of this station was taken apart, and its parts ended so.
 pub record PartsEnd (opened : Station) : Type 0 where
   pub sites : Sites
@@ -190,40 +174,26 @@ pub record PartsAreServed (opened : Station) (site : SiteValue) : Type 0 where
   pub of_sites : AreEndsOfParts sites ends
   pub together : IsTogether ends site
 
--- A device has kept this of the station's site before the line was taken apart, and of each part of disk and slaves since. The site has a half for
--- each slave, and the disk's part ends with all bytes synced.
-pub record PartsFollowed {D : Type 0} (follows : D → Seen → Type 0) (opened : Station) (ends : Ends SiteValue) : Type 0 where
-  pub before : IsFollowed follows opened.seen
-  pub count : length opened.line.sizes ≡ length opened.seen.state.halves
-  pub parts : AreFollowed follows ends
-  pub synced : ends.flusher.site.seen.state.disk ≡ of_bytes ends.flusher.site.seen.state.disk.bytes
-
--- The parts were served so, one for process data among them exactly where `turns` says so, devices have kept this of them, and this is told of the
--- devices: each part ended soundly.
+-- The parts were served so, one for process data among them exactly where `turns` says so, and this is told of devices that have followed them: each
+-- part ended soundly. The site has a half for each slave, and the disk's part ends with all bytes synced.
 pub record IsServedReported {D T : Type 0} (follows : D → Seen → Type 0) (well : D → Type 0) (tells : D → T → Type 0) (turns : Bool)
     (opened : Station) (reported : DeskLog T) (site : SiteValue) : Type 0 where
   pub served : PartsAreServed opened site
   pub turning : is_some served.sites.cycle ≡ turns
-  pub followed : PartsFollowed (Soundly follows well) opened served.ends
+  pub count : length opened.line.sizes ≡ length opened.seen.state.halves
+  pub synced : IsSynced served.ends
   pub devices : IsDeskReported follows well tells opened.seen reported served.ends
   pub sound : AreSound reported
 
--- After each part a device keeps this of the part's site. Where the parts ended soundly, nothing has failed that these devices were asked, and no
--- site has stopped.
-abbrev pub EndsFollowed : {D : Type 0} → (D → Seen → Type 0) → (D → Type 0) → Station → Result (Unit {0}) Fault → Ends SiteValue
-    → Type 0
-EndsFollowed follows well opened (Ok sound) ends = PartsFollowed (Soundly follows well) opened ends
-EndsFollowed follows well opened (Err fault) ends = AreFollowed follows ends
-
--- The parts were served with this ending, one for process data among them exactly where `turns` says so, devices have followed them, and what is told
--- of the devices is told. No part is called sound that wasn't, and none is unsound where no fault is told. The words are the issues in their logs.
+-- The parts were served with this ending, one for process data among them exactly where `turns` says so, and this is told of devices that have followed
+-- them. Where no fault is told, each part ended soundly, with the disk synced. The words are the issues in their logs.
 pub record ServesFollowed {D T : Type 0} (follows : D → Seen → Type 0) (well : D → Type 0) (tells : D → T → Type 0) (turns : Bool)
     (opened : Station) (commands : List Command) (left : Left SiteValue T) : Type 0 where
   pub parts : ServesParts opened commands left.ending left.site
   pub turning : is_some parts.desk.sites.cycle ≡ turns
-  pub followed : EndsFollowed follows well opened left.sound parts.desk.ends
+  pub count : length opened.line.sizes ≡ length opened.seen.state.halves
   pub reported : IsDeskReported follows well tells opened.seen left.reported parts.desk.ends
-  pub sound : OnOk left.sound (AreSound left.reported)
+  pub sound : OnOk left.sound (AreSound left.reported × IsSynced parts.desk.ends)
   pub words : IsCount (issues_of parts.desk.ends.workers.items) left.words
 
 -- A line was not served, or not put together again after that, and this is told: of the line's device, where no part had one yet; of the devices

@@ -1,7 +1,7 @@
 pub mod Asking
 pub mod Parts
 pub mod AtDesk
-pub mod Redoing
+pub mod Recovering
 pub mod Saving
 pub mod After
 pub mod Running

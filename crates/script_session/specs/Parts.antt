@@ -107,11 +107,9 @@ abbrev pub EndsSynced : List DiskEntry → Type 0
 EndsSynced log = (log ≡ []) ⊎
     ((at : ℕ) × (at + 1 ≡ length log) × (slice_get log at ≡ Some (record { job = disk.Sync; outcome = Some (Ok tt) })))
 
--- The same of the disk's end and of each slave's.
-pub record AreFollowed {D : Type 0} (follows : D → Seen → Type 0) (ends : Ends SiteValue) : Type 0 where
-  pub flushed : IsFlushed ends.flusher.log ends.flusher.start.seen ends.flusher.site.seen
-  pub followed : IsFollowed follows ends.flusher.site.seen
-  pub workers : AllByRecursion (IsWorkFollowed follows) ends.workers.items
+-- All bytes of the disk are synced at its end.
+abbrev pub IsSynced : Ends SiteValue → Type 0
+IsSynced ends = ends.flusher.site.seen.state.disk ≡ of_bytes ends.flusher.site.seen.state.disk.bytes
 
 -- This is told of the devices of a line that was served at a desk: of the line's, whose site was this before it was taken apart, and of those
 -- after the ends of the disk and of each slave.

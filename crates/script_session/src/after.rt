@@ -2,14 +2,14 @@
 ghost use Rattle.std.specs.Prelude.{◌≡◌, length, IfErr, IfOk, IsTrue, OnOk};
 ghost use Rattle.station_files.specs.Files.{ChangesAmong};
 ghost use Rattle.station_line.specs.Site.{HoldsSite, IsFollowed, files_of};
-ghost use Rattle.script_session.specs.After.{GoesAfterDesk, LedOn, SavesFollowed, ServesSome, Tells};
+ghost use Rattle.script_session.specs.After.{GoesAfterDesk, LedOn, SavesRecovered, ServesSome, Tells};
 ghost use Rattle.script_session.specs.Parts.{IsLineOf};
 ghost use Rattle.script_session.specs.Saving.{IsReportedLine, MayFail, SavesAfter, SavesServed};
 
 use crate::saving::save_reported;
 use sii_edit::Command;
 use site_shadow::{Lends, ShadowSite};
-use station_alone::{Alone, recover};
+use station_alone::{Alone, Recovered, recover};
 use station_files::{Fault, Store};
 use station_line::{Answered, of_open, serve_commands};
 use station_text::LineFile;
@@ -37,7 +37,7 @@ pub(crate) struct LineEnd<T> {
 }
 
 /// Recovers a line that a desk has left, and saves what it holds. If the commands were not submitted at the desk, they are served between the two.
-/// After a fault nothing more is written.
+/// After a fault nothing more is written. Gives what the recovery did too, if it came to its end.
 ///
 /// The result is the fault of the recovery, as `of_open` gives it; then that of `serve_commands`; then that of `save_reported`.
 pub(crate) fn end_line<D: Lends, S: Store, O: Write>(
@@ -46,14 +46,15 @@ pub(crate) fn end_line<D: Lends, S: Store, O: Write>(
     left: DeskLeft<ShadowSite<D>>,
     store: &mut S,
     output: &mut O,
-) -> LineEnd<D::Logged>
+) -> (LineEnd<D::Logged>, Option<Recovered>)
     requires line { IsLineOf (length line.now.images.items) left.site.line }
     ensures others { ChangesAmong (S.files store.old) (S.files store.new) (files_of line.now) }
-    ensures failed { IfErr result.ended (MayFail (S.files store.old) (S.files store.new)) }
-    ensures saved { IfOk result.ended (SavesAfter (S.files store.new) line.now left.site.seen left.is_driven left.commands.items) }
-    ensures goes { GoesAfterDesk (Tells D.follows D.tells result.reported) left.is_driven left.commands.items left.site.seen result.ended }
-    ensures held { OnOk result.ended (IsTrue left.is_driven → SavesFollowed
-        (LedOn D.follows D.well D.tells result.reported (length line.now.images.items) left.site.seen) (S.files store.new) line.now) }
+    ensures failed { IfErr result.0.ended (MayFail (S.files store.old) (S.files store.new)) }
+    ensures saved { IfOk result.0.ended (SavesAfter (S.files store.new) line.now left.site.seen left.is_driven left.commands.items) }
+    ensures goes { GoesAfterDesk (Tells D.follows D.tells result.0.reported) left.is_driven left.commands.items left.site.seen result.0.ended }
+    ensures held { OnOk result.0.ended (IsTrue left.is_driven → SavesRecovered
+        (LedOn D.follows D.well D.tells result.0.reported (length line.now.images.items) result.1 left.site) (S.files store.new) line.now
+        left.site.seen) }
 {
     let DeskLeft {
         site,
@@ -61,19 +62,22 @@ pub(crate) fn end_line<D: Lends, S: Store, O: Write>(
         commands,
     } = left;
     match recover(alloc, site) {
-        Ok((alone, _recovered)) => {
+        Ok((alone, recovered)) => {
             if !is_driven {
-                return serve_alone(alloc, line, alone, commands, store, output);
+                let end = serve_alone(alloc, line, alone, commands, store, output);
+                return (end, Some(recovered));
             }
             drop(commands);
-            save_station(alloc, line, alone, Answered::AllAccepted, store)
+            let end = save_station(alloc, line, alone, Answered::AllAccepted, store);
+            (end, Some(recovered))
         }
         Err((back, fault)) => {
             drop(commands);
-            LineEnd {
+            let end = LineEnd {
                 ended: Err(of_open(fault)),
                 reported: reported_of(back),
-            }
+            };
+            (end, None)
         }
     }
 }
@@ -142,7 +146,7 @@ fn save_station<D: Lends, S: Store>(
 }
 
 /// What is reported of the device of a line that isn't worked on any more.
-pub fn reported_of<D: Lends>(site: ShadowSite<D>) -> D::Logged
+pub(crate) fn reported_of<D: Lends>(site: ShadowSite<D>) -> D::Logged
     ensures { IsFollowed (Tells D.follows D.tells result) site.seen }
 {
     let (parts, mut device) = site.into_parts();

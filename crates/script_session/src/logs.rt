@@ -3,7 +3,7 @@
 ghost use Rattle.std.specs.Prelude.{◌≡◌, Some, None};
 ghost use Rattle.site_core.specs.State.{Seen};
 ghost use Rattle.script_session.specs.Parts.{Telling};
-ghost use Rattle.script_session.specs.Running.{desk_of, opening_of, whole_of};
+ghost use Rattle.script_session.specs.Running.{IsNoneReported, desk_of, opening_of};
 
 use site_shadow::{Device, Lends};
 
@@ -59,6 +59,17 @@ pub struct RunLog<T> {
 }
 
 impl<T> RunLog<T> {
+    /// Of no device: none has had the line.
+    pub fn none() -> RunLog<T>
+        ensures { IsNoneReported result }
+    {
+        RunLog {
+            opening: None,
+            desk: None,
+            after: None,
+        }
+    }
+
     /// Of the devices of a line that was not served, or not put together again after that.
     pub(crate) fn of_unserved(reported: UnservedLog<T>) -> RunLog<T>
         ensures opening { result.opening ≡ opening_of reported }
@@ -92,26 +103,6 @@ impl<T> RunLog<T> {
             opening: None,
             desk: Some(desk),
             after,
-        }
-    }
-}
-
-impl<T: Drop> RunLog<T> {
-    /// Of the devices at the desk and of the line's after it, if both is told.
-    pub fn whole(self) -> Option<LineLog<T>>
-        ensures { result ≡ whole_of self.desk self.after }
-    {
-        let RunLog {
-            opening: _,
-            desk,
-            after,
-        } = self;
-        match desk {
-            Some(desk) => match after {
-                Some(after) => Some(LineLog { desk, after }),
-                None => None,
-            },
-            None => None,
         }
     }
 }

@@ -5,7 +5,7 @@ ghost use Rattle.esc_rom.specs.Owned.{OwnsAll};
 ghost use Rattle.station_files.specs.Files.{ChangesAmong};
 ghost use Rattle.station_line.specs.Opened.{is_old};
 ghost use Rattle.station_line.specs.Site.{files_of, IsFollowed};
-ghost use Rattle.script_session.specs.After.{LedOn, SavesFollowed};
+ghost use Rattle.script_session.specs.After.{LedOn, SavesRecovered};
 ghost use Rattle.script_session.specs.Parts.{IsLineOf};
 ghost use Rattle.script_session.specs.Running.{DeskGoes, EndsReported, GoesAfter, HasEnded, LedAtDesk, OfDevices, RunGoes, SavesDesk, SavesSite};
 ghost use Rattle.script_session.specs.Running.{TellsOf, line_reported, whole_of};
@@ -17,7 +17,7 @@ use crate::logs::RunLog;
 use crate::threads::{Left, serve_task};
 use crate::work::Task;
 use site_shadow::{Lends, ShadowSite};
-use station_alone::Alone;
+use station_alone::{Alone, Recovered};
 use station_files::{Fault, Store};
 use station_line::{Answered, of_open, open_station};
 use station_text::LineFile;
@@ -46,6 +46,8 @@ pub struct LineRun<T> {
     pub closed: Result<(), Fault>,
     /// How the others were answered after the desk, or the fault that ended the run.
     pub ended: Result<Answered, Fault>,
+    /// What was recovered after the desk, if that came to its end.
+    pub recovered: Option<Recovered>,
     /// What is reported of the devices.
     pub reported: RunLog<T>,
 }
@@ -72,7 +74,7 @@ pub fn run_line<D: Lends + Send, S: Store, O: Write, R: Wait + Threads + AllocGl
     ensures goes { RunGoes (OfDevices D.follows D.well D.tells result.reported) start.site.seen task.work.commands.items (IsErr result.ended) }
     ensures saved { (answered : Answered) → HasEnded result answered → SavesSite
         (λ last. IsSomeAnd (whole_of result.reported.desk result.reported.after)
-        (λ whole. EndsReported D.follows D.well D.tells task.turns start.site (length line.now.images.items) whole last))
+        (λ whole. EndsReported D.follows D.well D.tells task.turns start.site (length line.now.images.items) whole last.seen))
         (S.files store.new) line.now start.site task.work.commands.items answered }
 {
     let Start { site, is_old } = start;
@@ -84,6 +86,7 @@ pub fn run_line<D: Lends + Send, S: Store, O: Write, R: Wait + Threads + AllocGl
                 answers: Answered::AllAccepted,
                 closed: Ok(()),
                 ended: Err(of_open(fault)),
+                recovered: None,
                 reported: RunLog::of_opening(reported_of(left)),
             }
         }
@@ -107,7 +110,7 @@ fn run_opened<D: Lends + Send, S: Store, O: Write, R: Wait + Threads + AllocGlob
     ensures goes { DeskGoes (OfDevices D.follows D.well D.tells result.reported) alone task.work.commands.items (IsErr result.ended) }
     ensures saved { (answered : Answered) → HasEnded result answered → SavesDesk
         (λ last. IsSomeAnd (whole_of result.reported.desk result.reported.after)
-        (λ whole. LedAtDesk D.follows D.well D.tells task.turns (length line.now.images.items) alone whole last))
+        (λ whole. LedAtDesk D.follows D.well D.tells task.turns (length line.now.images.items) alone whole last.seen))
         (S.files store.new) line.now alone task.work.commands.items answered }
 {
     match serve_task(rt, rt.alloc(), alone, line.images.len(), task, output) {
@@ -116,6 +119,7 @@ fn run_opened<D: Lends + Send, S: Store, O: Write, R: Wait + Threads + AllocGlob
             answers: Answered::AllAccepted,
             closed: Ok(()),
             ended: Err(why.fault),
+            recovered: None,
             reported: RunLog::of_unserved(why.reported),
         },
     }
@@ -123,7 +127,7 @@ fn run_opened<D: Lends + Send, S: Store, O: Write, R: Wait + Threads + AllocGlob
 
 /// Recovers a line that a desk has left, and saves what it holds, if the desk was closed, and its parts ended soundly; also where an answer couldn't
 /// be printed. Otherwise nothing more is written.
-fn end_left<D: Lends, S: Store, O: Write>(
+pub(crate) fn end_left<D: Lends, S: Store, O: Write>(
     alloc: Global,
     line: &LineFile,
     left: Left<ShadowSite<D>, D::Logged>,
@@ -134,13 +138,15 @@ fn end_left<D: Lends, S: Store, O: Write>(
     requires reported { OnOk left.ending.reported (left.ending.closed ≡ Ok tt) }
     ensures others { ChangesAmong (S.files store.old) (S.files store.new) (files_of line.now) }
     ensures failed { IfErr result.ended (MayFail (S.files store.old) (S.files store.new)) }
+    ensures closed { left.ending.reported ≡ Ok tt → result.closed ≡ Ok tt }
     ensures desk { result.reported.desk ≡ Some left.reported }
     ensures sound { OnOk result.ended (left.sound ≡ Ok tt) }
     ensures goes { left.ending.closed ≡ Ok tt → GoesAfter (OfDevices D.follows D.well D.tells result.reported) left.ending.is_driven left.sound
         left.unserved.items left.site.seen (IsErr result.ended) }
     ensures saved { (answered : Answered) → HasEnded result answered → SavesLeft (S.files store.new) line.now left answered }
-    ensures followed { OnOk result.ended (IsTrue left.ending.is_driven → IsSomeAnd result.reported.after (λ after. SavesFollowed
-        (LedOn D.follows D.well D.tells after (length line.now.images.items) left.site.seen) (S.files store.new) line.now)) }
+    ensures followed { OnOk result.ended (IsTrue left.ending.is_driven → IsSomeAnd result.reported.after (λ after. SavesRecovered
+        (LedOn D.follows D.well D.tells after (length line.now.images.items) result.recovered left.site) (S.files store.new) line.now
+        left.site.seen)) }
 {
     let Left {
         site,
@@ -164,11 +170,12 @@ fn end_left<D: Lends, S: Store, O: Write>(
                 is_driven,
                 commands: unserved,
             };
-            let after = end_line(alloc, line, left, store, output);
+            let (after, recovered) = end_line(alloc, line, left, store, output);
             LineRun {
                 answers: answered,
                 closed,
                 ended: after.ended,
+                recovered,
                 reported: RunLog::of_desk(desk, Some(after.reported)),
             }
         }
@@ -179,6 +186,7 @@ fn end_left<D: Lends, S: Store, O: Write>(
                 answers: answered,
                 closed,
                 ended: Err(fault),
+                recovered: None,
                 reported: RunLog::of_desk(desk, None),
             }
         }
@@ -196,6 +204,7 @@ fn faults_of(
     ensures closed { OnOk result.0 (OnOk result.1 (reported ≡ Ok tt)) }
     ensures ready { OnOk result.1 ((closed ≡ Ok tt) × (sound ≡ Ok tt)) }
     ensures sound { closed ≡ Ok tt → result.1 ≡ sound }
+    ensures quiet { reported ≡ Ok tt → result.0 ≡ Ok tt }
 {
     match closed {
         Ok(()) => (reported, sound),

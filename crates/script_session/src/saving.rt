@@ -18,7 +18,7 @@ use std::alloc::Global;
 ///
 /// `Unserved` where the site has stopped, or something has failed that its device was asked, though the station heard of nothing; then nothing is
 /// written. Then as for `save_site`.
-pub fn save_reported<D: Lends, S: Store>(
+pub(crate) fn save_reported<D: Lends, S: Store>(
     alloc: Global,
     line: &LineFile,
     site: ShadowSite<D>,

@@ -4,9 +4,8 @@ ghost use Rattle.std.specs.Prelude.{◌≡◌, ◌+◌, ◌≤◌, [], true, fal
 ghost use Rattle.site_core.specs.State.{Seen, State};
 ghost use Rattle.site_shadow.specs.Line.{halves_of};
 ghost use Rattle.script_session.specs.Asking.{no_counts};
-ghost use Rattle.script_session.specs.AtDesk.{IsUnservedReported, LeavesSo, OpensDesk, ServesFollowed, ServesSites};
+ghost use Rattle.script_session.specs.AtDesk.{IsUnservedReported, OpensDesk, ServesFollowed, ServesSites};
 ghost use Rattle.script_session.specs.Parts.{
-  AreFollowed,
   AreSound,
   EndsSynced,
   IsCount,
@@ -96,9 +95,7 @@ pub fn serve_task<D: Lends + Send, O: Write, W: Wait + Threads + Sync>(
 ) -> Result<Left<ShadowSite<D>, D::Logged>, NotServed<D::Logged>>
     requires none { alone.book.accepted ≡ [] }
     ensures line { IfOk result (λ left. IsLineOf slaves left.site.line) }
-    ensures left { IfOk result (λ left. LeavesSo alone task.work.commands.items left.ending left.site) }
     ensures parts { IfOk result (λ left. ServesFollowed D.follows D.well D.tells task.turns alone task.work.commands.items left) }
-    ensures before { IsFollowed D.follows alone.seen }
     ensures failed { IfErr result (λ why. IsUnservedReported D.follows D.well D.tells alone task.work.commands.items why.reported) }
     ensures unserved { IfOk result (λ left. left.ending.is_driven ≡ false → left.unserved.items ≡ task.work.commands.items) }
 {
@@ -195,7 +192,6 @@ fn prepare<D: Lends>(
     ensures reserved { IfOk result (λ prepared. length prepared.sites.slaves.items ≤ vec_capacity prepared.entire.room.reported) }
     ensures reported { IfOk result (λ prepared. IsFollowed (Telling D.follows D.well D.tells prepared.entire.reported) site.seen) }
     ensures failed { IfErr result (λ why. IsLineReported D.follows D.well D.tells site.seen why.reported) }
-    ensures followed { IsFollowed D.follows site.seen }
     ensures count { length site.line.sizes ≡ length site.seen.state.halves }
 {
     // Its contract says that there is a half for each slave.
@@ -236,7 +232,6 @@ fn put_back<D: Lends>(
     requires reserved { length at.ends.workers.items ≤ vec_capacity entire.room.reported }
     ensures line { IfOk result (λ left. IsLineOf slaves left.site.line) }
     ensures left { IfOk result (λ left. IsTogether at.ends left.site × (left.ending ≡ at.ending)) }
-    ensures followed { AreFollowed D.follows at.ends }
     ensures unserved { IfOk result (λ left. left.unserved ≡ at.unserved) }
     ensures reported { IfOk result (λ left. (opened : Seen) → IsFollowed (Telling D.follows D.well D.tells entire.reported) opened
         → IsDeskReported D.follows D.well D.tells opened left.reported at.ends) }

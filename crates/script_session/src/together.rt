@@ -2,7 +2,7 @@
 
 ghost use Rattle.std.specs.Prelude.{◌≡◌, ◌<◌, ◌≤◌, ◌+◌, ◌∷◌, ◌++◌, [], List, length, vec_capacity, IfOk, IfSome};
 ghost use Rattle.std.specs.Prelude.{IsOkAnd, IsTrue};
-ghost use Rattle.std.specs.List.{AllByRecursion, AllZip};
+ghost use Rattle.std.specs.List.{AllZip};
 ghost use Rattle.site_core.specs.State.{Seen};
 ghost use Rattle.site_shadow.specs.Line.{half_of, halves_of};
 ghost use Rattle.site_shadow.specs.Site.{SiteValue};
@@ -12,7 +12,6 @@ ghost use Rattle.station_jobs.specs.Flushing.{IsFlushed};
 ghost use Rattle.station_jobs.specs.declared.log.SlaveLog.{SlaveLog};
 ghost use Rattle.station_threads.specs.Places.{AllPlaced};
 ghost use Rattle.script_session.specs.Parts.{
-  AreFollowed,
   AreLeftBy,
   EndsWith,
   HasDiskOf,
@@ -189,7 +188,6 @@ fn half_at<D: Lends>(
 ) -> (Result<Option<RomHalf>, Fault>, PartLog<D::Logged>)
     ensures half { IfOk result.0 (λ half. EndsWith slave end (half_of half)) }
     ensures reported { IsWorkFollowed (Telling D.follows D.well D.tells result.1) end }
-    ensures followed { IsWorkFollowed D.follows end }
 {
     let (mut parts, reported) = parts_at(end, entire);
     if slave >= parts.halves.len() {
@@ -210,7 +208,6 @@ fn with_slave<D: Lends>(
     requires { length left.reported.items < vec_capacity left.reported }
     ensures left { (workers : List (Stay SiteValue SlaveLog)) → AreLeftBy D.follows D.well D.tells workers left
         → AreLeftBy D.follows D.well D.tells (workers ++ end ∷ []) result }
-    ensures followed { IsWorkFollowed D.follows end }
     ensures count { length result.reported.items ≡ length left.reported.items + 1 }
     ensures reserved { vec_capacity result.reported ≡ vec_capacity left.reported }
 {
@@ -235,7 +232,6 @@ fn slaves_at<D: Lends>(
     requires room { IsRoom room }
     requires reserved { length workers.items ≤ vec_capacity room.reported }
     ensures left { AreLeftBy D.follows D.well D.tells workers.items result }
-    ensures followed { AllByRecursion (IsWorkFollowed D.follows) workers.items }
 {
     let mut left = room;
     for end in workers {
@@ -356,7 +352,6 @@ pub(crate) fn put_together<D: Lends>(
     ensures together { IfOk result.0 (λ site. IsTogether ends site × IsLineOf slaves site.line) }
     ensures reported { (opened : Seen) → IsFollowed (Telling D.follows D.well D.tells entire.reported) opened
         → IsDeskReported D.follows D.well D.tells opened result.1 ends }
-    ensures followed { AreFollowed D.follows ends }
 {
     let Complete {
         mut device,

@@ -1,5 +1,6 @@
 -- The words that bytes spell.
-use Rattle.std.proofs.Common.{◌≡◌, ℕ, ◌+◌, ◌*◌, ◌/◌, ◌%◌, List, [], ◌∷◌, length, refl, sym, ap, subst, ◌∙◌, arith}
+use Rattle.std.proofs.Common.{◌≡◌, ℕ, ◌+◌, ◌*◌, ◌/◌, ◌%◌, List, [], ◌∷◌, length, refl, sym, ap, subst, ◌∙◌, arith, Result, Ok, Err}
+use Rattle.std.specs.Prelude.{IfErr, IsErrAnd}
 use Rattle.sii_words.specs.Words.{bytes_of}
 use Rattle.sii_words.proofs.WordBytes.{length-bytes_of}
 use Rattle.sii_bytes.specs.Bytes.{AreWords, words_in}
@@ -30,3 +31,8 @@ read_entire Size words bytes spelt count size =
     let all : length bytes ≡ 2 * length words = sym (ap length spelt) ∙ length-bytes_of words in
     let entire : length bytes % 2 ≡ 0 = omega arith in
     (entire, subst Size count size)
+
+-- a code that is handed on
+pub handed_on : {T : Type 0} (P : ℕ → Type 0) (result : Result T ℕ) (code : ℕ) → IsErrAnd result (λ (other : ℕ). other ≡ code) → P code → IfErr result P
+handed_on P (Ok value) code is holds = absurd is
+handed_on P (Err other) code is holds = subst P (sym is) holds

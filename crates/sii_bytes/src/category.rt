@@ -4,8 +4,7 @@ ghost use Rattle.sii_words.specs.Words.{IsImageSize};
 ghost use Rattle.sii_bytes.specs.Bytes.{Answers};
 ghost use Rattle.sii_bytes.specs.Category.{FindsCategory, HasCategory, LacksCategory};
 
-use crate::codes::{DONE, MEMORY, NO_SUCH_CATEGORY, RUNS_OUT};
-use crate::reading::read_image;
+use crate::codes::{DONE, MEMORY, NO_SUCH_CATEGORY, RUNS_OUT, found, read_image};
 use sii_cats::{ChainFault, chain};
 use std::alloc::Global;
 
@@ -51,15 +50,7 @@ pub fn find_category(alloc: Global, bytes: &[u8], number: usize, place: &mut Cat
     ensures { Answers IsImageSize bytes.now result (λ words. HasCategory words number place.new)
         (λ words. LacksCategory words number result) (place.new ≡ place.old) }
 {
-    let image = match read_image(alloc, bytes) {
-        Ok(image) => image,
-        Err(code) => return code,
-    };
-    match place_of(alloc, image.as_slice(), number) {
-        Ok(found) => {
-            *place = found;
-            DONE
-        }
-        Err(code) => code,
-    }
+    let image = found!(read_image(alloc, bytes));
+    *place = found!(place_of(alloc, image.as_slice(), number));
+    DONE
 }

@@ -1,9 +1,25 @@
-//! The numbers of codes.
+//! The numbers of codes; and what reads bytes as the words of an image or of a device, or gives the code.
 ghost use Rattle.std.specs.Prelude.{◌≡◌};
 ghost use Rattle.sii_bytes.specs.Codes.{code_of_cause, code_of_words};
+ghost use Rattle.sii_words.specs.Words.{IsDeviceSize, IsImageSize};
+ghost use Rattle.sii_bytes.specs.Bytes.{Reads};
 
 use sii_edit::Cause;
-use sii_words::WordsFault;
+use sii_words::{ImageFile, Words, WordsFault};
+use station_listing::{Code, namesake};
+use std::alloc::Global;
+
+/// What is found; or the call answers the code.
+macro_rules! found {
+    ($found:expr) => {
+        match $found {
+            Ok(found) => found,
+            Err(code) => return code,
+        }
+    };
+}
+
+pub(crate) use found;
 
 /// The call is done.
 pub(crate) const DONE: u32 = 0;
@@ -50,20 +66,29 @@ pub(crate) fn words_code(fault: WordsFault) -> u32
 pub(crate) fn cause_code(cause: Cause) -> u32
     ensures { result ≡ code_of_cause cause }
 {
-    match cause {
-        Cause::BadCategory { .. } => BAD_CATEGORY,
-        Cause::NoRoom => 5,
-        Cause::NoSlave => 10,
-        Cause::SameSlave => 11,
-        Cause::EmptyGroup => 12,
-        Cause::GroupTooLong => 13,
-        Cause::ImageTooLong => 14,
-        Cause::BadCheck => BAD_CHECK,
-        Cause::NoSuchCategory => NO_SUCH_CATEGORY,
-        Cause::SeveralCategories => 17,
-        Cause::BadChain => 18,
-        Cause::ImageOverLimit => OVER_LIMIT,
-        Cause::Memory => MEMORY,
-        Cause::WrongIdentity => 21,
+    let code =
+        namesake!(cause, Cause as Code: BadCategory, NoRoom, NoSlave, SameSlave, EmptyGroup, GroupTooLong, ImageTooLong, BadCheck,
+        NoSuchCategory, SeveralCategories, BadChain, ImageOverLimit, Memory, WrongIdentity);
+    code as u32
+}
+
+/// Reads an image of 64 to 4,096 words; or the code: 1 if the number of bytes is odd; 2 if it is no image's; 20 if memory was refused.
+pub(crate) fn read_image(alloc: Global, bytes: &[u8]) -> Result<ImageFile, u32>
+    ensures { Reads IsImageSize bytes.now result }
+{
+    match ImageFile::from_bytes(alloc, bytes) {
+        Ok(image) => Ok(image),
+        Err(fault) => Err(words_code(fault)),
+    }
+}
+
+/// Reads the words of a device, 64 to 4,096, a multiple of 64; or the code: 1 if the number of bytes is odd; 2 if it is no device's; 20 if
+/// memory was refused.
+pub(crate) fn read_device(alloc: Global, bytes: &[u8]) -> Result<Words, u32>
+    ensures { Reads IsDeviceSize bytes.now result }
+{
+    match Words::from_bytes(alloc, bytes) {
+        Ok(words) => Ok(words),
+        Err(fault) => Err(words_code(fault)),
     }
 }

@@ -6,7 +6,7 @@ ghost use Rattle.sii_cats.specs.Pdos.{ArePdos, view, views};
 ghost use Rattle.sii_cats.specs.Strings.{AreStrings, texts};
 ghost use Rattle.sii_bytes.specs.Content.{FindsList, IsEntry, IsManager, IsPdo, IsUnspelt, ReadsEntry, ReadsItem, ReadsString};
 
-use crate::codes::{BAD_CATEGORY, DONE, MEMORY, NO_SPACE, NO_SUCH_ITEM, words_code};
+use crate::codes::{BAD_CATEGORY, DONE, MEMORY, NO_SPACE, NO_SUCH_ITEM, found, words_code};
 use sii_cats::{CatFault, Manager, Pdo, PdoEntry, pdos, strings, syncms};
 use sii_words::{WordsFault, words_of_bytes};
 use std::alloc::Global;
@@ -156,10 +156,7 @@ fn entry_row(entry: PdoEntry) -> EntryRow
 pub fn read_manager(alloc: Global, content: &[u8], number: usize, manager: &mut SyncManager) -> u32
     ensures { ReadsItem AreManagers content.now number result (λ item. IsManager item manager.new) (manager.new ≡ manager.old) }
 {
-    let all = match managers_in(alloc, content) {
-        Ok(all) => all,
-        Err(code) => return code,
-    };
+    let all = found!(managers_in(alloc, content));
     if number >= all.len() {
         return NO_SUCH_ITEM;
     }
@@ -174,10 +171,7 @@ pub fn read_manager(alloc: Global, content: &[u8], number: usize, manager: &mut 
 pub fn read_pdo(alloc: Global, content: &[u8], number: usize, pdo: &mut PdoRow) -> u32
     ensures { ReadsItem ArePdos content.now number result (λ item. IsPdo item pdo.new) (pdo.new ≡ pdo.old) }
 {
-    let all = match pdos_in(alloc, content) {
-        Ok(all) => all,
-        Err(code) => return code,
-    };
+    let all = found!(pdos_in(alloc, content));
     if number >= all.len() {
         return NO_SUCH_ITEM;
     }
@@ -198,10 +192,7 @@ pub fn read_entry(
 ) -> u32
     ensures { ReadsEntry content.now pdo number result entry.new (entry.new ≡ entry.old) }
 {
-    let all = match pdos_in(alloc, content) {
-        Ok(all) => all,
-        Err(code) => return code,
-    };
+    let all = found!(pdos_in(alloc, content));
     if pdo >= all.len() {
         return NO_SUCH_ITEM;
     }
@@ -237,10 +228,7 @@ pub fn read_string(
 ) -> u32
     ensures { ReadsString content.now number text.old result text.new size.new ((text.new ≡ text.old) × (size.new ≡ size.old)) }
 {
-    let all = match strings_in(alloc, content) {
-        Ok(all) => all,
-        Err(code) => return code,
-    };
+    let all = found!(strings_in(alloc, content));
     if number == 0 || number > all.len() {
         return NO_SUCH_ITEM;
     }

@@ -4,8 +4,7 @@ ghost use Rattle.sii_words.specs.Words.{IsDeviceSize};
 ghost use Rattle.sii_bytes.specs.Bytes.{Answers, words_in};
 ghost use Rattle.sii_bytes.specs.Editing.{Edits, RefusesCategory, RefusesEdit, RefusesImage, category_edit, image_edit};
 
-use crate::codes::{DONE, MEMORY, cause_code, words_code};
-use crate::reading::{read_device, read_image};
+use crate::codes::{DONE, MEMORY, cause_code, found, read_device, read_image, words_code};
 use sii_edit::{Command, Edit, WordList, apply};
 use sii_words::{Plant, Words, WordsFault, words_of_bytes};
 use std::alloc::{AllocError, Global};
@@ -59,18 +58,12 @@ fn recategorized(alloc: Global, words: Words, kind: u16, content: &[u8]) -> Resu
     if content.len() % 2 != 0 {
         return Err(words_code(WordsFault::OddLength));
     }
-    match read_content(alloc, content) {
-        Ok(words_of_content) => edited(
-            alloc,
-            words,
-            Edit::Category {
-                slave: 0,
-                kind,
-                words: words_of_content,
-            },
-        ),
-        Err(code) => Err(code),
-    }
+    let edit = Edit::Category {
+        slave: 0,
+        kind,
+        words: read_content(alloc, content)?,
+    };
+    edited(alloc, words, edit)
 }
 
 /// The bytes of a device with an image written over them.
@@ -79,10 +72,8 @@ fn imaged(alloc: Global, words: Words, bytes: &[u8]) -> Result<Vec<u8>, u32>
     ensures length { IfOk result (λ new. length new.items ≡ 2 * length words) }
     ensures err { IfErr result (RefusesImage words bytes.now) }
 {
-    match read_image(alloc, bytes) {
-        Ok(image) => edited(alloc, words, Edit::Image { slave: 0, image }),
-        Err(code) => Err(code),
-    }
+    let image = read_image(alloc, bytes)?;
+    edited(alloc, words, Edit::Image { slave: 0, image })
 }
 
 /// Replaces the content of the one category of type `kind` of a device, or adds the category last if there is none. Without content it
@@ -96,17 +87,10 @@ pub fn edit_category(alloc: Global, device: &mut [u8], kind: u16, content: &[u8]
     ensures { Answers IsDeviceSize device.old result (λ words. Edits words (category_edit kind content.now) device.new)
         (λ words. RefusesCategory words kind content.now result) (device.new ≡ device.old) }
 {
-    let words = match read_device(alloc, device) {
-        Ok(words) => words,
-        Err(code) => return code,
-    };
-    match recategorized(alloc, words, kind, content) {
-        Ok(bytes) => {
-            device.copy_from_slice(&bytes);
-            DONE
-        }
-        Err(code) => code,
-    }
+    let words = found!(read_device(alloc, device));
+    let bytes = found!(recategorized(alloc, words, kind, content));
+    device.copy_from_slice(&bytes);
+    DONE
 }
 
 /// Writes an image over the first words of a device. What `sii_edit` says of an image edit on a line of this device alone holds.
@@ -119,15 +103,8 @@ pub fn edit_image(alloc: Global, device: &mut [u8], image: &[u8]) -> u32
     ensures { Answers IsDeviceSize device.old result (λ words. Edits words (image_edit image.now) device.new)
         (λ words. RefusesImage words image.now result) (device.new ≡ device.old) }
 {
-    let words = match read_device(alloc, device) {
-        Ok(words) => words,
-        Err(code) => return code,
-    };
-    match imaged(alloc, words, image) {
-        Ok(bytes) => {
-            device.copy_from_slice(&bytes);
-            DONE
-        }
-        Err(code) => code,
-    }
+    let words = found!(read_device(alloc, device));
+    let bytes = found!(imaged(alloc, words, image));
+    device.copy_from_slice(&bytes);
+    DONE
 }

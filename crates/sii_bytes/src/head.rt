@@ -4,8 +4,7 @@ ghost use Rattle.sii_words.specs.Words.{IsImageSize};
 ghost use Rattle.sii_bytes.specs.Bytes.{Answers};
 ghost use Rattle.sii_bytes.specs.Head.{IsHead};
 
-use crate::codes::DONE;
-use crate::reading::read_image;
+use crate::codes::{DONE, found, read_image};
 use sii_words::ImageFile;
 use std::alloc::Global;
 
@@ -55,11 +54,7 @@ fn head_of(image: &ImageFile) -> Head
 pub fn read_head(alloc: Global, bytes: &[u8], head: &mut Head) -> u32
     ensures { Answers IsImageSize bytes.now result (λ words. IsHead words head.new) (λ _. ⊥) (head.new ≡ head.old) }
 {
-    match read_image(alloc, bytes) {
-        Ok(image) => {
-            *head = head_of(&image);
-            DONE
-        }
-        Err(code) => code,
-    }
+    let image = found!(read_image(alloc, bytes));
+    *head = head_of(&image);
+    DONE
 }

@@ -8,7 +8,6 @@ mod content;
 mod editing;
 mod head;
 mod line;
-mod reading;
 mod validating;
 
 pub use alias::set_alias;

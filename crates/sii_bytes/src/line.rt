@@ -2,8 +2,7 @@
 ghost use Rattle.std.specs.Prelude.{◌≡◌, ◌+◌, ◌<◌, ◌≤◌, ◌++◌, drop, length, map, sum, ◌↔◌, IfOk, IfErr, IsTrue, MatchOption, Ok};
 ghost use Rattle.sii_bytes.specs.Line.{FirstRefused, IsSizes, PlacesLine, ReadsEach, ReadsLine, pieces, placed_segment};
 
-use crate::codes::{BAD_LINE, DONE, MEMORY, NO_SPACE, OVER_LIMIT};
-use crate::reading::read_device;
+use crate::codes::{BAD_LINE, DONE, MEMORY, NO_SPACE, OVER_LIMIT, found, read_device};
 use sii_image::{ImageFault, ProcessImage, Segment, image_of};
 use sii_words::{MAX_SLAVES, Plant, Words};
 use std::alloc::Global;
@@ -78,10 +77,7 @@ fn read_each(alloc: Global, bytes: &[u8], lengths: &[usize]) -> Result<Vec<Words
     let mut left = bytes;
     for count in lengths {
         let (first, after) = left.split_at(*count);
-        let words = match read_device(alloc, first) {
-            Ok(words) => words,
-            Err(code) => return Err(code),
-        };
+        let words = read_device(alloc, first)?;
         match slaves.push(words) {
             Ok(()) => {}
             Err(_) => return Err(MEMORY),
@@ -98,10 +94,8 @@ fn read_line(alloc: Global, bytes: &[u8], lengths: &[usize]) -> Result<Plant, u3
     if lengths.is_empty() || lengths.len() > MAX_SLAVES || !are_lengths_of(bytes.len(), lengths) {
         return Err(BAD_LINE);
     }
-    match read_each(alloc, bytes, lengths) {
-        Ok(slaves) => Ok(Plant::of(slaves)),
-        Err(code) => Err(code),
-    }
+    let slaves = read_each(alloc, bytes, lengths)?;
+    Ok(Plant::of(slaves))
 }
 
 fn placed(segment: Segment) -> PlacedSegment
@@ -158,10 +152,7 @@ pub fn place_line(
     ensures { PlacesLine lengths.now bytes.now segments.old result segments.new sizes.new ((segments.new ≡ segments.old)
         × (sizes.new ≡ sizes.old)) }
 {
-    let plant = match read_line(alloc, bytes, lengths) {
-        Ok(plant) => plant,
-        Err(code) => return code,
-    };
+    let plant = found!(read_line(alloc, bytes, lengths));
     let image = match image_of(alloc, &plant) {
         Ok(image) => image,
         Err(ImageFault::ImageOverLimit) => return OVER_LIMIT,

@@ -3,8 +3,7 @@ ghost use Rattle.std.specs.Prelude.{◌≢◌, All, MatchOption};
 ghost use Rattle.station_listing.specs.declared.items.Items.TheVariants.{Malformed};
 ghost use Rattle.sii_bytes.specs.Validating.{IsFirstMalformed, Validates, ValidatesListing};
 
-use crate::codes::{BAD_CATEGORY, BAD_CHECK, DONE, MEMORY, RUNS_OUT};
-use crate::reading::read_image;
+use crate::codes::{BAD_CATEGORY, BAD_CHECK, DONE, MEMORY, RUNS_OUT, found, read_image};
 use station_listing::{CheckByte, ListedCategory, ListedChain, Listing, list_image};
 use std::alloc::Global;
 
@@ -49,10 +48,7 @@ pub fn validate_image(alloc: Global, bytes: &[u8], detail: &mut usize) -> u32
     ensures { Validates bytes.now result detail.new }
 {
     *detail = 0;
-    let image = match read_image(alloc, bytes) {
-        Ok(image) => image,
-        Err(code) => return code,
-    };
+    let image = found!(read_image(alloc, bytes));
     match list_image(alloc, &image) {
         Ok(listing) => {
             let (code, found) = validate_listing(&listing);

@@ -8,14 +8,14 @@ mod serving;
 
 use crate::arguments::{Arguments, read_arguments};
 use crate::serving::serve_slaves;
-use command_line::refuse_words;
+use command_line::{refuse_words, report_unread};
 use station_files::{Fault, report_fault};
 use std::fs::{File, Files};
 use std::io::{Read, Write};
 use std::process::ExitCode;
 use std::rt::Clock;
 use std::{env, io};
-use system_files::{FileStore, Text, hold_streams};
+use system_files::{FileStore, hold_streams, open_text};
 use wire_frames::{EthernetWire, TimedWire};
 
 fn main(rt: HostRuntime) -> ExitCode {
@@ -50,7 +50,7 @@ fn serve_words<
             Ok(()) => 0,
             Err(fault) => report_fault(fault, faults) as u8,
         },
-        Err(unread) => unread.report(faults) as u8,
+        Err(unread) => report_unread(rt.alloc(), &unread, faults) as u8,
     }
 }
 
@@ -66,7 +66,7 @@ fn serve_asked<
         time_out,
         practice,
     } = arguments;
-    let mut text = Text::open(rt, text, stream)?;
+    let mut text = open_text(rt, text, stream)?;
     let mut timed = TimedWire::new(wire, rt, time_out);
     let mut files = FileStore::new(rt.alloc(), rt);
     serve_slaves(rt, practice, &mut timed, &mut files, &mut text)

@@ -2,10 +2,8 @@
 //! before all others its standard input and output are a wire; the launcher `sii_wire` calls it so.
 #![tactic(auto)]
 
-use station_serve::wire::{
-    Arguments, Connection, OwnWire, Screen, read_arguments, refuse_text, serve_on_wire,
-};
-use station_serve::{Streams, refuse_words, serve};
+use station_serve::wire::{Connection, OwnWire, read_arguments, refuse_text, serve_on_wire};
+use station_serve::{Streams, refuse_words, report_unread, serve};
 use std::fs::{File, Files};
 use std::io::{BufWriter, Input, IsTerminal, Print, Write};
 use std::process::ExitCode;
@@ -13,7 +11,7 @@ use std::rt::Clock;
 use std::sync::Wait;
 use std::thread::Threads;
 use std::{env, io};
-use system_files::{FileStore, Text, hold_streams};
+use system_files::{FileStore, hold_streams, open_text};
 use wire_frames::EthernetWire;
 
 fn main(rt: HostRuntime) -> ExitCode {
@@ -63,10 +61,8 @@ fn serve_files<
     let terminal = faults.is_terminal().then_some(*faults);
     match BufWriter::new(rt.alloc(), io::writer(rt)) {
         Ok(mut output) => {
-            let streams = Streams {
-                output: &mut output,
-                faults,
-            };
+            let output = &mut output;
+            let streams = Streams { output, faults };
             serve(rt, words, &mut rt.reader(), &mut files, streams, terminal)
         }
         Err(error) => refuse_words(&error, faults),
@@ -80,29 +76,18 @@ fn serve_wire<
     E: Write + IsTerminal + Copy + Send + Drop,
 >(rt: &H, words: &[String], connection: Connection<L>, faults: &mut E) -> u8 {
     match read_arguments(rt.alloc(), words) {
-        Ok(arguments) => match Text::open(rt, arguments.text, *faults) {
-            Ok(mut text) => serve_task(rt, arguments, connection, &mut text, faults),
+        Ok(arguments) => match open_text(rt, arguments.text, *faults) {
+            Ok(mut text) => {
+                let mut files = FileStore::new(rt.alloc(), rt);
+                let terminal = faults.is_terminal().then_some(*faults);
+                let output = &mut text;
+                let streams = Streams { output, faults };
+                serve_on_wire(rt, arguments, connection, &mut files, streams, terminal) as u8
+            }
             Err(error) => refuse_text(error, faults),
         },
-        Err(unread) => unread.report(faults) as u8,
+        Err(unread) => report_unread(rt.alloc(), &unread, faults) as u8,
     }
-}
-
-/// Carries out what the arguments ask for on a wire, with its text in this stream.
-fn serve_task<
-    H: Files<File = File> + Wait + Threads + Clock + AllocGlobal + Sync,
-    L: OwnWire,
-    O: Write,
-    E: Write + IsTerminal + Copy + Send + Drop,
->(rt: &H, arguments: Arguments<'_>, connection: Connection<L>, text: &mut O, faults: &mut E) -> u8 {
-    let mut files = FileStore::new(rt.alloc(), rt);
-    let terminal = faults.is_terminal().then_some(*faults);
-    let screen = Screen {
-        faults,
-        is_reported: arguments.is_verbose || !arguments.is_quiet,
-        terminal,
-    };
-    serve_on_wire(rt, arguments, screen, connection, &mut files, text) as u8
 }
 
 /// The nanoseconds of the time, which no earlier program on this wire has likely numbered its frames from.

@@ -12,14 +12,12 @@ use Rattle.station_text.specs.declared.hexadecimal.HexFault.{HexFault}
 use Rattle.station_text.specs.declared.hexadecimal.HexFault.TheVariants as digits
 use Rattle.station_text.specs.declared.line_file.LineFault.{LineFault}
 use Rattle.station_text.specs.declared.line_file.LineFault.TheVariants as lines
-use Rattle.station_text.specs.declared.script_file.ScriptFault.{ScriptFault}
-use Rattle.station_text.specs.declared.script_file.ScriptFault.TheVariants as scripts
 use Rattle.station_files.specs.declared.faults.ExitStatus.{ExitStatus}
 use Rattle.station_files.specs.declared.faults.ExitStatus.TheVariants.{Done, Refused}
 use Rattle.station_files.specs.declared.faults.ExitStatus.TheVariants as ends
 use Rattle.station_files.specs.declared.faults.Fault.{Fault}
 use Rattle.station_files.specs.declared.faults.Fault.TheVariants.{OddLength, BadSize, ImageOverLimit, Memory, Disk, Lost, Stopped, SlaveDead}
-use Rattle.station_files.specs.declared.faults.Fault.TheVariants.{Unserved, File, BadHex, BadLine, BadScript, Busy}
+use Rattle.station_files.specs.declared.faults.Fault.TheVariants.{Unserved, File, BadHex, BadLine, Busy}
 use Rattle.station_files.specs.declared.store.LockFault.{LockFault}
 use Rattle.station_files.specs.declared.store.LockFault.TheVariants as locks
 
@@ -52,11 +50,6 @@ of_hex digits.Memory = Memory
 abbrev pub of_line : LineFault → Fault
 of_line (lines.BadLine trouble) = BadLine
 of_line lines.Memory = Memory
-
--- the fault for a text that is not a script
-abbrev pub of_script : ScriptFault → Fault
-of_script (scripts.BadScript command trouble) = BadScript command
-of_script scripts.Memory = Memory
 
 -- no fault ended the work: everything was done, or at most commands were refused
 abbrev pub IsFaultless : ExitStatus → Type 0

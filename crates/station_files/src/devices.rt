@@ -77,10 +77,6 @@ pub fn write_slave<R: Read, S: Store>(
 }
 
 /// The bytes that a slave gets so, whose words are in the file `name`.
-///
-/// # Errors
-///
-/// As for `write_slave`, but for the store's.
 #[tactic(auto, using(crate::proofs::SlaveImages::gives_slave))]
 fn slave_with_image<R: Read, S: Store>(
     alloc: Global,
@@ -101,10 +97,6 @@ fn slave_with_image<R: Read, S: Store>(
 }
 
 /// Looks whether an image is that of the slave whose words are in this file, unless any device is taken.
-///
-/// # Errors
-///
-/// `OtherDevice` where it isn't.
 fn require_device<S: Store>(
     any_device: bool,
     name: &str,
@@ -128,10 +120,6 @@ fn require_device<S: Store>(
 }
 
 /// The bytes of a slave with these words, once the command has written the image to it.
-///
-/// # Errors
-///
-/// The refusal of the command; `Memory`.
 #[tactic(auto, using(crate::proofs::SlaveImages::is_written))]
 fn written(alloc: Global, words: Words, image: ImageFile) -> Result<Vec<u8>, Failure>
     ensures { IfOk result (λ bytes. IsWritten words image bytes.items) }

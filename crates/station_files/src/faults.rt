@@ -1,13 +1,13 @@
 //! Faults and refusals as the program prints them, and the exit status for each.
 ghost use Rattle.std.specs.Prelude.{◌≡◌, ◌≢◌, ◌≤◌, ◌⊎◌};
-ghost use Rattle.station_files.specs.Faults.{IsFaultless, IsOfStream, code_of, number_of, of_hex, of_line, of_process_image, of_script, of_words};
+ghost use Rattle.station_files.specs.Faults.{IsFaultless, IsOfStream, code_of, number_of, of_hex, of_line, of_process_image, of_words};
 ghost use Rattle.station_files.specs.Faults.{status_of};
 
 use sii_edit::{Cause, Refusal};
 use sii_image::ImageFault;
 use sii_words::WordsFault;
-use station_listing::Code;
-use station_text::{HexFault, LineFault, ScriptFault};
+use station_listing::{Code, namesake};
+use station_text::{HexFault, LineFault};
 use std::alloc::{AllocError, AllocFailed};
 use std::{fmt, io};
 
@@ -115,31 +115,8 @@ pub fn worse(one: ExitStatus, other: ExitStatus) -> ExitStatus
 impl Fault {
     /// The code that the fault is printed with.
     pub fn code(self) -> Code {
-        match self {
-            Fault::OddLength => Code::OddLength,
-            Fault::BadSize => Code::BadSize,
-            Fault::ImageOverLimit => Code::ImageOverLimit,
-            Fault::Memory => Code::Memory,
-            Fault::Disk => Code::Disk,
-            Fault::Lost => Code::Lost,
-            Fault::Stopped => Code::Stopped,
-            Fault::SlaveDead { .. } => Code::SlaveDead,
-            Fault::NotAJournal => Code::NotAJournal,
-            Fault::BadVersion { .. } => Code::BadVersion,
-            Fault::BadJournal { .. } => Code::BadJournal,
-            Fault::WrongLine => Code::WrongLine,
-            Fault::Unserved => Code::Unserved,
-            Fault::File => Code::File,
-            Fault::BadHex => Code::BadHex,
-            Fault::BadLine => Code::BadLine,
-            Fault::BadScript { .. } => Code::BadScript,
-            Fault::Exists => Code::Exists,
-            Fault::Busy => Code::Busy,
-            Fault::SameFile => Code::SameFile,
-            Fault::NotAFile => Code::NotAFile,
-            Fault::TooLong => Code::TooLong,
-            Fault::OtherDevice => Code::OtherDevice,
-        }
+        namesake!(self, Fault as Code: OddLength, BadSize, ImageOverLimit, Memory, Disk, Lost, Stopped, SlaveDead, NotAJournal, BadVersion,
+            BadJournal, WrongLine, Unserved, File, BadHex, BadLine, BadScript, Exists, Busy, SameFile, NotAFile, TooLong, OtherDevice)
     }
 
     /// The exit status for this fault: `File`, `Device` or `Memory`.
@@ -268,11 +245,7 @@ impl From<WordsFault> for Fault {
     ghost from_gives = { λ fault given. given ≡ of_words fault };
 
     fn from(fault: WordsFault) -> Self {
-        match fault {
-            WordsFault::Memory => Fault::Memory,
-            WordsFault::OddLength => Fault::OddLength,
-            WordsFault::BadSize => Fault::BadSize,
-        }
+        namesake!(fault, WordsFault as Fault: Memory, OddLength, BadSize)
     }
 }
 
@@ -280,10 +253,7 @@ impl From<ImageFault> for Fault {
     ghost from_gives = { λ fault given. given ≡ of_process_image fault };
 
     fn from(fault: ImageFault) -> Self {
-        match fault {
-            ImageFault::Memory => Fault::Memory,
-            ImageFault::ImageOverLimit => Fault::ImageOverLimit,
-        }
+        namesake!(fault, ImageFault as Fault: Memory, ImageOverLimit)
     }
 }
 
@@ -291,10 +261,7 @@ impl From<HexFault> for Fault {
     ghost from_gives = { λ fault given. given ≡ of_hex fault };
 
     fn from(fault: HexFault) -> Self {
-        match fault {
-            HexFault::Memory => Fault::Memory,
-            HexFault::BadHex => Fault::BadHex,
-        }
+        namesake!(fault, HexFault as Fault: Memory, BadHex)
     }
 }
 
@@ -302,21 +269,7 @@ impl From<LineFault> for Fault {
     ghost from_gives = { λ fault given. given ≡ of_line fault };
 
     fn from(fault: LineFault) -> Self {
-        match fault {
-            LineFault::Memory => Fault::Memory,
-            LineFault::BadLine(_) => Fault::BadLine,
-        }
-    }
-}
-
-impl From<ScriptFault> for Fault {
-    ghost from_gives = { λ fault given. given ≡ of_script fault };
-
-    fn from(fault: ScriptFault) -> Self {
-        match fault {
-            ScriptFault::Memory => Fault::Memory,
-            ScriptFault::BadScript { command, .. } => Fault::BadScript { command },
-        }
+        namesake!(fault, LineFault as Fault: Memory, BadLine)
     }
 }
 
@@ -333,22 +286,8 @@ impl From<Refusal> for Refused {
 fn code_of(cause: Cause) -> Code
     ensures { result ≡ code_of cause }
 {
-    match cause {
-        Cause::BadCategory { .. } => Code::BadCategory,
-        Cause::NoRoom => Code::NoRoom,
-        Cause::NoSlave => Code::NoSlave,
-        Cause::SameSlave => Code::SameSlave,
-        Cause::EmptyGroup => Code::EmptyGroup,
-        Cause::GroupTooLong => Code::GroupTooLong,
-        Cause::ImageTooLong => Code::ImageTooLong,
-        Cause::BadCheck => Code::BadCheck,
-        Cause::NoSuchCategory => Code::NoSuchCategory,
-        Cause::SeveralCategories => Code::SeveralCategories,
-        Cause::BadChain => Code::BadChain,
-        Cause::ImageOverLimit => Code::ImageOverLimit,
-        Cause::Memory => Code::Memory,
-        Cause::WrongIdentity => Code::WrongIdentity,
-    }
+    namesake!(cause, Cause as Code: BadCategory, NoRoom, NoSlave, SameSlave, EmptyGroup, GroupTooLong, ImageTooLong, BadCheck, NoSuchCategory,
+        SeveralCategories, BadChain, ImageOverLimit, Memory, WrongIdentity)
 }
 
 /// Work was left undone, and nothing says why.

@@ -1,16 +1,18 @@
-//! Reads one EEPROM image from a file or a stream and writes one, as bytes or as hexadecimal text.
+//! Reads one EEPROM image from a file or a stream and writes one, as bytes or as hexadecimal text. The subcommand `alias`.
 ghost use Rattle.std.specs.Prelude.{◌≡◌, List, ℕ, IfOk, IfErr, IfSome, IsSome, OnOk, option_map};
 ghost use Rattle.std.specs.Io.KnownBytes.{Appends};
 ghost use Rattle.sii_words.specs.Words.{bytes_of};
 ghost use Rattle.station_files.specs.Faults.{IsOfStream};
 ghost use Rattle.station_files.specs.ImageText.{RefusesInput, RefusesReading, Spells, SpellsLower, text_of};
+ghost use Rattle.station_files.specs.Alias.{RefusesAlias, Renames};
 
-use crate::faults::Fault;
-use crate::notes::{Wrong, note_image, note_input};
-use crate::printing::write_complete;
-use crate::reading::read_to_end;
+use crate::faults::{Failure, Fault};
+use crate::notes::{Place, Wrong, note_image, note_input};
 use crate::store::{MOST_OF_TEXT, Store, read_file};
+use crate::streams::{read_to_end, write_complete};
+use sii_edit::alias_image;
 use sii_words::ImageFile;
+use station_listing::Code;
 use station_text::{hex_lines, read_hex};
 use std::alloc::{AllocError, Global};
 use std::io::{Read, Write};
@@ -95,11 +97,7 @@ fn spelt_image(alloc: Global, hex: bool, input: &[u8]) -> Result<ImageFile, Faul
 }
 
 /// Writes an EEPROM image and flushes the output. With `hex` it writes lower case digits, 16 bytes a line.
-///
-/// # Errors
-///
-/// `Memory` before anything is written; then `File` or `Memory`, as the output answers, with part of the image written.
-pub(crate) fn write_image<W: Write>(
+fn write_image<W: Write>(
     alloc: Global,
     hex: bool,
     image: &ImageFile,
@@ -123,4 +121,42 @@ fn spell_image(alloc: Global, hex: bool, image: &ImageFile) -> Result<Vec<u8>, A
         return hex_lines(alloc, &bytes);
     }
     Ok(bytes)
+}
+
+/// Reads an EEPROM image, of the file of this name or from the input, sets its configured station alias to `value`, updates the check byte,
+/// and writes the image to the output. No file changes. With `hex` both texts are hexadecimal.
+///
+/// # Errors
+///
+/// As for `read_image`; then the refusal `BadCheck`, where the check byte of the image is wrong; then as for `write_image`. Nothing is
+/// written before the image is read and accepted.
+pub fn set_alias<R: Read, S: Store, W: Write>(
+    alloc: Global,
+    value: u16,
+    hex: bool,
+    file: Option<&str>,
+    input: &mut R,
+    store: &mut S,
+    output: &mut W,
+) -> Result<(), Failure>
+    ensures renamed { OnOk result (Renames hex value (text_of (option_map (λ name. name.now) file.entry) (R.remaining input.old) (S.files store.old))
+        (W.contents output.old) (W.contents output.new)) }
+    ensures refused { IfErr result (λ failure.
+        IfSome (text_of (option_map (λ name. name.now) file.entry) (R.remaining input.old) (S.files store.old))
+        (λ text. RefusesAlias hex text failure)) }
+    ensures same { S.files store.new ≡ S.files store.old }
+{
+    let mut image = read_image(alloc, hex, file, input, store)?;
+    if let Err(refusal) = alias_image(&mut image, value) {
+        match file {
+            Some(name) => {
+                let wrong = Wrong::BadCheck(image.check_byte());
+                store.note(Code::BadCheck, Place::File(name), &wrong);
+            }
+            None => store.note(Code::BadCheck, Place::Named, &Wrong::InputBadCheck),
+        }
+        return Err(Failure::Refused(refusal));
+    }
+    write_image(alloc, hex, &image, output)?;
+    Ok(())
 }

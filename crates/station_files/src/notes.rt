@@ -70,10 +70,7 @@ pub(crate) fn note_text<S: Store>(
     let Some(TextTrouble { line, what }) = trouble else {
         return;
     };
-    let place = match line {
-        Some(line) => Place::Line(name, line),
-        None => Place::File(name),
-    };
+    let place = line.map_or(Place::File(name), |line| Place::Line(name, line));
     store.note(code, place, &what);
 }
 

@@ -1,18 +1,19 @@
-//! Refuses files of which one would be lost where another one is written.
-ghost use Rattle.std.specs.Prelude.{◌≡◌, ◌≤◌, ◌<◌, ◌∷◌, ◌++◌, [], length, is_some, option_map, string_bytes, vec_len};
-ghost use Rattle.std.specs.Prelude.{IfErr, IfOk, MatchOption, OnOk};
+//! Refuses files of which one would be lost where another one is written, and an output that goes to a file which is read.
+ghost use Rattle.std.specs.Prelude.{◌≡◌, ◌≤◌, ◌<◌, ◌∷◌, ◌++◌, [], length, is_some, option_map, string_bytes, vec_len, IfErr, IfOk, MatchOption, OnOk, ◌⊎◌};
 ghost use Rattle.std.specs.List.{AllByRecursion, AllZip, HoldsAt};
 ghost use Rattle.station_files.specs.Faults.{IsOfStream};
 ghost use Rattle.station_files.specs.FileNames.{fault_for, files_with, listed, spelt, written_of, IsLineSeparate, RefusesLineNames, RefusesNames};
-ghost use Rattle.station_files.specs.Locations.{AreSeparate, IsClash, LeadsTo, MeetAt, Meets, NoneMeet, place_of};
+ghost use Rattle.station_files.specs.Locations.{AreSeparate, IsClash, LeadsTo, MeetAt, Meets, NoneMeet, place_of, OutputIsSeparate};
+ghost use Rattle.station_files.specs.declared.faults.Fault.TheVariants as faults;
 
 use crate::faults::Fault;
 use crate::location::Location;
-use crate::meeting::{Meeting, Reported, Role};
-use crate::notes::Place;
-use crate::store::Store;
+use crate::notes::{Place, Wrong};
+use crate::store::{Entry, Store};
+use station_listing::Code;
 use station_text::LineFile;
 use std::alloc::{AllocError, Global};
+use thiserror::Error;
 
 /// Two files of a list, by their places in it, of which one would be lost where the other is written or replaced.
 #[derive(Clone, Copy)]
@@ -241,4 +242,71 @@ fn first_met(one: &Location, others: &[Location]) -> Option<usize>
         }
     }
     None
+}
+
+/// What a file is to a subcommand on a line.
+#[derive(Clone, Copy, Debug, Error)]
+enum Role {
+    #[error("capture")]
+    Capture,
+    #[error("journal")]
+    Journal,
+    /// The image of a slave, by its position on the line, from 0.
+    #[error("slave {0}'s image")]
+    Slave(usize),
+    #[error("line file")]
+    LineFile,
+    #[error("script")]
+    Script,
+}
+
+/// A file: what it is, and its name.
+#[derive(Clone, Copy, Debug, Error)]
+#[error("{role} {name:?}")]
+struct Reported<'a> {
+    pub role: Role,
+    pub name: &'a str,
+}
+
+/// Two files that meet.
+#[derive(Clone, Copy, Debug, Error)]
+#[error("{one} and {other}{how}")]
+struct Meeting<'a> {
+    pub one: Reported<'a>,
+    pub other: Reported<'a>,
+    /// How they do, as the end of a sentence.
+    pub how: &'static str,
+}
+
+/// The file that standard output goes to.
+const STANDARD_OUTPUT: &str = "/dev/fd/1";
+
+/// The file that standard input comes from.
+pub const STANDARD_INPUT: &str = "/dev/fd/0";
+
+/// Refuses a standard output that goes to the file of this name, which is to be read. A terminal, a pipe or a device may be both. Nothing is read or
+/// written.
+///
+/// # Errors
+///
+/// `SameFile`; `File` where a name can't be followed; `Memory`.
+#[tactic(auto, using(crate::proofs::Separate::output_separate, crate::proofs::Separate::absent_output, crate::proofs::Separate::other_output))]
+pub fn keep_output_separate<S: Store>(alloc: Global, name: &str, store: &mut S) -> Result<(), Fault>
+    ensures separate { OnOk result (OutputIsSeparate (S.files store.old) S.leads name.now) }
+    ensures refused { IfErr result (λ fault. (fault ≡ faults.SameFile) ⊎ IsOfStream fault) }
+    ensures same { S.files store.new ≡ S.files store.old }
+{
+    let output = store.locate(alloc, STANDARD_OUTPUT)?;
+    let read = store.locate(alloc, name)?;
+    if !output.is_same(&read) {
+        return Ok(());
+    }
+    match store.look(name) {
+        Ok(Entry::Absent) => Ok(()),
+        Ok(Entry::Other) => Ok(()),
+        _ => {
+            store.note(Code::SameFile, Place::File(name), &Wrong::Output);
+            Err(Fault::SameFile)
+        }
+    }
 }

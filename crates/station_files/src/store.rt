@@ -1,7 +1,7 @@
 //! What the program asks of a store of named files.
-ghost use Rattle.std.specs.Prelude.{◌≡◌, ◌⊎◌, ℕ, ⊤, List, Option, None, option_map, IfOk, IfErr, IfSome, OnOk};
+ghost use Rattle.std.specs.Prelude.{◌≡◌, ◌⊎◌, ℕ, ⊤, List, Option, None, option_map, IfOk, IfErr, IfSome, OnOk, length, map, string_bytes};
 ghost use Rattle.station_files.specs.Faults.{IsOfLock, IsOfStream};
-ghost use Rattle.station_files.specs.Files.{HasBytes, ChangesOnly, IsEntryOf, IsNoFile, RefusesFile, RefusesImageFile};
+ghost use Rattle.station_files.specs.Files.{HasBytes, ChangesOnly, IsEntryOf, IsNoFile, RefusesFile, RefusesImageFile, ChangesAmong, HoldsAll};
 ghost use Rattle.station_files.specs.Locations.{Leads, LeadsTo};
 
 use crate::faults::Fault;
@@ -236,4 +236,34 @@ fn read_entry<S: Store>(
             None => Err(Fault::File),
         },
     }
+}
+
+/// Takes the memory that the store needs to write the files of these names. No file changes.
+///
+/// # Errors
+///
+/// The first error of the store.
+pub fn prepare_files<S: Store>(names: &[String], store: &mut S) -> io::Result<()>
+    ensures same { S.files store.new ≡ S.files store.old }
+{
+    for slave in 0..names.len() {
+        store.prepare(names[slave].as_str())?;
+    }
+    Ok(())
+}
+
+/// Writes `files` to the names `images`, each as a whole, one after the other. Requires one name for each file.
+///
+/// # Errors
+///
+/// The first error of the store. The files before that one are written.
+pub fn write_files<S: Store>(images: &[String], files: &[Vec<u8>], store: &mut S) -> io::Result<()>
+    requires { length images.now ≡ length files.now }
+    ensures written { OnOk result (HoldsAll (S.files store.new) (map (λ name. string_bytes name) images.now) (map (λ file. file.items) files.now)) }
+    ensures others { ChangesAmong (S.files store.old) (S.files store.new) (map (λ name. string_bytes name) images.now) }
+{
+    for slave in 0..images.len() {
+        store.write(images[slave].as_str(), &files[slave])?;
+    }
+    Ok(())
 }

@@ -1,13 +1,14 @@
-//! The answers to the commands of a script, and the refusals and faults of a book, as the program prints them.
-
+//! The answers to the commands of a script, and the refusals and faults of a book, as the program prints them; and what it prints of a recovery.
 ghost use Rattle.std.specs.Prelude.{◌≡◌, ◌≢◌, IfErr, Some};
 ghost use Rattle.station_files.specs.Faults.{IsOfStream};
 ghost use Rattle.station_line.specs.Faults.{fault_of_book};
 
 use crate::answered::Answered;
 use book_model::{Fault as BookFault, SubmitRefusal};
+use station_alone::Recovered;
 use station_files::{Fault, Refused};
 use station_listing::Code;
+use std::io;
 use std::io::Write;
 
 /// The refusal of a command, as it is printed.
@@ -115,4 +116,22 @@ pub fn print_refused<W: Write>(
     *answered = answered.and_refused(refused);
     writeln!(output, "command {place} {refused}")?;
     Ok(())
+}
+
+/// Writes the counts of a recovery as one line: batches and commands that were live, and words that were written.
+///
+/// # Errors
+///
+/// As the output answers.
+pub fn write_recovered<W: Write>(recovered: Recovered, output: &mut W) -> io::Result<()> {
+    let Recovered {
+        batches,
+        commands,
+        words,
+    } = recovered;
+    writeln!(
+        output,
+        "recovered batches {batches} commands {commands} words {words}"
+    )?;
+    output.flush()
 }

@@ -1,9 +1,14 @@
-//! What is noted of a journal that is refused.
-ghost use Rattle.std.specs.Prelude.{◌≡◌};
+//! Validates the bytes of a journal's file before a file is opened for writing, and notes why they are refused.
+ghost use Rattle.std.specs.Prelude.{◌≡◌, map, length, IfOk, MatchOption};
+ghost use Rattle.jrn_format.specs.Fault.{IsFaultOf};
+ghost use Rattle.station_line.specs.Validating.{HasJournal};
 
 use crate::faults::of_journal;
-use jrn_format::JournalFault;
+use crate::site::sizes_of;
+use jrn_format::{JournalFault, scan};
+use sii_words::Words;
 use station_files::{Place, Store};
+use std::alloc::{AllocError, Global};
 use thiserror::Error;
 
 /// Why a journal is refused, as part of a sentence.
@@ -54,5 +59,28 @@ fn slaves_in(journal: &[u8]) -> usize {
     match journal {
         [_, _, low, high, ..] => usize::from(u16::from_le_bytes([*low, *high])),
         _ => 0,
+    }
+}
+
+/// Why these bytes of the file of this name are refused as the journal of a line of slaves with these words, or that memory was refused as they
+/// were validated; `None` where they are its journal.
+pub(crate) fn refusal_of<S: Store>(
+    alloc: Global,
+    name: &str,
+    journal: &[u8],
+    slaves: &[Words],
+    store: &mut S,
+) -> Result<Option<JournalFault>, AllocError>
+    ensures validated { IfOk result (λ refusal. MatchOption refusal (HasJournal (map length slaves.now) journal.now)
+        (IsFaultOf journal.now (map length slaves.now))) }
+    ensures same { S.files store.new ≡ S.files store.old }
+{
+    let sizes = sizes_of(alloc, slaves)?;
+    match scan(alloc, journal, &sizes) {
+        Ok(_journal) => Ok(None),
+        Err(fault) => {
+            note_journal(fault, name, journal, slaves.len(), store);
+            Ok(Some(fault))
+        }
     }
 }

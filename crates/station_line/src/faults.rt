@@ -1,13 +1,15 @@
-//! The program's faults for those of opening and recovering a line.
+//! The program's faults for those of device calls, and of opening and recovering a line.
 ghost use Rattle.std.specs.Prelude.{◌≡◌};
 ghost use Rattle.station_line.specs.Faults.{of_journal, of_open, of_slave};
+ghost use Rattle.station_line.specs.DeviceFaults.{of_device};
 
-use crate::device_faults::of_device;
 use esc_rom::RomFault;
 use jrn_format::JournalFault;
+use site_core::DeviceFault;
 use site_journal::ReadFault;
 use station_alone::OpenFault;
 use station_files::Fault;
+use station_listing::namesake;
 
 /// The program's fault for a station that can't be opened or recovered.
 pub fn of_open(fault: OpenFault) -> Fault
@@ -43,4 +45,11 @@ fn of_slave(fault: RomFault) -> Fault
         RomFault::SlaveDead { slave } => Fault::SlaveDead { slave },
         RomFault::Stopped => Fault::Stopped,
     }
+}
+
+/// The program's fault for a fault of a device call.
+pub(crate) fn of_device(fault: DeviceFault) -> Fault
+    ensures { result ≡ of_device fault }
+{
+    namesake!(fault, DeviceFault as Fault: Disk, Lost, Stopped)
 }

@@ -6,7 +6,7 @@ ghost use Rattle.station_files.specs.FileNames.{IsLineSeparate};
 ghost use Rattle.station_line.specs.Init.{Formats, HoldsEmpty, IsOfFormatting, IsUnformatted, RefusesInit, RefusesUnformatted};
 ghost use Rattle.station_line.specs.Site.{files_of};
 
-use crate::device_faults::of_device;
+use crate::faults::of_device;
 use crate::site::{save_site, site_of};
 use sii_words::Words;
 use site_journal::format;

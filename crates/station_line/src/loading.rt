@@ -66,10 +66,6 @@ pub fn load<S: Store>(
 }
 
 /// Reads a script and the images that it names. The script may be none of these files that the run writes.
-///
-/// # Errors
-///
-/// As for `load_script`, then as for `keep_separate`.
 fn load_commands<S: Store>(
     alloc: Global,
     script: &str,

@@ -30,22 +30,15 @@ fn serve_slave<S: Site>(alone: &mut Alone<S>, slave: u16) -> Result<(), Fault>
     had_memory(answer)
 }
 
-/// Carries out the next action of each slave, in order.
-fn serve_slaves<S: Site>(alone: &mut Alone<S>, slaves: u16) -> Result<(), Fault>
-    ensures { Goes [] alone.old alone.new }
-{
-    for slave in 0..slaves {
-        serve_slave(alone, slave)?;
-    }
-    Ok(())
-}
-
 /// Makes one round: an action of the disk, and then one of each slave.
 pub(crate) fn serve_round<S: Site>(alone: &mut Alone<S>, slaves: u16) -> Result<(), Fault>
     ensures { Goes [] alone.old alone.new }
 {
     serve_disk(alone)?;
-    serve_slaves(alone, slaves)
+    for slave in 0..slaves {
+        serve_slave(alone, slave)?;
+    }
+    Ok(())
 }
 
 /// Makes rounds until nothing is queued or live, or a fault has closed the book.

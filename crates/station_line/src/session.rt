@@ -5,8 +5,8 @@ ghost use Rattle.station_line.specs.Validating.{IsValidated};
 ghost use Rattle.station_line.specs.Refusals.{RefusesSession};
 ghost use Rattle.station_line.specs.Opened.{is_old, Loads};
 
+use crate::bad_journal::refusal_of;
 use crate::site::site_of;
-use crate::validating::refusal_of;
 use jrn_format::{JournalFault, version};
 use site_mem::FaultPlan;
 use site_shadow::ShadowSite;

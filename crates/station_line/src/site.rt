@@ -92,12 +92,7 @@ pub fn save_site<S: Store, D: Device + Drop>(
 {
     let _count = site.slaves();
     let (parts, _device) = site.into_parts();
-    let Parts {
-        sizes: _,
-        disk,
-        halves,
-        process: _,
-    } = parts;
+    let Parts { disk, halves, .. } = parts;
     let journal = disk.unwrap();
     save_parts(alloc, line, &journal, &halves, store)
 }

@@ -25,10 +25,6 @@ pub enum Items {
 }
 
 /// Reads the items in the content of a category of type `kind`.
-///
-/// # Errors
-///
-/// Memory was refused.
 pub(crate) fn read_items(alloc: Global, kind: u16, words: &[u16]) -> Result<Items, AllocError>
     ensures { IfOk result (SaysItems kind words.now) }
 {

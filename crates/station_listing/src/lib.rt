@@ -5,8 +5,8 @@ mod codes;
 mod explanations;
 mod items;
 mod listing;
-mod wire_explanations;
 
-pub use codes::{CODES, Code, CodeEntry, each_code_is_listed, find_code};
+pub use codes::{CODES, Code, each_code_is_listed, find_code};
+pub use explanations::CodeEntry;
 pub use items::Items;
 pub use listing::{CheckByte, ListedCategory, ListedChain, Listing, list_chain, list_image};

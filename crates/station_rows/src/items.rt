@@ -1,8 +1,7 @@
 //! The items of an EEPROM image, each as a row with the strings that it refers to.
 
-use crate::bytes::{byte_at, long_at, word_at};
 use crate::cell::{Cell, bare, named, said};
-use crate::general::put_details;
+use crate::image::{byte_at, long_at, put_details, word_at};
 use crate::rows::{Row, Rows};
 use crate::value::Value;
 use sii_cats::{FmmuUnit, FmmuUse, Manager, Pdo, kind};
@@ -30,18 +29,17 @@ pub struct Line<'a> {
 struct Lines<'a> {
     alloc: Global,
     kind: u16,
-    strings: Option<&'a [Vec<u8>]>,
+    strings: &'a [Vec<u8>],
     lines: Vec<Line<'a>>,
 }
 
 /// The strings that items refer to: those of the first category STRINGS, where it can be read.
-fn strings_in(categories: &[ListedCategory]) -> Option<&[Vec<u8>]> {
-    let first = categories
-        .iter()
-        .find(|category| category.kind == kind::STRINGS)?;
-    match &first.items {
-        Items::Strings(strings) => Some(strings.as_slice()),
-        _ => None,
+fn strings_in(categories: &[ListedCategory]) -> &[Vec<u8>] {
+    let mut all = categories.iter();
+    let first = all.find(|category| category.kind == kind::STRINGS);
+    match first.map(|category| &category.items) {
+        Some(Items::Strings(strings)) => strings.as_slice(),
+        _ => &[],
     }
 }
 
@@ -107,15 +105,10 @@ impl<'a> Lines<'a> {
         Ok(())
     }
 
-    /// The string of this number, from 1, if there is one.
-    fn string(&self, number: u8) -> Option<&'a [u8]> {
-        let place = usize::from(number).checked_sub(1)?;
-        Some(self.strings?.get(place)?.as_slice())
-    }
-
-    /// A reference to the string of this number.
+    /// A reference to the string of this number, from 1.
     fn name(&self, number: u8) -> Value<'a> {
-        Value::Name(number, self.string(number))
+        let string = self.strings.get(usize::from(number).wrapping_sub(1));
+        Value::Name(number, string.map(|string| string.as_slice()))
     }
 
     fn push_strings(&mut self, strings: &'a [Vec<u8>]) -> Result<(), AllocError> {
@@ -222,10 +215,7 @@ impl<'a> Lines<'a> {
     /// Adds the operation modes of a category DC (ETG.2010), of twelve words each: times in nanoseconds, of SYNC0 and SYNC1. Words after the
     /// last whole one are ignored.
     fn push_modes(&mut self, words: &[u16]) -> Result<(), AllocError> {
-        for (place, mode) in words.chunks(12).enumerate() {
-            if mode.len() < 12 {
-                return Ok(());
-            }
+        for (place, mode) in words.chunks_exact(12).enumerate() {
             let said_of = [
                 named("cycle0", long_at(mode, 0)),
                 named("shift0", long_at(mode, 2)),

@@ -24,23 +24,9 @@ pub(crate) const ALL: Argument =
 
 const HEX: Argument = argument!("hex": Flag => "Reads hexadecimal text in place of bytes");
 
-const HEX_BOTH: Argument =
-    argument!("hex": Flag => "Reads and writes hexadecimal text in place of bytes");
-
-const VALUE: Argument =
-    argument!("VALUE": Word => "The new alias, 0 to 65535, or in hexadecimal, 0x0 to 0xffff");
-
 const IMAGE: Argument = argument!("IMAGE": Word => "The file with the words of a slave's EEPROM");
 
 const GIVEN: Argument = argument!("FILE": Word => "The image file; - for standard input");
-
-const IN_PLACE: Argument =
-    argument!("inplace": ShortFlag('i') => "Puts the new image in FILE's place, as a whole, and prints nothing");
-
-const FIRST: Argument = argument!("A": Word => "The file of the first image; - for standard input");
-
-const SECOND: Argument =
-    argument!("B": Word => "The file of the second image; - for standard input");
 
 pub(crate) const SHOW: Subcommand = subcommand!("show": "Prints what an EEPROM image says",
     long: "Reads the image of a slave's EEPROM from FILE, or from standard input, and prints its alias, whether its check byte is right, \
@@ -101,7 +87,10 @@ pub(crate) const ALIAS: Subcommand =
         that goes with it, and writes the image to standard output, or with -i in FILE's place. An image has 64 to 4096 words, low byte first. \
         An output that goes to FILE itself is refused (fault 96); with > FILE the shell has emptied it by then: use -i.",
     after: "Examples:\n  sii_station alias 1001 -i slave.bin\n  sii_station alias 0x3e9 slave.bin > renamed.bin",
-    [VALUE, FILE, IN_PLACE, HEX_BOTH]);
+    [argument!("VALUE": Word => "The new alias, 0 to 65535, or in hexadecimal, 0x0 to 0xffff"),
+     FILE,
+     argument!("inplace": ShortFlag('i') => "Puts the new image in FILE's place, as a whole, and prints nothing"),
+     argument!("hex": Flag => "Reads and writes hexadecimal text in place of bytes")]);
 
 pub(crate) const WRITE: Subcommand =
     subcommand!("write": "Writes an image file over the first words of another one",
@@ -154,7 +143,9 @@ Exit status: 0 equal, 1 different, 2 wrong usage, 3 a file or its form, 5 no mem
 Example:
   sii_station diff drive.bin backup/drive.bin
   sii_station diff drive.bin - < backup/drive.bin",
-    [FIRST, SECOND, JSON, HEX]);
+    [argument!("A": Word => "The file of the first image; - for standard input"),
+     argument!("B": Word => "The file of the second image; - for standard input"),
+     JSON, HEX]);
 
 /// Sets the configured station alias of the image in the file of this name, as `set_alias` does, and replaces the file by one with the new image,
 /// as a whole.
@@ -221,9 +212,9 @@ pub(crate) fn keep_images_separate<S: Store>(
     ensures { S.files store.new ≡ S.files store.old }
 {
     let (one, other) = match task {
-        Task::Alias { file, .. } | Task::Show(ShowOptions { file, .. }) => (file, file),
+        Task::Alias(_, _, file) | Task::Show(ShowOptions { file, .. }) => (file, file),
         Task::Diff(Compared { old, new, .. }) => (old, new),
-        Task::Verify { found, wanted } => (found, wanted),
+        Task::Verify(found, wanted) => (found, wanted),
         _ => return Ok(()),
     };
     keep_output_separate(alloc, one.unwrap_or(STANDARD_INPUT), store)?;

@@ -2,14 +2,14 @@
 #![tactic(auto)]
 
 mod arguments;
+mod ending;
 mod images;
 mod line_work;
 mod pages;
-mod refusals;
 mod request;
 mod serving;
 pub mod wire;
 
-pub use command_line::refuse_words;
+pub use command_line::{refuse_words, report_unread};
 pub use serving::{Host, Streams, serve};
 pub use station_files::{LockFault, Store};

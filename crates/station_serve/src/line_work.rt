@@ -25,12 +25,6 @@ pub(crate) struct LineTask<'a> {
     pub reports: bool,
 }
 
-const FUSE: Argument =
-    argument!("fuse": Large("K") => "Cuts the power once K writes have passed, 0 to 4294967295");
-
-const LEFT: Argument =
-    argument!("left": Small("W") => "What a torn write leaves, 0 to 65535; 0 where nothing is said");
-
 pub(crate) const INIT: Subcommand = subcommand!("init": "Formats the journal of a line of slaves",
     long: "Reads a line file and the EEPROM images that it names, and makes an empty journal in the file that it names for it. That file \
         must not be there yet.",
@@ -73,7 +67,10 @@ form, 4 a device or a power cut, 5 no memory. The highest that applies wins.
 
 Example:
   sii_station run line.toml script.toml",
-    [LINE, SCRIPT, COMMANDS, FUSE, LEFT, REPORT, JSON, QUIET]);
+    [LINE, SCRIPT, COMMANDS,
+     argument!("fuse": Large("K") => "Cuts the power once K writes have passed, 0 to 4294967295"),
+     argument!("left": Small("W") => "What a torn write leaves, 0 to 65535; 0 where nothing is said"),
+     REPORT, JSON, QUIET]);
 
 pub(crate) const RECOVER: Subcommand =
     subcommand!("recover": "Ends what a run has left in the journal",

@@ -14,23 +14,18 @@ sii_station \\- reprograms the SII EEPROMs of a line of EtherCAT slaves
 
 const SHELLS: &[&str] = &["bash", "zsh", "fish"];
 
-const WHICH_SHELL: Argument = argument!("SHELL": WordOf(SHELLS) => "The shell: bash, zsh or fish");
-
-const EXPLAINED: Argument =
-    argument!("CODE": OptionalWord => "The number or the name of a fault or a refusal");
-
 pub(crate) const EXPLAIN: Subcommand =
     subcommand!("explain": "Says what the code of a fault or a refusal means",
     long: "Prints what the code of a fault or a refusal means, why it comes and what to do about it. Without CODE it prints \
         that of all codes.",
     after: "Example:\n  sii_station explain 15\n  sii_station explain BadCheck",
-    [EXPLAINED]);
+    [argument!("CODE": OptionalWord => "The number or the name of a fault or a refusal")]);
 
 pub(crate) const COMPLETE: Subcommand =
     subcommand!("completions": "Prints a script that makes a shell complete arguments",
     long: "Prints a script for bash, zsh or fish. With it the shell completes subcommands, options and file names.",
     after: "Example:\n  source <(sii_station completions bash)",
-    [WHICH_SHELL]);
+    [argument!("SHELL": WordOf(SHELLS) => "The shell: bash, zsh or fish")]);
 
 pub(crate) const MAN: Subcommand = subcommand!("man": "Prints the manual page",
     long: "Prints the manual page in roff: the help of each subcommand.",

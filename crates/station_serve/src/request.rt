@@ -1,12 +1,12 @@
 //! What a command line asks for.
 
-use crate::arguments::{VERBOSE, compared_in, form_of, lines_form, script_of, shown_in};
+use crate::arguments::{VERBOSE, compared_in, form_of, script_of, shown_in};
 use crate::images::{ALIAS, DIFF, SHOW, VERIFY, WRITE, file_of, two_files};
 use crate::line_work::{INIT, JOURNAL, LAYOUT, LineTask, PLAN, RECOVER, RUN, line_task};
 use crate::pages::{COMPLETE, EXPLAIN, MAN, code_asked};
 use command_line::{
-    Argument, ParsedArguments, Program, Shell, Subcommand, Unread, read_typed, read_words, refuse,
-    small_in,
+    Argument, ParsedArguments, Program, Script, Shell, Subcommand, Unread, read_typed, read_words,
+    refuse, small_in,
 };
 use line_changes::Compared;
 use station_listing::Code;
@@ -18,27 +18,16 @@ use std::alloc::Global;
 /// line file.
 #[derive(Clone, Copy)]
 pub(crate) enum Task<'a> {
-    Alias {
-        value: u16,
-        hex: bool,
-        file: Option<&'a str>,
-    },
-    AliasInPlace {
-        value: u16,
-        hex: bool,
-        name: &'a str,
-    },
+    /// Sets this alias in an image, which is hexadecimal text or not, and prints it.
+    Alias(u16, bool, Option<&'a str>),
+    /// Does the same, and puts the new image in the place of the file.
+    AliasInPlace(u16, bool, &'a str),
     Show(ShowOptions<'a>),
     Diff(Compared<'a>),
-    Write {
-        name: &'a str,
-        file: Option<&'a str>,
-        any_device: bool,
-    },
-    Verify {
-        found: Option<&'a str>,
-        wanted: Option<&'a str>,
-    },
+    /// Writes to the words of the first file the image of the second one, of any device or not.
+    Write(&'a str, Option<&'a str>, bool),
+    /// Looks whether the first file has the words of the second one.
+    Verify(Option<&'a str>, Option<&'a str>),
     Init(&'a str),
     Work(LineTask<'a>),
     Layout(&'a str, Form),
@@ -67,15 +56,10 @@ impl<'a> Task<'a> {
 /// A command line that was read.
 #[derive(Drop)]
 pub(crate) struct Request<'a> {
+    pub given: ParsedArguments<'a>,
     pub task: Task<'a>,
-    /// How lines are printed: as text, or as rows of JSON.
-    pub form: Form,
-    /// Whether a fault or a refusal has a second line.
-    pub is_reported: bool,
-    /// The text of the script `TYPED`, where commands are typed in place of a script file.
-    pub typed: Option<Vec<u8>>,
-    /// Whether no line is to be drawn with the progress.
-    pub is_quiet: bool,
+    /// The script of typed commands, where these stand in place of a script file.
+    pub script: Option<Script>,
 }
 
 /// The subcommands, in the order of the help.
@@ -111,13 +95,14 @@ pub(crate) fn read_arguments<'a>(
     let program = station(&subcommands);
     let given = read_words(alloc, program, words)?;
     match task_of(&given) {
-        Ok(task) => Ok(Request {
-            task,
-            form: lines_form(&given),
-            is_reported: given.has("verbose"),
-            typed: read_typed(alloc, program, &given)?,
-            is_quiet: given.has("quiet"),
-        }),
+        Ok(task) => {
+            let script = read_typed(alloc, program, &given)?;
+            Ok(Request {
+                given,
+                task,
+                script,
+            })
+        }
         Err(text) => Err(refuse(alloc, program, given.subcommand, text)),
     }
 }
@@ -132,21 +117,20 @@ fn task_of<'a>(given: &ParsedArguments<'a>) -> Result<Task<'a>, &'static str> {
             let value = small_in(given.word("VALUE")).ok_or("VALUE is a number, 0 to 65535")?;
             let hex = given.has("hex");
             match (file_of(given, "FILE"), given.has("inplace")) {
-                (Some(name), true) => Task::AliasInPlace { value, hex, name },
+                (Some(name), true) => Task::AliasInPlace(value, hex, name),
                 // Only a file has a place in which the new image can be put.
                 (None, true) => return Err("--inplace wants FILE"),
-                (file, false) => Task::Alias { value, hex, file },
+                (file, false) => Task::Alias(value, hex, file),
             }
         }
-        "write" => Task::Write {
-            name: given.word("IMAGE"),
-            file: file_of(given, "FILE"),
-            any_device: given.has("any-device"),
-        },
+        "write" => {
+            let file = file_of(given, "FILE");
+            Task::Write(given.word("IMAGE"), file, given.has("any-device"))
+        }
         "verify" => {
             let refusal = "only one of IMAGE and FILE can be standard input";
             let (found, wanted) = two_files(given, "IMAGE", "FILE", refusal)?;
-            Task::Verify { found, wanted }
+            Task::Verify(found, wanted)
         }
         "diff" => {
             let refusal = "only one of A and B can be standard input";

@@ -1,16 +1,19 @@
 //! The program as a function of its arguments and streams.
 
+use crate::arguments::lines_form;
+use crate::ending::{print_failures, status_of_plan, tell_refused};
 use crate::images::{alias_in_place, keep_images_separate, verify_image};
 use crate::line_work::work_on_line;
 use crate::pages::{MANUAL_HEAD, explanation, print_page};
-use crate::refusals::{status_of_plan, tell_refused};
 use crate::request::{Request, Task, read_arguments, rows, station};
-use command_line::{INPUT, InputScript, Script, Unread, completion_script, manual_page};
+use command_line::{
+    INPUT, InputScript, Script, Unread, completion_script, manual_page, report_unread,
+};
 use line_changes::{Compared, diff_images};
 use line_watch::{Progress, Watch};
 use station_files::{
-    ExitStatus, Failure, Failures, Fault, Store, report_fault, set_alias, write_complete,
-    write_slave,
+    ExitStatus, Failure, Failures, Fault, Store, read_to_end, report_fault, set_alias,
+    write_complete, write_slave,
 };
 use station_line::init_line;
 use station_plan::{plan_script, show_journal};
@@ -49,11 +52,10 @@ pub fn serve<H: Host, R: Read, S: Store, W: Write, E: Write, T: Write + Send + D
     streams: Streams<'_, W, E>,
     terminal: Option<T>,
 ) -> u8 {
-    let status = match read_arguments(rt.alloc(), args) {
-        Ok(request) => serve_request(rt, request, input, store, streams, terminal),
-        Err(unread) => show_usage(&unread, streams),
-    };
-    status as u8
+    match read_arguments(rt.alloc(), args) {
+        Ok(request) => serve_request(rt, request, input, store, streams, terminal) as u8,
+        Err(unread) => show_usage(rt.alloc(), &unread, streams) as u8,
+    }
 }
 
 /// Carries out a command line that was read. A script that is typed or comes from standard input is handed on as a file.
@@ -66,16 +68,19 @@ fn serve_request<H: Host, R: Read, S: Store, W: Write, E: Write, T: Write + Send
     terminal: Option<T>,
 ) -> ExitStatus {
     let mut request = request;
-    request.is_reported = request.is_reported || terminal.is_some();
-    let begun = Progress::begin(rt, if request.is_quiet { None } else { terminal });
-    let watch = watch_of(rt, begun.as_ref());
-    let script = match (request.typed.take(), request.task.run_files()) {
-        (Some(text), _) => Some(Script::typed(text)),
-        (None, Some(files)) if files.script == INPUT => Some(Script::read(rt.alloc(), input)),
-        _ => None,
+    let is_reported = request.given.has("verbose") || terminal.is_some();
+    let is_quiet = request.given.has("quiet");
+    let progress = Progress::begin(rt, if is_quiet { None } else { terminal });
+    let watch = watch_of(rt, progress.as_ref());
+    let script = match (request.script.take(), request.task.run_files()) {
+        (None, Some(files)) if files.script == INPUT => {
+            let (name, text) = (INPUT, read_to_end(rt.alloc(), input));
+            Some(Script { name, text })
+        }
+        (script, _) => script,
     };
     let mut joined = InputScript::new(store, script);
-    serve_and_tell(watch, &request, input, &mut joined, streams)
+    serve_and_tell(watch, &request, is_reported, input, &mut joined, streams)
 }
 
 /// The runtime, and the progress that counts what a task does.
@@ -83,26 +88,26 @@ pub(crate) fn watch_of<'a, T, H>(rt: &'a H, progress: Option<&'a Progress<T>>) -
     Watch { rt, progress }
 }
 
-/// Carries out a task, and then prints what has gone wrong. Where that has a second line, it says what the first was about, and one for each command
+/// Carries out a task, and then prints what has gone wrong. If `is_reported`, a second line says what the first was about, and one for each command
 /// that was refused says what to do. Rows of JSON say too what has gone wrong.
 fn serve_and_tell<H: Host, R: Read, S: Store, W: Write, E: Write, T: Write + Send>(
     watch: Watch<'_, T, H>,
     request: &Request<'_>,
+    is_reported: bool,
     input: &mut R,
     store: &mut S,
     streams: Streams<'_, W, E>,
 ) -> ExitStatus {
-    let (task, is_reported) = (request.task, request.is_reported);
     let alloc = watch.rt.alloc();
+    let (task, form) = (request.task, lines_form(&request.given));
     let Streams { output, faults } = streams;
     let remembers = is_reported && matches!(task, Task::Work(_));
-    let mut lines = LineRows::new(alloc, request.form, remembers, output);
+    let mut lines = LineRows::new(alloc, form, remembers, output);
     let mut noting = Noting::new(alloc, store, is_reported);
     let mut failures = Failures::none();
     let mut planned = Vec::new(alloc);
     let status = match task {
         Task::Work(asked) => {
-            let form = request.form;
             work_on_line(watch, asked, form, &mut noting, &mut lines, &mut failures)
         }
         _ => match do_task(alloc, task, input, &mut noting, &mut lines, &mut planned) {
@@ -110,11 +115,7 @@ fn serve_and_tell<H: Host, R: Read, S: Store, W: Write, E: Write, T: Write + Sen
             Err(failure) => failures.note_failure(failure),
         },
     };
-    failures.print(faults);
-    if lines.is_json() {
-        failures.print(&mut lines);
-        let _ = lines.flush();
-    }
+    print_failures(&failures, &mut lines, faults);
     if !is_reported {
         return status;
     }
@@ -133,11 +134,11 @@ fn serve_and_tell<H: Host, R: Read, S: Store, W: Write, E: Write, T: Write + Sen
 /// What is reported of the streams of a task, where one of them fails.
 fn streams_of(task: Task<'_>) -> &'static str {
     match task {
-        Task::Alias { file: None, .. }
+        Task::Alias(_, _, None)
         | Task::Show(ShowOptions { file: None, .. })
-        | Task::Write { file: None, .. }
-        | Task::Verify { found: None, .. }
-        | Task::Verify { wanted: None, .. }
+        | Task::Write(_, None, _)
+        | Task::Verify(None, _)
+        | Task::Verify(_, None)
         | Task::Diff(Compared { old: None, .. } | Compared { new: None, .. }) => INPUT_OR_OUTPUT,
         _ => OUTPUT,
     }
@@ -155,18 +156,14 @@ fn do_task<R: Read, S: Store, W: Write>(
     keep_images_separate(alloc, task, store)?;
     match task {
         Task::Work(_) => {}
-        Task::Alias { value, hex, file } => {
-            set_alias(alloc, value, hex, file, input, store, output)?
-        }
-        Task::AliasInPlace { value, hex, name } => {
+        Task::Alias(value, hex, file) => set_alias(alloc, value, hex, file, input, store, output)?,
+        Task::AliasInPlace(value, hex, name) => {
             alias_in_place(alloc, value, hex, name, input, store)?
         }
-        Task::Write {
-            name,
-            file,
-            any_device,
-        } => { write_slave(alloc, name, file, any_device, input, store)? }
-        Task::Verify { found, wanted } => {
+        Task::Write(name, file, any_device) => {
+            write_slave(alloc, name, file, any_device, input, store)?
+        }
+        Task::Verify(found, wanted) => {
             return Ok(verify_image(alloc, found, wanted, input, store, output)?);
         }
         Task::Show(shown) => return Ok(show_image(alloc, shown, input, store, output)?),
@@ -188,13 +185,21 @@ fn do_task<R: Read, S: Store, W: Write>(
 }
 
 /// Prints the help or the version that was asked for, or what is wrong with the arguments.
-fn show_usage<W: Write, E: Write>(unread: &Unread, streams: Streams<'_, W, E>) -> ExitStatus {
+fn show_usage<W: Write, E: Write>(
+    alloc: Global,
+    unread: &Unread,
+    streams: Streams<'_, W, E>,
+) -> ExitStatus {
     let Streams { output, faults } = streams;
-    let Unread::Asked(text) = unread else {
-        return unread.report(faults);
+    if unread.use_stderr() {
+        return report_unread(alloc, unread, faults);
+    }
+    let printed = match format!(in alloc; "{unread}") {
+        Ok(text) => write_complete(text.as_bytes(), output).map_err(|_| Fault::File),
+        Err(_) => Err(Fault::Memory),
     };
-    match write_complete(text.as_bytes(), output) {
+    match printed {
         Ok(()) => ExitStatus::Done,
-        Err(_) => report_fault(Fault::File, faults),
+        Err(fault) => report_fault(fault, faults),
     }
 }

@@ -1,19 +1,11 @@
 -- What the files of a line hold after a run or a recovery.
-use Rattle.std.proofs.Common.{◌≡◌, ℕ, Bool, true, false, List, [], refl, sym, ◌∙◌, subst, inl, inr, Result, Ok, Err}
-use Rattle.std.specs.Prelude.{◌⊎◌, IfOk, IfSome, IsErr, IsOkAnd, IsTrue, OnErr, OnOk, Option, Some, None, is_some, unwrap_or}
+use Rattle.std.proofs.Common.{◌≡◌, ℕ, Bool, true, false, List, refl, sym, ◌∙◌, subst, inl, inr, Result, Ok, Err}
+use Rattle.std.specs.Prelude.{◌⊎◌, IfOk, IsErr, IsOkAnd, IsSomeAnd, OnErr, OnOk}
 use Rattle.std.proofs.lemmas.Result.{IfOk-weaker}
 use Rattle.sii_edit.specs.declared.command.Command.{Command}
 use Rattle.site_core.specs.State.{State, Seen}
-use Rattle.site_core.specs.Times.{Follows}
 use Rattle.site_shadow.specs.Site.{SiteValue}
-use Rattle.site_file.specs.declared.asking.Asked.{Asked}
-use Rattle.kept_files.specs.KeptFiles.{FilesOf, BecomeOnly, HasContents, KeepsFiles}
-use Rattle.kept_files.proofs.OnFiles.{cut_leaves_kept, keeps_unasked, recovery_leaves_contents}
-use Rattle.site_shadow.specs.Following.{first_of}
-use Rattle.kept_files.proofs.Extending.{first_stays}
-use Rattle.station_alone.specs.Keeping.{KeepsThroughout}
 use Rattle.station_alone.specs.Station.{Station}
-use Rattle.station_alone.specs.Recovery.{HasRecovered, BeginsRecovered}
 use Rattle.station_text.specs.declared.line_file.LineFile.{LineFile}
 use Rattle.station_files.specs.Faults.{IsFaultless}
 use Rattle.station_files.specs.Files.{Known, ChangesAmong}
@@ -32,11 +24,15 @@ use Rattle.station_line.specs.declared.answered.Answered.TheVariants.{AllAccepte
 use Rattle.station_line.specs.Answers.{AnswersGive, exit_status}
 use Rattle.station_line.proofs.Answering.{all_accepted}
 use Rattle.station_line.specs.Opened.{is_old, Loads, StartsFrom}
-use Rattle.station_session.specs.Session.{EndsRecovery, EndsRun, RecoversFiles, RunsFiles}
-use Rattle.station_session.specs.Session.{SavesRecovered}
+use Rattle.station_session.specs.RunFiles.{IsAllReported, RecoveryKeepsFiles}
+use Rattle.station_session.specs.declared.run.Ran.{Ran}
+use Rattle.station_session.specs.Session.{EndsRecovery, EndsRun, HaveContents, RecoversFiles, RunsFiles}
+use Rattle.script_session.specs.After.{SavesRecovered}
 use Rattle.script_session.specs.Saving.{SavesRun, SavesServed}
+use Rattle.site_file.specs.declared.asking.FileLog.{FileLog}
+use Rattle.script_session.specs.declared.logs.RunLog.{RunLog}
 use Rattle.script_session.specs.declared.running.LineRun.{LineRun}
-use Rattle.script_session.specs.Running.{HasEnded, SavesSite}
+use Rattle.script_session.specs.Running.{HasEnded, IsNoneReported, SavesSite, whole_of}
 
 -- ---- a station that was opened
 
@@ -145,16 +141,13 @@ has_ended run answers one other both final by_answers no_fault no_other is both_
     }
 
 -- a failure is told
-pub told : {A : Type 0} (ended : Result A Fault) (answers one other both status final : ExitStatus) → OnErr ended (¬ IsFaultless other)
-    → (IsFaultless both → IsFaultless one × IsFaultless other) → (IsFaultless status → IsFaultless answers × IsFaultless both)
-    → (final ≡ status) ⊎ (¬ IsFaultless final) → IsErr ended → ¬ IsFaultless final
-told (Ok value) answers one other both status final bad both_good good last is = absurd cc
-told (Err fault) answers one other both status final bad both_good good (inl same) is =
-    λ well. bad (both_good (good (subst IsFaultless same well)).1).1
-told (Err fault) answers one other both status final bad both_good good (inr never) is = never
+pub told : {A : Type 0} (ended : Result A Fault) (other final : ExitStatus) → OnErr ended (¬ IsFaultless other) → (IsFaultless final → IsFaultless other)
+    → IsErr ended → ¬ IsFaultless final
+told (Ok value) other final bad good is = absurd cc
+told (Err fault) other final bad good is = λ well. bad (good well)
 
 -- a fault that is told after it ends the run as a fault, or the status stays
-pub ends_run : {T : Type 0} (Way : Seen → Type 0) (run : LineRun T) (old new : Known) (line : LineFile) (site : SiteValue) (commands : List Command)
+pub ends_run : {T : Type 0} (Way : Station → Type 0) (run : LineRun T) (old new : Known) (line : LineFile) (site : SiteValue) (commands : List Command)
     (status final : ExitStatus) → ChangesAmong old new (files_of line) → ((answered : Answered) → HasEnded run answered → SavesSite Way new line site commands answered)
     → (IsFaultless status → HasEnded run (answers_of status)) → (final ≡ status) ⊎ (¬ IsFaultless final) → EndsRun false old new line site commands final
 ends_run Way run old new line site commands status final others saves ended (inl same) =
@@ -172,14 +165,6 @@ ends-run-opened old mid new line site on_files commands status opened same ends 
   saved = λ good. subst (λ (s : SiteValue). AnswersGive (SavesRun false new line s commands) status) same (ends.saved good);
 }
 
-pub ends-recovery-opened : (old mid new : Known) (line : LineFile) (site on_files : SiteValue) (status : ExitStatus) (asked : Option (List Asked)) → ChangesAmong old mid (files_of line) → on_files ≡ site
-    → EndsRecovery mid new line on_files.seen status asked → EndsRecovery old new line site.seen status asked
-ends-recovery-opened old mid new line site on_files status asked opened same ends = record {
-  others = λ other out. ends.others other out ∙ opened other out;
-  keeps = subst (λ (s : SiteValue). KeepsFiles s.seen.state (unwrap_or asked [])) same ends.keeps;
-  saved = λ done. let saved = ends.saved done in (saved.0, subst (λ (s : SiteValue). SavesRecovered new line s.seen (unwrap_or asked [])) same saved.1);
-}
-
 -- the other way of running isn't taken
 pub run-cut : (is_cut way : Bool) (old new : Known) (line : LineFile) (site : SiteValue) (commands : List Command) (status : ExitStatus) → is_cut ≡ way → EndsRun way old new line site commands status → EndsRun is_cut old new line site commands status
 run-cut is_cut way old new line site commands status is ends = subst (λ (b : Bool). EndsRun b old new line site commands status) (sym is) ends
@@ -189,52 +174,41 @@ run-cut is_cut way old new line site commands status is ends = subst (λ (b : Bo
 pub ends-unopened : (is_cut : Bool) (old new : Known) (line : LineFile) (site : SiteValue) (commands : List Command) (status : ExitStatus) → ChangesAmong old new (files_of line) → ¬ IsFaultless status → EndsRun is_cut old new line site commands status
 ends-unopened is_cut old new line site commands status others bad = record { others = others; saved = λ good. absurd (bad good) }
 
-pub ends-unrecovered : (old new : Known) (line : LineFile) (before : Seen) (asked : Option (List Asked)) (status : ExitStatus) → KeepsFiles before.state (unwrap_or asked []) → ChangesAmong old new (files_of line) → ¬ IsFaultless status
-    → EndsRecovery old new line before status asked
-ends-unrecovered old new line before asked status keeps others bad =
-    record { others = others; keeps = keeps; saved = λ done. absurd (bad (done-faultless status done)) }
-
 -- ---- a station that was recovered
 
--- what holds where the line was saved
-on-saved : (P : Type 0) (saved : Result (Unit {0}) Fault) (one : ExitStatus) → OnOk saved P → OnErr saved (¬ IsFaultless one) → IsFaultless one → P
+-- the files of the line couldn't be opened
+pub ends-unrecovered : (F : Type 0) (old new : Known) (line : LineFile) (before : Seen) (ran : Ran) → ran.is_begun ≡ false → IsNoneReported ran.reported
+    → ChangesAmong old new (files_of line) → ¬ IsFaultless ran.status → EndsRecovery F old new line before ran
+ends-unrecovered F old new line before ran never none others bad = record {
+  others = others;
+  kept = λ begun. absurd cc;
+  unbegun = λ is. none;
+  saved = λ done. absurd (bad (done-faultless ran.status done));
+}
+
+-- they could, with no other file changed
+pub ends-recovery-opened : (F : Type 0) (old mid new : Known) (line : LineFile) (before : Seen) (ran : Ran) → ChangesAmong old mid (files_of line)
+    → EndsRecovery F mid new line before ran → EndsRecovery F old new line before ran
+ends-recovery-opened F old mid new line before ran opened ends =
+    record { others = λ other out. ends.others other out ∙ opened other out; kept = ends.kept; unbegun = ends.unbegun; saved = ends.saved }
+
+-- what holds where there is no fault
+on-saved : {A : Type 0} (P : Type 0) (saved : Result A Fault) (one : ExitStatus) → OnOk saved P → OnErr saved (¬ IsFaultless one) → IsFaultless one → P
 on-saved P (Ok kept) one holds bad good = holds
 on-saved P (Err fault) one holds bad good = absurd (bad good)
 
--- what the files keep through the calls of a station
-pub keeps-files : (before now : Seen) (is_sound : Bool) (asked : Option (List Asked)) → IfSome asked (λ calls. FilesOf calls now is_sound) → before.past ≡ [] → Follows before now → KeepsThroughout before now
-    → KeepsFiles before.state (unwrap_or asked [])
-keeps-files before now is_sound (Some calls) files new follows keeps = cut_leaves_kept before now is_sound calls files new (first_stays before now new follows) keeps
-keeps-files before now is_sound None files new follows keeps = keeps_unasked before.state
-
--- the contents in them after a complete recovery
-recovered-contents : (s : Station) (asked : Option (List Asked)) → IfSome asked (λ calls. FilesOf calls s.seen true) → HasRecovered s → IsTrue (is_some asked)
-    → BecomeOnly (HasContents s.book) (first_of s.seen) (unwrap_or asked [])
-recovered-contents s (Some calls) files recovered some = recovery_leaves_contents s true calls files recovered refl
-recovered-contents s None files recovered some = absurd cc
-
-pub ends-recovered : (old new : Known) (line : LineFile) (before : Seen) (s : Station) (left : Seen) (asked : Option (List Asked)) (saved ended : Result (Unit {0}) Fault) (one other final : ExitStatus) → HasRecovered s → BeginsRecovered before s → left ≡ s.seen
-    → before.past ≡ [] → Follows before s.seen → KeepsThroughout before s.seen → IfSome asked (λ calls. FilesOf calls left false) → OnOk saved (IfSome asked (λ calls. FilesOf calls left true))
-    → OnOk ended ((saved ≡ Ok tt) × IsTrue (is_some asked)) → OnOk saved (HoldsSite new line left.state) → ChangesAmong old new (files_of line)
-    → OnErr ended (¬ IsFaultless one) → (final ≡ Done → (one ≡ Done) × (other ≡ Done)) → EndsRecovery old new line before final asked
-ends-recovered old new line before s left asked saved ended one other final is_recovered begins is none follows keeps files sound told held others bad done_too =
-    let at : (x : Bool) → Seen → Type 0 = λ x seen. IfSome asked (λ (calls : List Asked). FilesOf calls seen x) in
-    record {
-      others = others;
-      keeps = keeps-files before s.seen false asked (subst (at false) is files) none follows keeps;
-      saved = λ done.
-          let known = on-saved ((saved ≡ Ok tt) × IsTrue (is_some asked)) ended one told bad (done-faultless one (done_too done).0) in (
-            known.1,
-            record {
-              s = s;
-              recovered = is_recovered;
-              begins = begins;
-              held = subst (λ (x : Seen). HoldsSite new line x.state) is (subst (λ (r : Result (Unit {0}) Fault). OnOk r (HoldsSite new line left.state)) known.0 held);
-              contents = subst (λ (x : State). BecomeOnly (HasContents s.book) x (unwrap_or asked [])) (first_stays before s.seen none follows)
-                  (recovered-contents s asked (subst (at true) is (subst (λ (r : Result (Unit {0}) Fault). OnOk r (at true left)) known.0 sound)) is_recovered known.1);
-            },
-          );
-    }
+-- `Saved` is said of what was saved, and the end has this status
+pub ends-recovered : (F : Type 0) (Saved : Type 0) (old new : Known) (line : LineFile) (before : Seen) (ended : Result Answered Fault) (other final : ExitStatus)
+    (reported : RunLog FileLog) → ChangesAmong old new (files_of line) → RecoveryKeepsFiles F before final reported → OnOk ended Saved
+    → (IsAllReported reported → Saved → SavesRecovered (λ s. IsSomeAnd (whole_of reported.desk reported.after) (HaveContents before.state s.book)) new line before)
+    → OnErr ended (¬ IsFaultless other) → (IsFaultless final → IsFaultless other × IsAllReported reported)
+    → EndsRecovery F old new line before (record { is_begun = true; status = final; reported = reported })
+ends-recovered F Saved old new line before ended other final reported others keeps saves says bad good = record {
+  others = others;
+  kept = λ begun. keeps;
+  unbegun = λ never. absurd cc;
+  saved = λ done. let well = good (done-faultless final done) in (well.1, says well.1 (on-saved Saved ended other saves bad well.0));
+}
 
 -- ---- the whole
 
@@ -244,8 +218,8 @@ runs leads is_cut old loaded new name script line site commands status given sep
     let P : Known → Type 0 = λ files. EndsRun is_cut files new line site commands status in
     record { line = line; site = site; loaded = given; separate = separate; journal = journal; commands = commands; spelt = spelt; ends = subst P same ends }
 
-pub recovers : (leads : Leads) (old loaded new : Known) (name : List ℕ) (line : LineFile) (site : SiteValue) (status : ExitStatus) (asked : Option (List Asked)) → Loads old name line site → IsLineSeparate leads line name → HasJournal site.line.sizes site.seen.state.disk.bytes → loaded ≡ old
-    → EndsRecovery loaded new line site.seen status asked → RecoversFiles leads old new name status asked
-recovers leads old loaded new name line site status asked given separate journal same ends =
-    let P : Known → Type 0 = λ files. EndsRecovery files new line site.seen status asked in
+pub recovers : (F : Type 0) (leads : Leads) (old loaded new : Known) (name : List ℕ) (line : LineFile) (site : SiteValue) (ran : Ran) → Loads old name line site → IsLineSeparate leads line name
+    → HasJournal site.line.sizes site.seen.state.disk.bytes → loaded ≡ old → EndsRecovery F loaded new line site.seen ran → RecoversFiles F leads old new name ran
+recovers F leads old loaded new name line site ran given separate journal same ends =
+    let P : Known → Type 0 = λ files. EndsRecovery F files new line site.seen ran in
     record { line = line; site = site; loaded = given; separate = separate; journal = journal; ends = subst P same ends }

@@ -1,5 +1,5 @@
 pub mod Ending
 mod Noting
-mod OnFiles
 pub mod RunFiles
+mod Recovered
 pub mod Telling

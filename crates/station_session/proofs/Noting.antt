@@ -17,12 +17,6 @@ use Rattle.station_session.specs.Noting.{Notes, noted, further, NotesWhy}
 pub one_noted : (old new : Failures) (failure : Failure) → met_by new ≡ with_failure (met_by old) failure → Notes (met_by old) (met_by new)
 one_noted old new failure is = subst (λ (met : List Failure). Notes (met_by old) met) (sym is) (noted (met_by old) failure)
 
--- the fault of a result was noted
-pub end_noted : (ended : Result (Unit {0}) Fault) (status : ExitStatus) (old new : Failures) → OnOk ended (status ≡ Done) → OnErr ended (¬ IsFaultless status)
-    → IfErr ended (λ fault. met_by new ≡ with_failure (met_by old) (failures.Fault fault)) → OnOk ended (new ≡ old) → NotesWhy (status ≡ Done) status old new
-end_noted (Ok done) status old new well bad is same = inl (well, same)
-end_noted (Err fault) status old new well bad is same = inr (bad, one_noted old new (failures.Fault fault) is)
-
 -- one was noted, and then the fault of a result, if there is one
 pub noted_also : (ended : Result (Unit {0}) Fault) (old mid new : Failures) → Notes (met_by old) (met_by mid)
     → IfErr ended (λ fault. met_by new ≡ with_failure (met_by mid) (failures.Fault fault)) → OnOk ended (new ≡ mid) → Notes (met_by old) (met_by new)
@@ -70,16 +64,18 @@ done_noted one other both old mid new first second which good =
     done_both (inl is) first second = is ∙ first
     done_both (inr is) first second = is ∙ second
 
--- the same status, or that of a fault that was noted after it
-pub then_noted : (status final : ExitStatus) (old mid new : Failures) → NotesWhy (IsOfAnswers status) status old mid → NotesWhy (final ≡ status) final mid new
-    → NotesWhy (IsOfAnswers final) final old new
-then_noted status final old mid new first (inl second) =
-    both_noted (IsOfAnswers status) (final ≡ status) (IsOfAnswers final) status final final old mid new first (inl second) (λ answers same. (answers.0, same ∙ answers.1))
-    (λ well. (subst IsFaultless second.0 well, well))
-then_noted status final old mid new (inl first) (inr second) = inr (second.0, subst (λ (at : Failures). Notes (met_by at) (met_by new)) first.1 second.1)
-then_noted status final old mid new (inr first) (inr second) = inr (second.0, further (met_by old) (met_by mid) (met_by new) first.1 second.1)
-
 -- the status stays, or a fault is told
 pub stays : (status final : ExitStatus) (old new : Failures) → NotesWhy (final ≡ status) final old new → (final ≡ status) ⊎ (¬ IsFaultless final)
 stays status final old new (inl same) = inl same.0
 stays status final old new (inr why) = inr why.0
+
+pub stays_good : (status final : ExitStatus) → (final ≡ status) ⊎ (¬ IsFaultless final) → IsFaultless final → IsFaultless status
+stays_good status final (inl same) good = subst IsFaultless same good
+stays_good status final (inr never) good = absurd (never good)
+
+-- the same status, or that of a fault that was noted after it
+pub then_noted : (Well : ExitStatus → Type 0) (status final : ExitStatus) (old mid new : Failures) → NotesWhy (Well status) status old mid → NotesWhy (final ≡ status) final mid new
+    → NotesWhy (Well final) final old new
+then_noted Well status final old mid new first second =
+    both_noted (Well status) (final ≡ status) (Well final) status final final old mid new first second (λ well same. subst Well (sym same) well)
+    (λ good. (stays_good status final (stays status final mid new second) good, good))

@@ -1,10 +1,9 @@
 -- What a power cut leaves in the files of a run.
-use Rattle.std.proofs.Common.{◌≡◌, ◌∙◌, ℕ, ◌+◌, zero, suc, eq-eqb, Bool, true, false, List, [], ◌∷◌, Some, slice_get, IsTrue}
+use Rattle.std.proofs.Common.{◌≡◌, ◌∙◌, ℕ, ◌+◌, eq-eqb, Bool, true, false, List, [], Some, slice_get, IsTrue}
 use Rattle.std.proofs.Common.{Result, Ok, Err, refl}
 use Rattle.std.proofs.Common.{sym, ap, subst, arith}
 use Rattle.std.proofs.lemmas.List.{append_cancel_left}
 use Rattle.std.specs.Prelude.{IfSome, IsSomeAnd, None, OnOk, Option}
-use Rattle.std.specs.List.{AllByRecursion}
 use Rattle.sii_edit.specs.declared.command.Command.{Command}
 use Rattle.esc_model.specs.SlaveHalf.{SlaveHalf}
 use Rattle.site_core.specs.Disk.{Disk}
@@ -16,20 +15,20 @@ use Rattle.site_file.specs.declared.asking.LineFile.TheVariants.{Journal as Jour
 use Rattle.site_file.specs.declared.files.FileDevice.{FileDevice}
 use Rattle.site_file.specs.declared.asking.Asked.{Asked}
 use Rattle.site_file.specs.declared.asking.FileLog.{FileLog}
-use Rattle.site_file.specs.Asking.{HasLog, TellsLog}
+use Rattle.site_file.specs.Asking.{HasLog, TellsFiles, TellsLog}
 use Rattle.site_file.specs.Following as files
 use Rattle.site_file.specs.Held.{is_same}
 use Rattle.site_file.specs.Files.{File, image_of}
 use Rattle.site_file.specs.AllFiles.{Holds, HoldsDisk, HoldsWords, Shows}
-use Rattle.book_model.specs.Book.{Book}
+use Rattle.book_model.specs.Book.{Book, base_of}
 use Rattle.book_model.specs.Machine.{Machine}
 use Rattle.desk_book.specs.declared.call.Call.{Call}
 use Rattle.desk_book.specs.Calls.{AreAnswered, replayed}
 use Rattle.station_alone.specs.Station.{Station}
 use Rattle.station_jobs.specs.declared.log.SlaveLog.{SlaveLog}
 use Rattle.station_jobs.specs.Ends.{Stay}
-use Rattle.station_jobs.specs.Flushing.{IsFlushed}
 use Rattle.kept_files.specs.KeptFiles.{has_file}
+use Rattle.world_law.specs.Law.{blank}
 use Rattle.kept_files.specs.Cuts.{IsKeptPair}
 use Rattle.kept_files.specs.DeskFiles.{DeskOnFiles, PartOnFiles}
 use Rattle.kept_files.proofs.OnFiles.{device_kept, device_served, site_keeps_on, site_keeps_serving}
@@ -42,79 +41,96 @@ use Rattle.station_files.specs.ScriptFiles.{SpellsCommands}
 use Rattle.station_files.specs.declared.faults.ExitStatus.{ExitStatus}
 use Rattle.station_files.specs.declared.faults.Fault.{Fault}
 use Rattle.script_session.specs.declared.closing.Ending.{Ending}
-use Rattle.script_session.specs.AtDesk.{DeskServes, EndsFollowed, PartsEnd, ServesParts, seen_of}
+use Rattle.station_threads.specs.declared.closing.Ends.{Ends}
+use Rattle.script_session.specs.AtDesk.{PartsEnd, ServesParts, seen_of}
 use Rattle.script_session.specs.declared.logs.DeskLog.{DeskLog}
 use Rattle.script_session.specs.declared.logs.PartLog.{PartLog}
-use Rattle.script_session.specs.Parts.{AreFollowed, AreSound, AreReportedOf, BeginsWith, EndsWith, IsDeskReported, IsTogether, IsWorkFollowed, Soundly}
-use Rattle.script_session.specs.Parts.{Telling}
+use Rattle.script_session.specs.Parts.{AreSound, BeginsWith, EndsWith, IsDeskReported, IsSynced, IsTogether, IsWorkFollowed, Telling}
 use Rattle.script_session.proofs.LeftLaws.{first, opened-on, placed-back}
 use Rattle.script_session.proofs.SlaveLaws.{placed-at}
 use Rattle.script_session.specs.After.{GoesFollowed}
 use Rattle.script_session.specs.declared.logs.RunLog.{RunLog}
-use Rattle.script_session.specs.Running.{DeskGoes, DeskTells, GoesAlone, GoesAfter, OfDevices, RunGoes, ServesOn, TellsOf, line_reported}
-use Rattle.script_session.specs.Running.{unbegun, idle, separate, served, unopened, opened, unrecovered, recovered}
-use Rattle.station_session.specs.RunFiles.{BeginsPart, HoldTogether, IsLeftBy, KeepsAtDesk, KeepsParts}
-use Rattle.station_session.specs.RunFiles.{OfFiles, KeepsRunFiles, RunKeepsFiles}
+use Rattle.script_session.specs.Recovering.{BeginsSessions}
+use Rattle.script_session.specs.Running.{DeskTells, OfDevices, OfRecovery, RunGoes, ServesOn, TellsOf, line_reported}
+use Rattle.script_session.proofs.RecoveryLaws.{kept-each}
+use Rattle.script_session.proofs.ReportedLaws.{at-place, reported-work}
+use Rattle.script_session.proofs.SaysLaws.{parts_of, run_as}
+use Rattle.script_session.specs.Running.{separate}
+use Rattle.station_session.specs.RunFiles.{BeginsPart, HoldTogether, IsLeftBy, KeepsParts}
+use Rattle.station_session.specs.RunFiles.{KeepsEach, KeepsRunFiles, OfFiles, OfRecovered, RunKeepsFiles}
 use Rattle.station_session.specs.RunFiles.{HaveAsked, IsReported, KeepsAsReported, KeepsDeskAsReported, KeepsPartsAsReported, ServesAsReported}
 use Rattle.station_line.specs.Opened.{Loads}
-use Rattle.station_line.specs.Site.{IsFollowed}
 
 -- ---- on files
 
-same-half : (halves : List SlaveHalf) (slave : ℕ) (one other : SlaveHalf) → slice_get halves slave ≡ Some one → slice_get halves slave ≡ Some other → one ≡ other
+pub same-half : (halves : List SlaveHalf) (slave : ℕ) (one other : SlaveHalf) → slice_get halves slave ≡ Some one → slice_get halves slave ≡ Some other → one ≡ other
 same-half halves slave one other here there = let same : Some one ≡ Some other = sym here ∙ there in cc
 
-at-place : {A : Type 0} (P : A → Type 0) (xs : List A) (k : ℕ) (a : A) → AllByRecursion P xs → slice_get xs k ≡ Some a → P a
-at-place P [] k a all at = absurd cc
-at-place P (b ∷ xs) zero a all at = let same : b ≡ a = cc in subst P same all.0
-at-place P (b ∷ xs) (suc k) a all at = at-place P xs k a all.1 at
+-- the calls of a device, by what is told of it
+reported-calls : (F : Type 0) (device kept : FileDevice F) (calls : List Asked) (reported : Option (List Asked)) → kept ≡ device → HasLog kept.asking.calls calls
+    → TellsLog device.asking.calls reported → IfSome reported (λ asked. asked ≡ calls)
+reported-calls F device kept calls None same log tells = tt
+reported-calls F device kept calls (Some asked) same log tells =
+    append_cancel_left device.asking.calls.begun.value asked calls (sym tells ∙ subst (λ (d : FileDevice F). HasLog d.asking.calls calls) same log)
 
--- a device that keeps this of a site has a device of files
-abbrev pub HasFileDevice : (F : Type 0) → {D : Type 0} → (D → Seen → Type 0) → Type 0
-HasFileDevice F {D} follows = (device : D) (seen : Seen) → follows device seen → (d : FileDevice F) × files.Follows d seen
+-- for each machine that was kept before
+keeps_each : (F : Type 0) (before : Seen) (station : Station) (ends : Ends SiteValue) → BeginsSessions before station → (keeps : KeepsParts F station ends)
+    → KeepsEach before station ends keeps.desk
+keeps_each F before station ends sessions keeps machine calls begun images kept answered none sound bytes cut =
+    let each = kept-each station sessions.here sessions.stands calls none sound before sessions.begins machine kept in
+    let left = keeps.kept (blank (base_of station.book)) calls begun images each.0 answered bytes cut in
+    (left.0, each.1 left.0 left.1, left.2)
 
--- the parts of a line that a desk has served
-abbrev parts_of : (station : Station) (commands : List Command) (ending : Ending) → DeskServes station commands ending → PartsEnd station
-parts_of station commands ending desk = record { sites = desk.sites; separate = desk.separate; ends = desk.ends; of_sites = desk.of_sites }
+-- devices that have a device of files inside
+module _ (F : Type 0) {D : Type 0} (inner : D → FileDevice F) where
+  abbrev pub follows : D → Seen → Type 0
+  follows device seen = files.Follows (inner device) seen
 
--- by devices that keep this
-module _ (F : Type 0) {D : Type 0} (follows : D → Seen → Type 0) (to_file : HasFileDevice F follows) where
+  abbrev pub well : D → Type 0
+  well device = (inner device).has_failed ≡ false
+
+  abbrev pub tells : D → FileLog → Type 0
+  tells device reported = TellsFiles (inner device).asking reported
+
+  -- a desk of which this is told
   module _ (station : Station) (synced : station.seen.state.disk ≡ of_bytes station.seen.state.disk.bytes) (parts : PartsEnd station)
-      (flushed : IsFlushed parts.ends.flusher.log parts.ends.flusher.start.seen parts.ends.flusher.site.seen)
-      (disk : IsFollowed follows parts.ends.flusher.site.seen)
-      (works : (slave : ℕ) (end : Stay SiteValue SlaveLog) → slice_get parts.ends.workers.items slave ≡ Some end → IsWorkFollowed follows end) where
+      (reported : DeskLog FileLog) (tellings : IsDeskReported follows well tells station.seen reported parts.ends) where
     journal_part : PartOnFiles F (is_same JournalFile) parts.ends.flusher.start.seen parts.ends.flusher.site.seen
     journal_part =
         let start = parts.ends.flusher.start.seen in
         let end = parts.ends.flusher.site.seen in
-        let device = to_file disk.0 end disk.1 in
-        part_has_its_file F (is_same JournalFile) start end device.0 (ap (λ (s : SiteValue). s.seen.past) parts.of_sites.flusher ∙ parts.separate.new) (flushed_follows parts.ends.flusher.log start end flushed) device.1
+        part_has_its_file F (is_same JournalFile) start end (inner tellings.disk.0) (ap (λ (s : SiteValue). s.seen.past) parts.of_sites.flusher ∙ parts.separate.new)
+        (flushed_follows parts.ends.flusher.log start end tellings.flushed) tellings.disk.1.0
 
-    journal_device : journal_part.device ≡ (to_file disk.0 parts.ends.flusher.site.seen disk.1).0
+    journal_device : journal_part.device ≡ inner tellings.disk.0
     unfolding journal_part
     journal_device =
         let start = parts.ends.flusher.start.seen in
         let end = parts.ends.flusher.site.seen in
-        let device = to_file disk.0 end disk.1 in
-        device_of_part F (is_same JournalFile) start end device.0 (ap (λ (s : SiteValue). s.seen.past) parts.of_sites.flusher ∙ parts.separate.new) (flushed_follows parts.ends.flusher.log start end flushed) device.1
+        device_of_part F (is_same JournalFile) start end (inner tellings.disk.0) (ap (λ (s : SiteValue). s.seen.past) parts.of_sites.flusher ∙ parts.separate.new)
+        (flushed_follows parts.ends.flusher.log start end tellings.flushed) tellings.disk.1.0
 
-    image_part : (slave : ℕ) (end : Stay SiteValue SlaveLog) → slice_get parts.ends.workers.items slave ≡ Some end → PartOnFiles F (is_same (Image slave)) end.start.seen end.site.seen
-    image_part slave end here =
-        let work = works slave end here in
-        let device = to_file work.followed.0 end.site.seen work.followed.1 in
-        let worker = placed-back (λ place (x : SiteValue) (e : Stay SiteValue SlaveLog). IsEndOfSlave place x e) 0 parts.sites.slaves.items parts.ends.workers.items slave end parts.of_sites.workers here in
-        let half = placed-back BeginsWith 0 station.seen.state.halves parts.sites.slaves.items slave worker.0 parts.separate.slaves worker.1 in
-        part_has_its_file F (is_same (Image slave)) end.start.seen end.site.seen device.0 (ap (λ (s : SiteValue). s.seen.past) worker.2.start ∙ half.2.new) (worked_follows end.log.slave end.log.jobs end.start.seen end.site.seen work.worked) device.1
+    -- the worker of this slave
+    module _ (slave : ℕ) (end : Stay SiteValue SlaveLog) (here : slice_get parts.ends.workers.items slave ≡ Some end) where
+      work : (part : PartLog FileLog) × (slice_get reported.slaves.items slave ≡ Some part) × IsWorkFollowed (Telling follows well tells part) end
+      work = reported-work follows well tells reported.slaves.items parts.ends.workers.items tellings.slaves slave end here
 
-    image_device : (slave : ℕ) (end : Stay SiteValue SlaveLog) (here : slice_get parts.ends.workers.items slave ≡ Some end)
-        → (image_part slave end here).device ≡ (to_file (works slave end here).followed.0 end.site.seen (works slave end here).followed.1).0
-    unfolding image_part
-    image_device slave end here =
-        let work = works slave end here in
-        let device = to_file work.followed.0 end.site.seen work.followed.1 in
-        let worker = placed-back (λ place (x : SiteValue) (e : Stay SiteValue SlaveLog). IsEndOfSlave place x e) 0 parts.sites.slaves.items parts.ends.workers.items slave end parts.of_sites.workers here in
-        let half = placed-back BeginsWith 0 station.seen.state.halves parts.sites.slaves.items slave worker.0 parts.separate.slaves worker.1 in
-        device_of_part F (is_same (Image slave)) end.start.seen end.site.seen device.0 (ap (λ (s : SiteValue). s.seen.past) worker.2.start ∙ half.2.new) (worked_follows end.log.slave end.log.jobs end.start.seen end.site.seen work.worked) device.1
+      work_new : end.start.seen.past ≡ []
+      work_new =
+          let worker = placed-back (λ place (x : SiteValue) (e : Stay SiteValue SlaveLog). IsEndOfSlave place x e) 0 parts.sites.slaves.items parts.ends.workers.items slave end parts.of_sites.workers here in
+          let half = placed-back BeginsWith 0 station.seen.state.halves parts.sites.slaves.items slave worker.0 parts.separate.slaves worker.1 in
+          ap (λ (s : SiteValue). s.seen.past) worker.2.start ∙ half.2.new
+
+      image_part : PartOnFiles F (is_same (Image slave)) end.start.seen end.site.seen
+      image_part =
+          part_has_its_file F (is_same (Image slave)) end.start.seen end.site.seen (inner work.2.followed.0) work_new
+          (worked_follows end.log.slave end.log.jobs end.start.seen end.site.seen work.2.worked) work.2.followed.1.0
+
+      image_device : image_part.device ≡ inner work.2.followed.0
+      unfolding image_part
+      image_device =
+          device_of_part F (is_same (Image slave)) end.start.seen end.site.seen (inner work.2.followed.0) work_new
+          (worked_follows end.log.slave end.log.jobs end.start.seen end.site.seen work.2.worked) work.2.followed.1.0
 
     desk : DeskOnFiles F seen_of parts.ends.flusher parts.ends.workers.items
     desk = record { journal = journal_part; images = image_part }
@@ -153,170 +169,76 @@ module _ (F : Type 0) {D : Type 0} (follows : D → Seen → Type 0) (to_file : 
           (first station calls parts.sites parts.ends parts.separate parts.of_sites) bytes cut);
     }
 
-    -- where no call of a device has failed and no site has stopped, and the disk is synced, the files hold what is put together
-    module _ (site : SiteValue) (together : IsTogether parts.ends site)
-        (no_failure : ((to_file disk.0 parts.ends.flusher.site.seen disk.1).0.has_failed ≡ false) × (parts.ends.flusher.site.seen.is_stopped ≡ false))
-        (no_failures : (slave : ℕ) (end : Stay SiteValue SlaveLog) (is : slice_get parts.ends.workers.items slave ≡ Some end)
-        → ((to_file (works slave end is).followed.0 end.site.seen (works slave end is).followed.1).0.has_failed ≡ false) × (end.site.seen.is_stopped ≡ false))
-        (all_synced : parts.ends.flusher.site.seen.state.disk ≡ of_bytes parts.ends.flusher.site.seen.state.disk.bytes) where
+    have_asked : HaveAsked reported parts.ends keeps_parts.desk
+    unfolding keeps_parts desk
+    have_asked = record {
+      journal = subst (λ (d : FileDevice F). TellsLog d.asking.calls reported.disk.reported.calls) (sym journal_device) tellings.disk.1.1.calls;
+      images = λ slave end is.
+          let w = work slave end is in
+          (w.0, w.1, subst (λ (d : FileDevice F). TellsLog d.asking.calls w.0.reported.calls) (sym (image_device slave end is)) w.2.followed.1.1.calls);
+    }
+
+    -- where the parts ended soundly, and the disk is synced, the files hold what is put together
+    module _ (site : SiteValue) (together : IsTogether parts.ends site) (sound : AreSound reported) (all_synced : IsSynced parts.ends) where
       going : (stopped : Bool) → stopped ≡ false → ¬ IsTrue stopped
       going stopped is stops = let never : false ≡ true = sym is ∙ stops in absurd cc
 
       journal_together : (file : File) → IsLeftBy journal_part JournalFile file → Holds site.seen.state JournalFile file
       journal_together file left =
           let end = parts.ends.flusher.site.seen in
+          let fine = tellings.disk.1.2 sound.disk in
           let held : HoldsDisk end.state.disk file =
-          (journal_part.follow left.begun left.held).holds (ap (λ (d : FileDevice F). d.has_failed) journal_device ∙ no_failure.0) (going end.is_stopped no_failure.1) JournalFile file refl left.became in
+          (journal_part.follow left.begun left.held).holds (ap (λ (d : FileDevice F). d.has_failed) journal_device ∙ fine.0) (going end.is_stopped fine.1) JournalFile file refl left.became in
           subst (λ (d : Disk). HoldsDisk d file) (all_synced ∙ sym together.disk) held
 
       image_together : (slave : ℕ) (end : Stay SiteValue SlaveLog) (is : slice_get parts.ends.workers.items slave ≡ Some end) (file : File) → IsLeftBy (image_part slave end is) (Image slave) file → Holds site.seen.state (Image slave) file
       image_together slave end is file left =
-          let well = no_failures slave end is in
+          let w = work slave end is in
+          let fine = w.2.followed.1.2 (at-place (λ (part : PartLog FileLog). IsTrue part.is_sound) reported.slaves.items slave w.0 sound.slaves w.1) in
           let held : HoldsWords end.site.seen.state.halves slave file =
-          ((image_part slave end is).follow left.begun left.held).holds (ap (λ (d : FileDevice F). d.has_failed) (image_device slave end is) ∙ well.0) (going end.site.seen.is_stopped well.1) (Image slave) file (eq-eqb slave slave refl) left.became in
+          ((image_part slave end is).follow left.begun left.held).holds (ap (λ (d : FileDevice F). d.has_failed) (image_device slave end is) ∙ fine.0) (going end.site.seen.is_stopped fine.1) (Image slave) file (eq-eqb slave slave refl) left.became in
           let back = placed-at EndsWith 0 parts.ends.workers.items site.seen.state.halves slave end together.halves is in
           let same_place : 0 + slave ≡ slave = omega arith in
           let half_is = same-half end.site.seen.state.halves slave held.half back.0 held.here (subst (λ (k : ℕ). slice_get end.site.seen.state.halves k ≡ Some back.0) same_place back.2) in
           record { half = back.0; here = back.1; file_is = held.file_is ∙ ap (λ (h : SlaveHalf). image_of h.words) half_is }
 
-      hold_together : HoldTogether parts.ends desk site
-      unfolding desk journal_part
+      hold_together : HoldTogether parts.ends keeps_parts.desk site
+      unfolding keeps_parts desk
       hold_together = record { journal = journal_together; images = image_together }
 
--- each end is of a worker whose device is told of
-reported-work : {D T : Type 0} (follows : D → Seen → Type 0) (well : D → Type 0) (tells : D → T → Type 0) (reported : List (PartLog T)) (workers : List (Stay SiteValue SlaveLog))
-    → AreReportedOf follows well tells reported workers → (slave : ℕ) (end : Stay SiteValue SlaveLog) → slice_get workers slave ≡ Some end
-    → (part : PartLog T) × (slice_get reported slave ≡ Some part) × IsWorkFollowed (Telling follows well tells part) end
-reported-work follows well tells [] [] all slave end here = absurd cc
-reported-work follows well tells [] (e ∷ workers) all slave end here = absurd all
-reported-work follows well tells (t ∷ reported) [] all slave end here = absurd all
-reported-work follows well tells (t ∷ reported) (e ∷ workers) all zero end here =
-    let same : e ≡ end = cc in (t, refl, subst (IsWorkFollowed (Telling follows well tells t)) same all.0)
-reported-work follows well tells (t ∷ reported) (e ∷ workers) all (suc slave) end here = reported-work follows well tells reported workers all.1 slave end here
+    keeps_as_reported : (site : SiteValue) → IsTogether parts.ends site → (sound : Result (Unit {0}) Fault) → OnOk sound (AreSound reported × IsSynced parts.ends)
+        → KeepsDeskAsReported F (Some reported) station sound parts.ends site
+    keeps_as_reported site together (Ok done) are =
+        record { keeps = record { parts = keeps_parts; together = hold_together site together are.0 are.1 }; asked = have_asked }
+    keeps_as_reported site together (Err fault) are = record { keeps = record { parts = keeps_parts; together = tt }; asked = have_asked }
 
--- all of these parts are sound, so this one is
-sound-at : {T : Type 0} (reported : List (PartLog T)) (slave : ℕ) (part : PartLog T) → AllByRecursion (λ (one : PartLog T). IsTrue one.is_sound) reported
-    → slice_get reported slave ≡ Some part → IsTrue part.is_sound
-sound-at reported slave part all here = at-place (λ one. IsTrue one.is_sound) reported slave part all here
-
--- the calls of a device, by what is told of it
-reported-calls : (F : Type 0) (device kept : FileDevice F) (calls : List Asked) (reported : Option (List Asked)) → kept ≡ device → HasLog kept.asking.calls calls
-    → TellsLog device.asking.calls reported → IfSome reported (λ asked. asked ≡ calls)
-reported-calls F device kept calls None same log tells = tt
-reported-calls F device kept calls (Some asked) same log tells =
-    append_cancel_left device.asking.calls.begun.value asked calls (sym tells ∙ subst (λ (d : FileDevice F). HasLog d.asking.calls calls) same log)
-
--- what a device tells of its log, its device of files has asked
-abbrev pub TellsFile : (F : Type 0) → {D : Type 0} → (follows : D → Seen → Type 0) → HasFileDevice F follows → (D → FileLog → Type 0) → Type 0
-TellsFile F {D} follows to_file tells =
-    (device : D) (seen : Seen) (f : follows device seen) (reported : FileLog) → tells device reported → TellsLog (to_file device seen f).0.asking.calls reported.calls
-
--- by devices that keep this and tell of it
-module _ (F : Type 0) {D : Type 0} (follows : D → Seen → Type 0) (to_file : HasFileDevice F follows) (tells : D → FileLog → Type 0) (tells_file : TellsFile F follows to_file tells) where
-  is-reported : (device : D) (seen : Seen) (f : follows device seen) (kept : FileDevice F) (calls : List Asked) (reported : Option FileLog)
-      → kept ≡ (to_file device seen f).0 → HasLog kept.asking.calls calls → IfSome reported (tells device) → IsReported reported (λ asked. asked ≡ calls)
-  is-reported device seen f kept calls None same log none = tt
-  is-reported device seen f kept calls (Some reported) same log tell = reported-calls F (to_file device seen f).0 kept calls reported.calls same log (tells_file device seen f reported tell)
+  -- the calls of a device on one thread, by what is told of it
+  is-reported : (device : D) (kept : FileDevice F) (calls : List Asked) (reported : Option FileLog) → kept ≡ inner device → HasLog kept.asking.calls calls
+      → IsSomeAnd reported (tells device) → IsReported reported (λ asked. asked ≡ calls)
+  is-reported device kept calls None same log none = absurd none
+  is-reported device kept calls (Some reported) same log tell = reported-calls F (inner device) kept calls reported.calls same log tell.calls
 
   goes_on_files : (reported : Option FileLog) (before now : Seen) → before.past ≡ [] → GoesFollowed (TellsOf follows tells reported) before now
       → KeepsAsReported F reported before now
   goes_on_files reported before now new stage =
-      let device = to_file stage.followed.0 now stage.followed.1.0 in
+      let device = inner stage.followed.0 in
       let first = first_stays before now new stage.goes.goes_on in
-      let keeps = site_keeps_on F device.0 before now device.1 new first stage.goes.keeps in
+      let keeps = site_keeps_on F device before now stage.followed.1.0 new first stage.goes.keeps in
       record {
         keeps = keeps;
-        asked = is-reported stage.followed.0 now stage.followed.1.0 keeps.device keeps.calls reported (device_kept F device.0 before now device.1 new first stage.goes.keeps) keeps.log stage.followed.1.1;
+        asked = is-reported stage.followed.0 keeps.device keeps.calls reported (device_kept F device before now stage.followed.1.0 new first stage.goes.keeps) keeps.log stage.followed.1.1;
       }
 
   serves_on_files : (reported : Option FileLog) (commands : List Command) (before now : Seen) → before.past ≡ []
       → ServesOn (TellsOf follows tells reported) commands before now → ServesAsReported F reported commands before now
   serves_on_files reported commands before now new serves =
-      let device = to_file serves.followed.0 now serves.followed.1.0 in
+      let device = inner serves.followed.0 in
       let first = first_stays before now new serves.goes_on in
-      let keeps = site_keeps_serving F device.0 commands before now device.1 new first serves.keeps in
+      let keeps = site_keeps_serving F device commands before now serves.followed.1.0 new first serves.keeps in
       record {
         keeps = keeps;
-        asked = is-reported serves.followed.0 now serves.followed.1.0 keeps.device keeps.calls reported (device_served F device.0 commands before now device.1 new first serves.keeps) keeps.log serves.followed.1.1;
+        asked = is-reported serves.followed.0 keeps.device keeps.calls reported (device_served F device commands before now serves.followed.1.0 new first serves.keeps) keeps.log serves.followed.1.1;
       }
-
--- a device that keeps this, and of which nothing has failed on a site that goes on
-module _ (F : Type 0) {D : Type 0} (follows : D → Seen → Type 0) (well : D → Type 0) (tells : D → FileLog → Type 0) (to_file : HasFileDevice F follows) (tells_file : TellsFile F follows to_file tells)
-    (well_file : (device : D) (seen : Seen) (f : follows device seen) → well device → (to_file device seen f).0.has_failed ≡ false) where
-  soundly_file : HasFileDevice F (Soundly follows well)
-  soundly_file device seen soundly = to_file device seen soundly.0
-
-  keeps_followed : (station : Station) → station.seen.state.disk ≡ of_bytes station.seen.state.disk.bytes → (parts : PartsEnd station)
-      → AreFollowed follows parts.ends → KeepsParts F station parts.ends
-  keeps_followed station synced parts followed =
-      keeps_parts F follows to_file station synced parts followed.flushed followed.followed
-      (λ slave end is. at-place (IsWorkFollowed follows) parts.ends.workers.items slave end followed.workers is)
-
-  -- where nothing is told
-  keeps_desk : (station : Station) → station.seen.state.disk ≡ of_bytes station.seen.state.disk.bytes → (commands : List Command) (ending : Ending) (site : SiteValue) (sound : Result (Unit {0}) Fault) (parts : ServesParts station commands ending site)
-      → EndsFollowed follows well station sound parts.desk.ends → KeepsAtDesk F station sound parts.desk.ends site
-  unfolding soundly_file keeps_parts
-  keeps_desk station synced commands ending site (Ok done) parts followed =
-      let ends = parts.desk.ends in
-      let works : (slave : ℕ) (end : Stay SiteValue SlaveLog) → slice_get ends.workers.items slave ≡ Some end → IsWorkFollowed (Soundly follows well) end =
-      λ slave end is. at-place (IsWorkFollowed (Soundly follows well)) ends.workers.items slave end followed.parts.workers is in
-      record {
-        parts = keeps_parts F (Soundly follows well) soundly_file station synced (parts_of station commands ending parts.desk) followed.parts.flushed followed.parts.followed works;
-        together =
-            hold_together F (Soundly follows well) soundly_file station synced (parts_of station commands ending parts.desk) followed.parts.flushed followed.parts.followed works site parts.together
-            (well_file followed.parts.followed.0 ends.flusher.site.seen followed.parts.followed.1.0 followed.parts.followed.1.1, followed.parts.followed.1.2)
-            (λ slave end is. let w = works slave end is in (well_file w.followed.0 end.site.seen w.followed.1.0 w.followed.1.1, w.followed.1.2)) followed.synced;
-      }
-  keeps_desk station synced commands ending site (Err fault) parts followed = record { parts = keeps_followed station synced (parts_of station commands ending parts.desk) followed; together = tt }
-
-  -- where the devices are told of
-  module _ (station : Station) (synced : station.seen.state.disk ≡ of_bytes station.seen.state.disk.bytes) (desk : PartsEnd station)
-      (reported : DeskLog FileLog) (tellings : IsDeskReported follows well tells station.seen reported desk.ends) where
-    reported_disk : IsFollowed follows desk.ends.flusher.site.seen
-    reported_disk = (tellings.disk.0, tellings.disk.1.0)
-
-    reported_works : (slave : ℕ) (end : Stay SiteValue SlaveLog) → slice_get desk.ends.workers.items slave ≡ Some end → IsWorkFollowed follows end
-    reported_works slave end is =
-        let w = reported-work follows well tells reported.slaves.items desk.ends.workers.items tellings.slaves slave end is in
-        record { worked = w.2.worked; followed = (w.2.followed.0, w.2.followed.1.0) }
-
-    keeps_reported : KeepsParts F station desk.ends
-    keeps_reported = keeps_parts F follows to_file station synced desk tellings.flushed reported_disk reported_works
-
-    have_asked : HaveAsked reported desk.ends keeps_reported.desk
-    unfolding keeps_reported keeps_parts desk reported_disk reported_works
-    have_asked = record {
-      journal = subst (λ (d : FileDevice F). TellsLog d.asking.calls reported.disk.reported.calls)
-          (sym (journal_device F follows to_file station synced desk tellings.flushed reported_disk reported_works))
-          (tells_file tellings.disk.0 desk.ends.flusher.site.seen tellings.disk.1.0 reported.disk.reported tellings.disk.1.1);
-      images = λ slave end is.
-          let w = reported-work follows well tells reported.slaves.items desk.ends.workers.items tellings.slaves slave end is in (
-            w.0,
-            w.1,
-            subst (λ (d : FileDevice F). TellsLog d.asking.calls w.0.reported.calls)
-                (sym (image_device F follows to_file station synced desk tellings.flushed reported_disk reported_works slave end is))
-                (tells_file w.2.followed.0 end.site.seen w.2.followed.1.0 w.0.reported w.2.followed.1.1),
-          );
-    }
-
-    reported_together : (site : SiteValue) → IsTogether desk.ends site → AreSound reported → desk.ends.flusher.site.seen.state.disk ≡ of_bytes desk.ends.flusher.site.seen.state.disk.bytes
-        → HoldTogether desk.ends keeps_reported.desk site
-    unfolding keeps_reported keeps_parts desk reported_disk reported_works
-    reported_together site together sound all_synced =
-        let ends = desk.ends in
-        let here = tellings.disk.1.2 sound.disk in
-        hold_together F follows to_file station synced desk tellings.flushed reported_disk reported_works site together
-        (well_file tellings.disk.0 ends.flusher.site.seen tellings.disk.1.0 here.0, here.1)
-        (λ slave end is.
-        let w = reported-work follows well tells reported.slaves.items ends.workers.items tellings.slaves slave end is in
-        let there = w.2.followed.1.2 (sound-at reported.slaves.items slave w.0 sound.slaves w.1) in
-        (well_file w.2.followed.0 end.site.seen w.2.followed.1.0 there.0, there.1)) all_synced
-
-    keeps_as_reported : (site : SiteValue) → IsTogether desk.ends site → (sound : Result (Unit {0}) Fault) → OnOk sound (AreSound reported) → EndsFollowed follows well station sound desk.ends
-        → KeepsDeskAsReported F (Some reported) station sound desk.ends site
-    keeps_as_reported site together (Ok done) are followed =
-        record { keeps = record { parts = keeps_reported; together = reported_together site together are followed.synced }; asked = have_asked }
-    keeps_as_reported site together (Err fault) are followed = record { keeps = record { parts = keeps_reported; together = tt }; asked = have_asked }
 
   -- where the line wasn't put together
   parts_as_reported : (reported : Option (DeskLog FileLog)) (station : Station) → station.seen.state.disk ≡ of_bytes station.seen.state.disk.bytes
@@ -324,52 +246,39 @@ module _ (F : Type 0) {D : Type 0} (follows : D → Seen → Type 0) (well : D �
       → KeepsPartsAsReported F reported station parts.ends
   parts_as_reported None station synced parts tellings = absurd tellings
   parts_as_reported (Some reported) station synced parts tellings =
-      record { keeps = keeps_reported station synced parts reported tellings; asked = have_asked station synced parts reported tellings }
+      record { keeps = keeps_parts station synced parts reported tellings; asked = have_asked station synced parts reported tellings }
 
   desk_as_reported : (reported : Option (DeskLog FileLog)) (station : Station) → station.seen.state.disk ≡ of_bytes station.seen.state.disk.bytes → (commands : List Command) (ending : Ending) (site : SiteValue)
       (sound : Result (Unit {0}) Fault) (parts : ServesParts station commands ending site) → DeskTells follows well tells reported station sound parts.desk.ends
       → KeepsDeskAsReported F reported station sound parts.desk.ends site
-  desk_as_reported None station synced commands ending site sound parts tell =
-      record { keeps = keeps_desk station synced commands ending site sound parts tell.followed; asked = tt }
+  desk_as_reported None station synced commands ending site sound parts tell = absurd tell
   desk_as_reported (Some reported) station synced commands ending site sound parts tell =
-      keeps_as_reported station synced (parts_of station commands ending parts.desk) reported tell.tell.0 site parts.together sound tell.tell.1 tell.followed
+      keeps_as_reported station synced (parts_of station commands ending parts.desk) reported tell.0 site parts.together sound tell.1
 
-  -- if one failure is told, the other is
-  module _ (reported : RunLog FileLog) (Failed Told : Type 0) (tells_it : Failed → Told) where
-    alone_on_files : (commands : List Command) (left : Seen) → left.past ≡ []
-        → GoesAlone (OfDevices follows well tells reported) commands left Failed → GoesAlone (OfFiles F reported) commands left Told
-    alone_on_files commands left new (unrecovered last stage failed) = unrecovered last
-        (goes_on_files F follows to_file tells tells_file reported.after left last new stage) (tells_it failed)
-    alone_on_files commands left new (recovered accepted last among serves) = recovered accepted last among
-        (serves_on_files F follows to_file tells tells_file reported.after accepted left last new serves)
+  module _ (reported : RunLog FileLog) (Failed Told : Type 0) (tells_it : Failed → Told) (before : Seen) (began : before.past ≡ []) where
+    opening_on_files : (now : Seen) → GoesFollowed (TellsOf follows tells (line_reported reported.desk reported.opening)) before now
+        → KeepsAsReported F (line_reported reported.desk reported.opening) before now
+    opening_on_files now stage = goes_on_files (line_reported reported.desk reported.opening) before now began stage
 
-    after_on_files : (is_driven : Bool) (sound : Result (Unit {0}) Fault) (commands : List Command) (left : Seen)
-        → left.past ≡ [] → GoesAfter (OfDevices follows well tells reported) is_driven sound commands left Failed
-        → GoesAfter (OfFiles F reported) is_driven sound commands left Told
-    after_on_files true (Ok done) commands left new goes = (goes.0, goes_on_files F follows to_file tells tells_file reported.after left goes.0 new goes.1)
-    after_on_files false (Ok done) commands left new goes = alone_on_files commands left new goes
-    after_on_files true (Err fault) commands left new failed = tells_it failed
-    after_on_files false (Err fault) commands left new failed = tells_it failed
-
-    desk_on_files : (station : Station) → station.seen.state.disk ≡ of_bytes station.seen.state.disk.bytes
-        → (commands : List Command) → DeskGoes (OfDevices follows well tells reported) station commands Failed
-        → DeskGoes (OfFiles F reported) station commands Told
-    desk_on_files station synced commands (unbegun failed) = unbegun (tells_it failed)
-    desk_on_files station synced commands (idle parts none tellings failed) =
-        idle parts none (parts_as_reported reported.desk station synced parts tellings) (tells_it failed)
-    desk_on_files station synced commands (separate ending desk tellings failed) =
-        separate ending desk (parts_as_reported reported.desk station synced (parts_of station commands ending desk) tellings) (tells_it failed)
-    desk_on_files station synced commands (served ending site sound parts tell closes) =
-        served ending site sound parts (desk_as_reported reported.desk station synced commands ending site sound parts tell)
-        (λ closed. after_on_files ending.is_driven sound commands site.seen parts.together.new (closes closed))
-
-    pub run_on_files : (before : Seen) (commands : List Command) → before.past ≡ [] → RunGoes (OfDevices follows well tells reported) before commands Failed
+    pub run_on_files : (commands : List Command) → RunGoes (OfDevices follows well tells reported) before commands Failed
         → RunGoes (OfFiles F reported) before commands Told
-    run_on_files before commands new (unopened last stage failed) =
-        unopened last (goes_on_files F follows to_file tells tells_file (line_reported reported.desk reported.opening) before last new stage) (tells_it failed)
-    run_on_files before commands new (opened station stage synced goes) =
-        opened station (goes_on_files F follows to_file tells tells_file (line_reported reported.desk reported.opening) before station.seen new stage) synced
-        (desk_on_files station synced commands goes)
+    run_on_files =
+        run_as (OfDevices follows well tells reported) (OfFiles F reported) Failed Told tells_it (λ none. none) before began opening_on_files
+        (goes_on_files reported.after) (serves_on_files reported.after) (λ station stage. parts_as_reported reported.desk station)
+        (λ station stage. desk_as_reported reported.desk station)
+
+    -- of a recovery
+    pub recovery_on_files : RunGoes (OfRecovery before (OfDevices follows well tells reported)) before [] Failed
+        → RunGoes (OfRecovered F before reported) before [] Told
+    recovery_on_files =
+        run_as (OfRecovery before (OfDevices follows well tells reported)) (OfRecovered F before reported) Failed Told tells_it (λ none. none) before began opening_on_files
+        (λ left last new goes. (goes.0, goes_on_files reported.after left last new goes.1)) (serves_on_files reported.after)
+        (λ station stage synced parts tell.
+        let so = parts_as_reported reported.desk station synced parts tell.1 in
+        (so, keeps_each F before station parts.ends tell.0 so.keeps))
+        (λ station stage synced commands ending site sound parts tell.
+        let so = desk_as_reported reported.desk station synced commands ending site sound parts tell.1 in
+        (so, keeps_each F before station parts.desk.ends tell.0 so.keeps.parts)) []
 
 -- ---- the run
 

@@ -1,6 +1,6 @@
 -- A run on the files of a line: what a power cut leaves in them as the station is opened, while its desk is at work, and as the line is recovered
 -- after it.
-use Rattle.std.specs.Prelude.{◌≡◌, ℕ, Bool, List, ◌++◌, Result, OnOk, Option, Some, None, is_some, IfSome}
+use Rattle.std.specs.Prelude.{◌≡◌, ℕ, Bool, List, [], ◌++◌, Result, OnOk, Option, Some, None, count_by, is_some, IfSome}
 use Rattle.std.specs.Prelude.{IsSomeAnd}
 use Rattle.std.specs.Prelude.{slice_get, IsTrue}
 use Rattle.sii_edit.specs.declared.command.Command.{Command}
@@ -21,7 +21,9 @@ use Rattle.book_model.specs.Machine.{Machine}
 use Rattle.station_jobs.specs.declared.log.SlaveLog.{SlaveLog}
 use Rattle.station_jobs.specs.Ends.{Stay}
 use Rattle.desk_book.specs.declared.call.Call.{Call}
-use Rattle.desk_book.specs.Calls.{AreAnswered, replayed}
+use Rattle.desk_book.specs.Calls.{AreAnswered, is_refusal, replayed}
+use Rattle.site_core.specs.Passes.{LeavesOnly}
+use Rattle.station_alone.specs.Keeping.{KeptFor}
 use Rattle.station_alone.specs.Station.{Station}
 use Rattle.kept_files.specs.KeptFiles.{KeepsOn, KeepsOnServing, has_file}
 use Rattle.kept_files.specs.Cuts.{IsKeptPair}
@@ -37,6 +39,7 @@ use Rattle.script_session.specs.AtDesk.{BeginsAs, seen_of}
 use Rattle.script_session.specs.declared.logs.DeskLog.{DeskLog}
 use Rattle.script_session.specs.declared.logs.PartLog.{PartLog}
 use Rattle.script_session.specs.declared.logs.RunLog.{RunLog}
+use Rattle.script_session.specs.Recovering.{StaysKept}
 use Rattle.script_session.specs.Running.{RunGoes, Says, line_reported}
 use Rattle.station_line.specs.Opened.{Loads}
 
@@ -78,9 +81,9 @@ pub record KeepsAtDesk (F : Type 0) (station : Station) (sound : Result (Unit {0
   pub parts : KeepsParts F station ends
   pub together : OnOk sound (HoldTogether ends parts.desk site)
 
--- What is told of the calls of a device, if something is.
+-- A device is told of, and this of its calls, if they are told.
 abbrev pub IsReported : Option FileLog → (List Asked → Type 0) → Type 0
-IsReported reported so = IfSome reported (λ file. IfSome file.calls so)
+IsReported reported so = IsSomeAnd reported (λ file. IfSome file.calls so)
 
 -- As `KeepsOn`, by the calls that are told.
 pub record KeepsAsReported (F : Type 0) (reported : Option FileLog) (before now : Seen) : Type 0 where
@@ -109,7 +112,7 @@ pub record KeepsPartsAsReported (F : Type 0) (reported : Option (DeskLog FileLog
 pub record KeepsDeskAsReported (F : Type 0) (reported : Option (DeskLog FileLog)) (station : Station) (sound : Result (Unit {0}) Fault)
     (ends : Ends SiteValue) (site : SiteValue) : Type 0 where
   pub keeps : KeepsAtDesk F station sound ends site
-  pub asked : IfSome reported (λ desk. HaveAsked desk ends keeps.parts.desk)
+  pub asked : IsSomeAnd reported (λ desk. HaveAsked desk ends keeps.parts.desk)
 
 -- what the files of a run keep of which this is told
 abbrev pub OfFiles : Type 0 → RunLog FileLog → Says
@@ -119,6 +122,7 @@ OfFiles F reported = record {
   serving = ServesAsReported F reported.after;
   parts = KeepsPartsAsReported F reported.desk;
   desk = KeepsDeskAsReported F reported.desk;
+  unbegun = reported.desk ≡ None;
 }
 
 -- What a power cut has left in the files of a run is kept, as far as the run came, however it ended: as the station was opened, at its desk, and in
@@ -126,6 +130,30 @@ OfFiles F reported = record {
 -- that the run tells.
 abbrev pub RunKeepsFiles : (F : Type 0) → (before : Seen) → List Command → ExitStatus → RunLog FileLog → Type 0
 RunKeepsFiles F before commands status reported = RunGoes (OfFiles F reported) before commands (¬ IsFaultless status)
+
+-- For each machine that was kept before the station was opened: whatever calls of a desk to which no command was submitted its book has answered by
+-- then, a power cut, each device anywhere in its job, leaves in the files, all at once, only what is kept for it.
+abbrev pub KeepsEach : {F : Type 0} → (before : Seen) (station : Station) (ends : Ends SiteValue)
+    → DeskOnFiles F seen_of ends.flusher ends.workers.items → Type 0
+KeepsEach before station ends desk = (machine : Machine) (calls : List Call) (begun : FileName → File) (images : FileName → List ℕ)
+    → LeavesOnly (KeptFor machine) before.state → AreAnswered station.book calls → (replayed station.book calls).accepted ≡ []
+    → count_by is_refusal calls ≡ 0 → ((name : FileName) → IsBytes (images name)) → DeskIsCut desk calls begun images
+    → (pair : Pair) × KeptFor machine pair × ((name : FileName) → IsTrue (has_file station.seen.state name) → Shows pair name (images name))
+
+-- what the files of a recovery keep of which this is told
+abbrev pub OfRecovered : (F : Type 0) → (before : Seen) → RunLog FileLog → Says
+OfRecovered F before reported = record {
+  opening = KeepsAsReported F (line_reported reported.desk reported.opening);
+  after = λ left last. StaysKept before left × KeepsAsReported F reported.after left last;
+  serving = ServesAsReported F reported.after;
+  parts = λ station ends. (so : KeepsPartsAsReported F reported.desk station ends) × KeepsEach before station ends so.keeps.desk;
+  desk = λ station sound ends site. (so : KeepsDeskAsReported F reported.desk station sound ends site) × KeepsEach before station ends so.keeps.parts.desk;
+  unbegun = reported.desk ≡ None;
+}
+
+-- What a power cut has left in the files of a recovery is kept for each machine for which it was kept before, as far as the recovery came.
+abbrev pub RecoveryKeepsFiles : (F : Type 0) → (before : Seen) → ExitStatus → RunLog FileLog → Type 0
+RecoveryKeepsFiles F before status reported = RunGoes (OfRecovered F before reported) before [] (¬ IsFaultless status)
 
 -- The line and the script were read, and what a power cut has left in the line's files as the commands were run on them is kept so.
 pub record KeepsRunFiles (F : Type 0) (old : Known) (name script : List ℕ) (status : ExitStatus) (reported : RunLog FileLog) : Type 0 where
@@ -155,9 +183,3 @@ pub record AreLogsReported (reported : DeskLog FileLog) : Type 0 where
 pub record IsAllReported (reported : RunLog FileLog) : Type 0 where
   pub desk : IsSomeAnd reported.desk AreLogsReported
   pub after : IsSomeAnd reported.after (λ file. IsTrue (is_some file.calls))
-
--- No device is told of: none has had a file of the line.
-pub record IsNoneReported {T : Type 0} (reported : RunLog T) : Type 0 where
-  pub opening : reported.opening ≡ None
-  pub desk : reported.desk ≡ None
-  pub after : reported.after ≡ None

@@ -9,5 +9,5 @@ mod run;
 
 pub use fused::Fuse;
 pub use logs::FilesLog;
-pub use recovery::{Recovery, recover_line};
+pub use recovery::recover_line;
 pub use run::{Ran, RunNames, run_script};

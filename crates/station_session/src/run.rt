@@ -1,11 +1,12 @@
 //! The subcommand `run`.
 ghost use Rattle.std.specs.Prelude.{◌≡◌, is_some, false, IfErr, IfOk, IsTrue, OnErr};
 ghost use Rattle.station_files.specs.Faults.{IsFaultless};
+ghost use Rattle.script_session.specs.Running.{IsNoneReported};
 ghost use Rattle.station_line.specs.Answers.{IsOfAnswers, exit_status};
 ghost use Rattle.station_line.specs.Opened.{is_old, IsFresh};
 ghost use Rattle.station_line.specs.Refusals.{RefusesRun};
 ghost use Rattle.station_session.specs.Noting.{NotesWhy};
-ghost use Rattle.station_session.specs.RunFiles.{IsAllReported, IsNoneReported, KeepsRunFiles, RunKeepsFiles};
+ghost use Rattle.station_session.specs.RunFiles.{IsAllReported, KeepsRunFiles, RunKeepsFiles};
 ghost use Rattle.station_session.specs.Session.{EndsRun, RunsFiles};
 
 use crate::fused::{Fuse, run_fused};
@@ -29,7 +30,7 @@ pub struct RunNames<'a> {
     pub script: &'a str,
 }
 
-/// How far a run came, its exit status, and what was asked of the files of its line.
+/// How far a run or a recovery came, its exit status, and what was asked of the files of its line.
 #[derive(Drop)]
 pub struct Ran {
     /// Whether it began. If not, a file of the line couldn't be opened, and no device has had these files.
@@ -42,7 +43,7 @@ pub struct Ran {
 
 impl Ran {
     /// A run that wasn't begun, or one in memory.
-    fn without_files(is_begun: bool, status: ExitStatus) -> Ran
+    pub(crate) fn without_files(is_begun: bool, status: ExitStatus) -> Ran
         ensures begun { result.is_begun ≡ is_begun }
         ensures status { result.status ≡ status }
         ensures reported { IsNoneReported result.reported }
@@ -50,11 +51,7 @@ impl Ran {
         Ran {
             is_begun,
             status,
-            reported: RunLog {
-                opening: None,
-                desk: None,
-                after: None,
-            },
+            reported: RunLog::none(),
         }
     }
 }
@@ -188,6 +185,7 @@ fn run_opened<S: Store, W: Write, T: Write + Send, R: Wait + Threads + Clock + A
         closed,
         ended,
         reported,
+        ..
     } = run_line(
         rt,
         &line,

@@ -11,10 +11,6 @@ use std::alloc::Global;
 use toml::{Table, Value};
 
 /// Reads a TOML document; its top level is a table.
-///
-/// # Errors
-///
-/// `Memory`; `Malformed` where the text is not TOML.
 pub(crate) fn read_document(alloc: Global, text: &str) -> Result<Table, ValueFault>
     ensures { Reads ValueFault.Memory table_view (λ document. parse_document text.now ≡ Some document) result }
 {
@@ -50,20 +46,14 @@ pub(crate) fn find<'a>(table: &'a Table, key: &str) -> Option<&'a Value>
 pub(crate) fn find_text<'a>(table: &'a Table, key: &str) -> Option<&'a str>
     ensures { option_map (λ text. text.now) result ≡ text_at key.now (table_view table.now) }
 {
-    match find(table, key) {
-        Some(value) => value.as_str(),
-        None => None,
-    }
+    find(table, key)?.as_str()
 }
 
 /// The table at a key; `None` where the key is absent or its value is not a table.
 pub(crate) fn find_table<'a>(table: &'a Table, key: &str) -> Option<&'a Table>
     ensures { option_map (λ found. table_view found.now) result ≡ table_at key.now (table_view table.now) }
 {
-    match find(table, key) {
-        Some(value) => value.as_table(),
-        None => None,
-    }
+    find(table, key)?.as_table()
 }
 
 /// The values of an array, in order; `None` for any other value.
@@ -80,10 +70,7 @@ pub(crate) fn values_of(value: &Value) -> Option<&[Value]>
 pub(crate) fn find_values<'a>(table: &'a Table, key: &str) -> Option<&'a [Value]>
     ensures { option_map (λ values. map view values.now) result ≡ values_at key.now (table_view table.now) }
 {
-    match find(table, key) {
-        Some(value) => values_of(value),
-        None => None,
-    }
+    values_of(find(table, key)?)
 }
 
 /// An integer of 0 to 4294967295; `None` for any other value.
@@ -104,20 +91,14 @@ pub(crate) fn read_number(value: &Value) -> Option<u16>
 pub(crate) fn find_wide_number(table: &Table, key: &str) -> Option<u32>
     ensures { Finds (HasNumberBelow 4294967296 key.now (table_view table.now)) result }
 {
-    match find(table, key) {
-        Some(value) => read_wide_number(value),
-        None => None,
-    }
+    read_wide_number(find(table, key)?)
 }
 
 /// The integer of 0 to 65535 at a key; `None` where the key is absent or has any other value.
 pub(crate) fn find_number(table: &Table, key: &str) -> Option<u16>
     ensures { Finds (HasNumberBelow 65536 key.now (table_view table.now)) result }
 {
-    match find(table, key) {
-        Some(value) => read_number(value),
-        None => None,
-    }
+    read_number(find(table, key)?)
 }
 
 /// The boolean at a key, false where the key is absent; `None` where its value is of another type.

@@ -15,6 +15,18 @@ pub(crate) enum ValueFault {
     BadCommand(usize),
 }
 
+/// What is there; or the text or the value has another form.
+macro_rules! needed {
+    ($found:expr) => {
+        match $found {
+            Some(found) => found,
+            None => return Err(ValueFault::Malformed),
+        }
+    };
+}
+
+pub(crate) use needed;
+
 impl From<AllocError> for ValueFault {
     ghost use Rattle.station_text.specs.declared.fault.ValueFault.TheVariants.{Memory};
 

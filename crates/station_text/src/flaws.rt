@@ -102,111 +102,41 @@ impl<'a> Flaw<'a> {
     }
 }
 
-/// Validates the entry of an array, which has to be a table of this form and stands in this part of a text.
-pub(crate) fn validate_entry<'a>(
-    part: Part<'_>,
-    value: &'a Value,
-    form: Form,
-) -> Result<&'a Table, Spot<'a>> {
-    let Some(table) = value.as_table() else {
-        return Err(Flaw::NoTable(Found::of(value, Shape::Table)).within(part));
-    };
-    validate_table(part, table, form)?;
-    Ok(table)
-}
-
-/// Validates a table of this form, in this part of a text. Its first flaw is an unknown key, else the first key in the form's order that is missing
-/// or has a value of another shape.
-pub(crate) fn validate_table<'a>(
-    part: Part<'_>,
-    table: &'a Table,
-    form: Form,
-) -> Result<(), Spot<'a>> {
-    for key in table.keys() {
-        if !form.has(key.as_str()) {
-            return Err(Flaw::Unknown(key.as_str(), form).within(part));
-        }
-    }
-    for field in form.0 {
-        match (table.get(field.key()), *field) {
-            (Some(value), Field::Needed(key, shape) | Field::Optional(key, shape)) => {
-                if !shape.fits(value) {
-                    return Err(Flaw::Wrong(key, Found::of(value, shape), shape).within(part));
-                }
-            }
-            (None, Field::Needed(key, _)) => return Err(Flaw::Missing(key).within(part)),
-            (None, Field::Optional(..)) => {}
-        }
-    }
-    Ok(())
-}
-
-/// The values of the array at a key, if there is one.
-pub(crate) fn array_at<'a>(table: &'a Table, key: &str) -> Option<&'a [Value]> {
-    Some(table.get(key)?.as_array()?.as_slice())
-}
-
-/// What a text is read as.
-#[derive(Clone, Copy)]
-pub(crate) enum TextKind {
-    Line,
-    /// A script, whose first bad command is the one of this place, from 0.
-    Script(usize),
-}
-
-/// What is wrong in a text that can't be read.
-///
-/// # Errors
-///
-/// Memory was refused.
+/// What is wrong in a text that is no line file or, where the place of its first bad command is given, from 0, no script.
 pub(crate) fn trouble_of(
     alloc: Global,
     text: &str,
-    kind: TextKind,
+    command: Option<usize>,
 ) -> Result<TextTrouble, AllocError> {
-    match toml::table_from_str(alloc, text) {
-        Ok(table) => trouble_in(alloc, text, &table, kind),
-        Err(error) if error.is_memory() => Err(AllocError),
+    let (at, what) = match toml::table_from_str(alloc, text) {
+        Ok(table) => trouble_in(alloc, text, &table, command)?,
+        Err(error) if error.is_memory() => return Err(AllocError),
         Err(error) => {
-            let at = error.span().map(|span| span.start);
             let why = error.message();
-            Ok(trouble_at(text, at, format!(in alloc; "no TOML: {why}")?))
+            let at = error.span().map(|span| span.start);
+            (at, format!(in alloc; "no TOML: {why}")?)
         }
-    }
+    };
+    let line = at.map(|at| line_at(text.as_bytes(), at));
+    Ok(TextTrouble { line, what })
 }
 
-/// What is wrong in a text with this document.
+/// Where something is wrong in a text with this document, and what.
 fn trouble_in(
     alloc: Global,
     text: &str,
     table: &Table,
-    kind: TextKind,
-) -> Result<TextTrouble, AllocError> {
-    let code = blanked(alloc, text.as_bytes())?;
-    let part = Part::entire(&code);
-    let validated = match kind {
-        TextKind::Line => validate_line(part, table),
-        TextKind::Script(command) => validate_script(part, table, command),
+    command: Option<usize>,
+) -> Result<(Option<usize>, String), AllocError> {
+    let code = blanked(alloc, text)?;
+    let part = Part::entire(code.as_str());
+    let (validated, unknown) = match command {
+        None => (validate_line(part, table), Flaw::NoLine),
+        Some(command) => (
+            validate_script(part, table, command),
+            Flaw::NoCommand(command),
+        ),
     };
-    let Spot { flaw, at } = match validated {
-        Err(spot) => spot,
-        Ok(()) => kind.unknown().within(part),
-    };
-    Ok(trouble_at(text, at, format!(in alloc; "{flaw}")?))
-}
-
-/// The trouble that these words say, and that stands at this offset.
-fn trouble_at(text: &str, at: Option<usize>, what: String) -> TextTrouble {
-    let line = at.map(|at| line_at(text.as_bytes(), at));
-    TextTrouble { line, what }
-}
-
-impl TextKind {
-    /// The flaw of a text in which none is found.
-    fn unknown(self) -> Flaw<'static> {
-        match self {
-            TextKind::Line => Flaw::NoLine,
-            TextKind::Script(command) => Flaw::NoCommand(command),
-        }
-    }
+    let Spot { flaw, at } = validated.err().unwrap_or(unknown.within(part));
+    Ok((at, format!(in alloc; "{flaw}")?))
 }

@@ -41,10 +41,26 @@ const SMALL: Shape = Shape::Number(0, 65_535);
 
 const LARGE: Shape = Shape::Number(0, 4_294_967_295);
 
+const AREA: Shape = Shape::Number(4_096, 4_194_304);
+
+const ALIAS: Field = Field::Optional("alias", Shape::Table);
+
+const CATEGORY: Field = Field::Optional("category", Shape::Table);
+
+const IMAGE: Field = Field::Optional("image", Shape::Table);
+
+const SWAP: Field = Field::Optional("swap", Shape::Pair);
+
+const GROUP: Field = Field::Optional("group", Shape::Array);
+
+const GUARD: Field = Field::Optional("expect", Shape::Table);
+
+const OF_SLAVE: Field = Field::Needed("slave", SMALL);
+
 /// A line file.
 pub(crate) const LINE: Form = Form(&[
     Field::Needed("journal", Shape::Text),
-    Field::Optional("area", Shape::Number(4_096, 4_194_304)),
+    Field::Optional("area", AREA),
     Field::Needed("slave", Shape::Array),
 ]);
 
@@ -55,28 +71,13 @@ pub(crate) const SLAVE: Form = Form(&[Field::Needed("image", Shape::Text)]);
 pub(crate) const SCRIPT: Form = Form(&[Field::Needed("command", Shape::Array)]);
 
 /// A command of a script, which has one of these keys.
-pub(crate) const COMMAND: Form = Form(&[
-    Field::Optional("alias", Shape::Table),
-    Field::Optional("swap", Shape::Pair),
-    Field::Optional("category", Shape::Table),
-    Field::Optional("image", Shape::Table),
-    Field::Optional("group", Shape::Array),
-]);
+pub(crate) const COMMAND: Form = Form(&[ALIAS, SWAP, CATEGORY, IMAGE, GROUP]);
 
 /// The kinds of an edit of a group, of which it has one.
-pub(crate) const EDIT_KINDS: Form = Form(&[
-    Field::Optional("alias", Shape::Table),
-    Field::Optional("category", Shape::Table),
-    Field::Optional("image", Shape::Table),
-]);
+pub(crate) const EDIT_KINDS: Form = Form(&[ALIAS, CATEGORY, IMAGE]);
 
 /// An edit of a group.
-pub(crate) const EDIT: Form = Form(&[
-    Field::Optional("alias", Shape::Table),
-    Field::Optional("category", Shape::Table),
-    Field::Optional("image", Shape::Table),
-    Field::Optional("expect", Shape::Table),
-]);
+pub(crate) const EDIT: Form = Form(&[ALIAS, CATEGORY, IMAGE, GUARD]);
 
 /// The identity that an edit expects.
 pub(crate) const EXPECT: Form = Form(&[
@@ -85,23 +86,16 @@ pub(crate) const EXPECT: Form = Form(&[
     Field::Needed("revision", LARGE),
 ]);
 
-/// What an edit expects may stand among its fields.
-const GUARD: Field = Field::Optional("expect", Shape::Table);
-
-/// What stands at the key of each kind of edit.
-pub(crate) const EDITS: &[(&str, Form)] = &[
+/// What stands at the key of each kind of edit. What it expects may stand among its fields.
+pub(crate) const EDITS: [(&str, Form); 3] = [
     (
         "alias",
-        Form(&[
-            Field::Needed("slave", SMALL),
-            Field::Needed("value", SMALL),
-            GUARD,
-        ]),
+        Form(&[OF_SLAVE, Field::Needed("value", SMALL), GUARD]),
     ),
     (
         "category",
         Form(&[
-            Field::Needed("slave", SMALL),
+            OF_SLAVE,
             Field::Needed("kind", SMALL),
             Field::Needed("content", Shape::Words),
             GUARD,
@@ -110,7 +104,7 @@ pub(crate) const EDITS: &[(&str, Form)] = &[
     (
         "image",
         Form(&[
-            Field::Needed("slave", SMALL),
+            OF_SLAVE,
             Field::Needed("file", Shape::Text),
             Field::Optional("replace", Shape::Flag),
             GUARD,
@@ -127,27 +121,17 @@ impl Field {
     }
 }
 
-impl Form {
-    /// Whether it has this key.
-    pub fn has(self, key: &str) -> bool {
-        for field in self.0 {
-            if field.key() == key {
-                return true;
-            }
-        }
-        false
-    }
-}
-
 impl fmt::Display for Form {
     fn fmt<W: fmt::Write>(&self, f: &mut fmt::Formatter<W>) -> fmt::Result {
-        for (place, field) in self.0.iter().enumerate() {
-            let gap = match place {
+        let mut left = self.0.len();
+        for field in self.0 {
+            left = left.saturating_sub(1);
+            let gap = match left {
                 0 => "",
-                _ if place.saturating_add(1) == self.0.len() => " and ",
+                1 => " and ",
                 _ => ", ",
             };
-            write!(f, "{gap}{}", field.key())?;
+            write!(f, "{}{gap}", field.key())?;
         }
         Ok(())
     }
@@ -162,25 +146,17 @@ impl Shape {
             Shape::Flag => value.as_bool().is_some(),
             Shape::Table => value.is_table(),
             Shape::Array => value.is_array(),
-            Shape::Pair => match value.as_array() {
-                Some(values) => {
-                    values.len() == 2 && values.iter().all(|one| is_number(one, 0, 65_535))
-                }
-                None => false,
-            },
-            Shape::Words => match value.as_str() {
-                Some(text) => {
-                    text.len() % 4 == 0 && text.bytes().all(|byte| byte.is_ascii_hexdigit())
-                }
-                None => false,
-            },
+            Shape::Pair => value.as_array().is_some_and(|values| {
+                values.len() == 2 && values.iter().all(|one| is_number(one, 0, 65_535))
+            }),
+            Shape::Words => value.as_str().is_some_and(|text| {
+                text.len() % 4 == 0 && text.bytes().all(|byte| byte.is_ascii_hexdigit())
+            }),
         }
     }
 }
 
 fn is_number(value: &Value, least: i64, most: i64) -> bool {
-    match value.as_integer() {
-        Some(number) => least <= number && number <= most,
-        None => false,
-    }
+    let number = value.as_integer();
+    number.is_some_and(|number| least <= number && number <= most)
 }

@@ -55,10 +55,6 @@ fn digits_of(alloc: Global, text: &str) -> Result<Vec<u8>, AllocError>
 }
 
 /// Reads words of two bytes each, low byte first, with two hexadecimal digits of either case for each byte. No character is skipped.
-///
-/// # Errors
-///
-/// `BadHex` where the text is not pairs of hexadecimal digits, or has an odd number of bytes; `Memory` at any point.
 pub(crate) fn read_hex_words(alloc: Global, text: &str) -> Result<Vec<u16>, HexFault>
     ensures { Reads HexFault.Memory (λ words. words.items) (λ words. decode_of text.now ≡ Ok (bytes_of words)) result }
 {

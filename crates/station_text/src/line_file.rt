@@ -9,8 +9,8 @@ ghost use Rattle.station_text.specs.LineText.{AreImages, Describes, IsArea, Name
 ghost use Rattle.station_text.specs.Reading.{Reads};
 
 use crate::document::{find, find_text, find_values, has_only, read_document};
-use crate::fault::ValueFault;
-use crate::flaws::{TextKind, TextTrouble, trouble_of};
+use crate::fault::{ValueFault, needed};
+use crate::flaws::{TextTrouble, trouble_of};
 use sii_words::MAX_SLAVES;
 use std::alloc::Global;
 use thiserror::Error;
@@ -60,8 +60,7 @@ pub fn read_line(alloc: Global, text: &str) -> Result<LineFile, LineFault>
         Ok(line) => Ok(line),
         Err(ValueFault::Memory) => Err(LineFault::Memory),
         Err(ValueFault::Malformed | ValueFault::BadCommand(_)) => {
-            let trouble = trouble_of(alloc, text, TextKind::Line);
-            Err(LineFault::BadLine(trouble.ok()))
+            Err(LineFault::BadLine(trouble_of(alloc, text, None).ok()))
         }
     }
 }
@@ -96,10 +95,8 @@ fn line_of(alloc: Global, table: &Table) -> Result<LineFile, ValueFault>
 fn read_name(alloc: Global, table: &Table, key: &str) -> Result<String, ValueFault>
     ensures { Reads ValueFault.Memory (λ name. name) (λ name. text_at key.now (table_view table.now) ≡ Some (string_bytes name)) result }
 {
-    match find_text(table, key) {
-        Some(name) => Ok(String::from_str(alloc, name)?),
-        None => Err(ValueFault::Malformed),
-    }
+    let name = needed!(find_text(table, key));
+    Ok(String::from_str(alloc, name)?)
 }
 
 fn read_area(table: &Table) -> Result<u32, ValueFault>
@@ -108,10 +105,7 @@ fn read_area(table: &Table) -> Result<u32, ValueFault>
     let Some(value) = find(table, "area") else {
         return Ok(DEFAULT_AREA);
     };
-    let Some(area) = value.as_integer() else {
-        return Err(ValueFault::Malformed);
-    };
-    match u32::try_from(area) {
+    match u32::try_from(needed!(value.as_integer())) {
         Ok(area @ 4_096..=4_194_304) => Ok(area),
         _ => Err(ValueFault::Malformed),
     }
@@ -121,10 +115,7 @@ fn read_images(alloc: Global, table: &Table) -> Result<Vec<String>, ValueFault>
     ensures { Reads ValueFault.Memory (λ images. images.items) (λ images.
         IsSomeAnd (values_at (codes "slave") (table_view table.now)) (λ slaves. AreImages slaves images)) result }
 {
-    match find_values(table, "slave") {
-        Some(slaves) => read_image_names(alloc, slaves),
-        None => Err(ValueFault::Malformed),
-    }
+    read_image_names(alloc, needed!(find_values(table, "slave")))
 }
 
 /// The image file names of 1 to 64 slaves.

@@ -2,79 +2,50 @@
 
 use std::alloc::{AllocError, Global};
 
-/// What a byte of a text belongs to.
-#[derive(Clone, Copy)]
-enum Within {
-    Code,
-    Comment,
-    /// A string between `"`.
-    Basic,
-    /// The byte after a `\` in such a string.
-    Escape,
-    /// A string between `'`.
-    Literal,
-}
-
 /// A part of a text, in bytes: from an offset on, to before another.
 #[derive(Clone, Copy)]
 pub(crate) struct Part<'t> {
-    text: &'t [u8],
+    text: &'t str,
     /// Where it begins; `None` for the whole text.
     pub from: Option<usize>,
     to: usize,
 }
 
-impl Within {
-    fn after(self, byte: u8) -> Within {
-        match (self, byte) {
-            (Within::Code, b'#') => Within::Comment,
-            (Within::Code, b'"') => Within::Basic,
-            (Within::Code, b'\'') => Within::Literal,
-            (Within::Basic, b'\\') => Within::Escape,
-            (Within::Basic, b'"') => Within::Code,
-            (Within::Literal, b'\'') => Within::Code,
-            (Within::Escape, _) => Within::Basic,
-            (_, b'\n') => Within::Code,
-            _ => self,
-        }
+/// What a byte leaves open: the byte that began a string or a comment, `\` where the next byte of a string is escaped, or 0 in code.
+fn left_open(open: u8, byte: u8) -> u8 {
+    match (open, byte) {
+        (0, b'#' | b'"' | b'\'') | (b'"', b'\\') => byte,
+        (b'\\', _) => b'"',
+        (b'"', b'"') | (b'\'', b'\'') | (_, b'\n') => 0,
+        _ => open,
     }
 }
 
 /// The text with a blank for each byte of a string or a comment. A string of several lines is taken for code from its second line on.
-///
-/// # Errors
-///
-/// Memory was refused.
-pub(crate) fn blanked(alloc: Global, text: &[u8]) -> Result<Vec<u8>, AllocError> {
-    let mut within = Within::Code;
-    let mut bytes = Vec::with_capacity(alloc, text.len())?;
-    for byte in text {
-        within = within.after(*byte);
-        let is_kept = matches!(within, Within::Code) || *byte == b'\n';
-        bytes.push(if is_kept { *byte } else { b' ' })?;
+pub(crate) fn blanked(alloc: Global, text: &str) -> Result<String, AllocError> {
+    let mut open = 0;
+    let mut blanked = String::with_capacity(alloc, text.len())?;
+    for byte in text.bytes() {
+        open = left_open(open, byte);
+        let is_kept = byte.is_ascii() && (open == 0 || byte == b'\n');
+        blanked.push(if is_kept { char::from(byte) } else { ' ' })?;
     }
-    Ok(bytes)
+    Ok(blanked)
 }
 
 /// The number of the line, from 1, that has the byte at this offset.
 pub fn line_at(text: &[u8], at: usize) -> usize {
-    let mut line = 1usize;
-    for byte in text.iter().take(at) {
-        if *byte == b'\n' {
-            line = line.saturating_add(1);
-        }
-    }
-    line
+    let before = text.iter().take(at).filter(|byte| **byte == b'\n');
+    before.count().saturating_add(1)
 }
 
 impl<'t> Part<'t> {
     /// The whole of a text.
-    pub(crate) fn entire(text: &'t [u8]) -> Part<'t> {
-        let to = text.len();
+    pub(crate) fn entire(text: &'t str) -> Part<'t> {
         Part {
             text,
             from: None,
-            to,
+            to: text.len(),
         }
     }
 
@@ -84,15 +55,11 @@ impl<'t> Part<'t> {
 
     /// The part from the key on; the same part where the key isn't found.
     pub(crate) fn from_key(self, key: &str) -> Part<'t> {
-        for at in self.start()..self.to {
-            if stands_at(self.text, at, key.as_bytes()) {
-                return Part {
-                    from: Some(at),
-                    ..self
-                };
-            }
+        let found = (self.start()..self.to).find(|at| stands_at(self.text, *at, key));
+        Part {
+            from: found.or(self.from),
+            ..self
         }
-        self
     }
 
     /// The part of the entry `index`, from 0, of the array at a key: a table below a header `[[key]]`, or a value between brackets.
@@ -115,15 +82,9 @@ impl<'t> Part<'t> {
 
     /// Where the header `[[key]]`, or `[[other.key]]`, stands for the time `index`, from 0.
     fn header_at(self, key: &str, index: usize) -> Option<usize> {
-        let mut passed = 0usize;
-        for at in self.start()..self.to {
-            let is_header = is_header_at(self.text, at, key.as_bytes());
-            if is_header && passed == index {
-                return Some(at);
-            }
-            passed = passed.saturating_add(usize::from(is_header));
-        }
-        None
+        let mut headers = (self.start()..self.to).filter(|at| header_key(self.text, *at)
+            == Some(key));
+        headers.nth(index)
     }
 
     /// Where value `index`, from 0, of the first array in the part begins.
@@ -131,25 +92,17 @@ impl<'t> Part<'t> {
         let mut depth = 0usize;
         let mut commas = 0usize;
         for at in self.start()..self.to {
-            let byte = self.text.get(at).copied().unwrap_or(0);
-            let is_begin = match byte {
-                b'[' | b'{' => {
-                    depth = depth.saturating_add(1);
-                    depth == 1
-                }
-                b',' if depth == 1 => {
-                    commas = commas.saturating_add(1);
-                    true
-                }
+            let byte = *self.text.as_bytes().get(at)?;
+            depth = match byte {
+                b'[' | b'{' => depth.saturating_add(1),
                 b']' | b'}' if depth <= 1 => return None,
-                b']' | b'}' => {
-                    depth = depth.saturating_sub(1);
-                    false
-                }
-                _ => false,
+                b']' | b'}' => depth.saturating_sub(1),
+                _ => depth,
             };
-            if is_begin && commas == index {
-                return Some(after_blanks(self.text, at.saturating_add(1)));
+            commas = commas.saturating_add(usize::from(byte == b',' && depth == 1));
+            if depth == 1 && commas == index && matches!(byte, b'[' | b'{' | b',') {
+                let after = self.text.get(at.saturating_add(1)..)?;
+                return Some(self.text.len().saturating_sub(after.trim_start().len()));
             }
         }
         None
@@ -157,72 +110,22 @@ impl<'t> Part<'t> {
 }
 
 /// Whether a key stands at an offset: its name, with no other letter of a name before it, and `=`, `.` or `]` after it.
-fn stands_at(text: &[u8], at: usize, key: &[u8]) -> bool {
+fn stands_at(text: &str, at: usize, key: &str) -> bool {
     let (Some(before), Some(rest)) = (text.get(..at), text.get(at..)) else {
         return false;
     };
-    match (before.last(), rest.strip_prefix(key)) {
-        (Some(byte), Some(after)) => !is_of_name(*byte) && is_end_of_key(after),
-        (None, Some(after)) => is_end_of_key(after),
-        _ => false,
-    }
+    let is_begin = !before.ends_with(|c: char| c.is_ascii_alphanumeric() || c == '_' || c == '-');
+    is_begin
+        && rest.strip_prefix(key).is_some_and(|after| {
+            after
+                .trim_start_matches([' ', '\t'])
+                .starts_with(['=', '.', ']'])
+        })
 }
 
-/// Whether a byte may stand in the name of a key.
-fn is_of_name(byte: u8) -> bool {
-    byte.is_ascii_alphanumeric() || byte == b'_' || byte == b'-'
-}
-
-/// Whether a key ends before these bytes.
-fn is_end_of_key(after: &[u8]) -> bool {
-    for byte in after {
-        match byte {
-            b' ' | b'\t' => {}
-            _ => return matches!(byte, b'=' | b'.' | b']'),
-        }
-    }
-    false
-}
-
-/// Whether a header of this key stands at an offset: `[[`, and before the next `]` the key, as the last name of a dotted one.
-fn is_header_at(text: &[u8], at: usize, key: &[u8]) -> bool {
-    let Some(rest) = text.get(at..) else {
-        return false;
-    };
-    let Some(names) = rest.strip_prefix(b"[[") else {
-        return false;
-    };
-    let mut from = 0usize;
-    for (end, byte) in names.iter().enumerate() {
-        match byte {
-            b']' => return is_name_at(names, from, key),
-            b'.' => from = end.saturating_add(1),
-            b' ' if from == end => from = end.saturating_add(1),
-            _ => {}
-        }
-    }
-    false
-}
-
-/// Whether the name at an offset, which ends before a blank or a `]`, is this key.
-fn is_name_at(names: &[u8], from: usize, key: &[u8]) -> bool {
-    let Some(name) = names.get(from..) else {
-        return false;
-    };
-    match name.strip_prefix(key) {
-        Some(after) => matches!(after.first(), Some(b' ' | b']')),
-        None => false,
-    }
-}
-
-/// The offset of the first byte from here on that is neither a blank nor the end of a line.
-fn after_blanks(text: &[u8], at: usize) -> usize {
-    let mut after = at;
-    for byte in text.iter().skip(at) {
-        if !byte.is_ascii_whitespace() {
-            return after;
-        }
-        after = after.saturating_add(1);
-    }
-    after
+/// The key of the header at an offset: `[[`, and before the next `]` the key, as the last name of a dotted one.
+fn header_key(text: &str, at: usize) -> Option<&str> {
+    let (names, _) = text.get(at..)?.strip_prefix("[[")?.split_once(']')?;
+    let name = names.rsplit('.').next()?.trim_start_matches(' ');
+    Some(name.split_once(' ').map_or(name, |(name, _)| name))
 }

@@ -12,7 +12,7 @@ use crate::document::{
     find, find_flag, find_number, find_table, find_text, find_values, find_wide_number, has_only,
     read_number,
 };
-use crate::fault::ValueFault;
+use crate::fault::{ValueFault, needed};
 use crate::hexadecimal::read_hex_words;
 use sii_edit::{Expect, WordList};
 use std::alloc::Global;
@@ -69,17 +69,10 @@ pub struct ScriptGroupEdit {
 }
 
 /// Reads a command: a table with one key, which names the kind of the command. An edit that expects an identity is a group of one.
-///
-/// # Errors
-///
-/// `Malformed` where the value is not a table of this form; `Memory` at any point.
 pub(crate) fn read_command(alloc: Global, value: &Value) -> Result<ScriptCommand, ValueFault>
     ensures { Reads ValueFault.Memory (λ command. command) (SpellsCommand (view value.now)) result }
 {
-    match value.as_table() {
-        Some(table) => read_table_command(alloc, table),
-        None => Err(ValueFault::Malformed),
-    }
+    read_table_command(alloc, needed!(value.as_table()))
 }
 
 #[tactic(auto, using(crate::proofs::ScriptRefusals::one_plain, crate::proofs::ScriptRefusals::one_guarded, crate::proofs::ScriptRefusals::expect_beside))]
@@ -87,10 +80,8 @@ fn read_table_command(alloc: Global, table: &Table) -> Result<ScriptCommand, Val
     ensures { Reads ValueFault.Memory (λ command. command) (SpellsTableCommand (table_view table.now)) result }
 {
     if has_only(table, &["swap"]) {
-        return match read_swap(table) {
-            Some((a, b)) => Ok(ScriptCommand::Swap { a, b }),
-            None => Err(ValueFault::Malformed),
-        };
+        let (a, b) = needed!(read_swap(table));
+        return Ok(ScriptCommand::Swap { a, b });
     }
     if has_only(table, &["group"]) {
         return Ok(ScriptCommand::Group(read_group(alloc, table)?));
@@ -131,10 +122,7 @@ fn read_pair(a: &Value, b: &Value) -> Option<(u16, u16)>
 fn read_group(alloc: Global, table: &Table) -> Result<Vec<ScriptGroupEdit>, ValueFault>
     ensures { Reads ValueFault.Memory (λ edits. edits.items) (SpellsGroup (table_view table.now)) result }
 {
-    match find_values(table, "group") {
-        Some(values) => read_group_edits(alloc, values),
-        None => Err(ValueFault::Malformed),
-    }
+    read_group_edits(alloc, needed!(find_values(table, "group")))
 }
 
 fn read_group_edits(alloc: Global, values: &[Value]) -> Result<Vec<ScriptGroupEdit>, ValueFault>
@@ -151,10 +139,7 @@ fn read_group_edits(alloc: Global, values: &[Value]) -> Result<Vec<ScriptGroupEd
 fn read_group_edit(alloc: Global, value: &Value) -> Result<ScriptGroupEdit, ValueFault>
     ensures { Reads ValueFault.Memory (λ one. one) (SpellsGroupEdit (view value.now)) result }
 {
-    match value.as_table() {
-        Some(table) => read_guarded_edit(alloc, table),
-        None => Err(ValueFault::Malformed),
-    }
+    read_guarded_edit(alloc, needed!(value.as_table()))
 }
 
 fn read_guarded_edit(alloc: Global, table: &Table) -> Result<ScriptGroupEdit, ValueFault>
@@ -184,10 +169,7 @@ fn read_guard(table: &Table) -> Result<Option<Expect>, ValueFault>
 fn read_identity(guard: &Value) -> Result<Option<Expect>, ValueFault>
     ensures { Reads ValueFault.Memory (λ expect. expect) (SpellsGuard (Some (view guard.now))) result }
 {
-    match read_expect(guard) {
-        Some(expect) => Ok(Some(expect)),
-        None => Err(ValueFault::Malformed),
-    }
+    Ok(Some(needed!(read_expect(guard))))
 }
 
 /// The value at the key `expect` among the fields of the edit.
@@ -250,16 +232,13 @@ fn read_alias(table: &Table) -> Result<ScriptEdit, ValueFault>
     ensures { Reads ValueFault.Memory (λ edit. edit) (λ edit.
         IsSomeAnd (table_at (codes "alias") (table_view table.now)) (λ fields. SpellsAlias fields edit)) result }
 {
-    let Some(fields) = find_table(table, "alias") else {
-        return Err(ValueFault::Malformed);
-    };
+    let fields = needed!(find_table(table, "alias"));
     if !has_only(fields, &["slave", "value", "expect"]) {
         return Err(ValueFault::Malformed);
     }
-    match (find_number(fields, "slave"), find_number(fields, "value")) {
-        (Some(slave), Some(value)) => Ok(ScriptEdit::Alias { slave, value }),
-        _ => Err(ValueFault::Malformed),
-    }
+    let slave = needed!(find_number(fields, "slave"));
+    let value = needed!(find_number(fields, "value"));
+    Ok(ScriptEdit::Alias { slave, value })
 }
 
 /// Reads `category = { slave = 0, kind = 51, content = "0016" }`. The content is the bytes of whole words, low byte first.
@@ -267,19 +246,13 @@ fn read_category(alloc: Global, table: &Table) -> Result<ScriptEdit, ValueFault>
     ensures { Reads ValueFault.Memory (λ edit. edit) (λ edit.
         IsSomeAnd (table_at (codes "category") (table_view table.now)) (λ fields. SpellsCategory fields edit)) result }
 {
-    let Some(fields) = find_table(table, "category") else {
-        return Err(ValueFault::Malformed);
-    };
+    let fields = needed!(find_table(table, "category"));
     if !has_only(fields, &["slave", "kind", "content", "expect"]) {
         return Err(ValueFault::Malformed);
     }
-    let (Some(slave), Some(kind), Some(content)) = (
-        find_number(fields, "slave"),
-        find_number(fields, "kind"),
-        find_text(fields, "content"),
-    ) else {
-        return Err(ValueFault::Malformed);
-    };
+    let slave = needed!(find_number(fields, "slave"));
+    let kind = needed!(find_number(fields, "kind"));
+    let content = needed!(find_text(fields, "content"));
     let words = WordList::from_vec(read_hex_words(alloc, content)?);
     Ok(ScriptEdit::Category { slave, kind, words })
 }
@@ -289,19 +262,13 @@ fn read_image_edit(alloc: Global, table: &Table) -> Result<ScriptEdit, ValueFaul
     ensures { Reads ValueFault.Memory (λ edit. edit) (λ edit.
         IsSomeAnd (table_at (codes "image") (table_view table.now)) (λ fields. SpellsImage fields edit)) result }
 {
-    let Some(fields) = find_table(table, "image") else {
-        return Err(ValueFault::Malformed);
-    };
+    let fields = needed!(find_table(table, "image"));
     if !has_only(fields, &["slave", "file", "replace", "expect"]) {
         return Err(ValueFault::Malformed);
     }
-    let (Some(slave), Some(name), Some(replace)) = (
-        find_number(fields, "slave"),
-        find_text(fields, "file"),
-        find_flag(fields, "replace"),
-    ) else {
-        return Err(ValueFault::Malformed);
-    };
+    let slave = needed!(find_number(fields, "slave"));
+    let name = needed!(find_text(fields, "file"));
+    let replace = needed!(find_flag(fields, "replace"));
     let file = String::from_str(alloc, name)?;
     Ok(ScriptEdit::Image {
         slave,

@@ -6,8 +6,8 @@ ghost use Rattle.station_text.specs.Reading.{Reads};
 ghost use Rattle.station_text.specs.ScriptText.{SpellsCommand, SpellsScript, SpellsScriptFile};
 
 use crate::document::{find_values, has_only, read_document};
-use crate::fault::ValueFault;
-use crate::flaws::{TextKind, TextTrouble, trouble_of};
+use crate::fault::{ValueFault, needed};
+use crate::flaws::{TextTrouble, trouble_of};
 use crate::script_command::{ScriptCommand, read_command};
 use std::alloc::Global;
 use thiserror::Error;
@@ -49,7 +49,7 @@ pub fn read_script(alloc: Global, text: &str) -> Result<Vec<ScriptCommand>, Scri
 
 /// The fault for a text that is no script, whose first bad command has this place, from 0.
 fn bad_script(alloc: Global, text: &str, command: usize) -> ScriptFault {
-    let trouble = trouble_of(alloc, text, TextKind::Script(command)).ok();
+    let trouble = trouble_of(alloc, text, Some(command)).ok();
     ScriptFault::BadScript { command, trouble }
 }
 
@@ -67,10 +67,7 @@ fn commands_of(alloc: Global, table: &Table) -> Result<Vec<ScriptCommand>, Value
     if !has_only(table, &["command"]) {
         return Err(ValueFault::Malformed);
     }
-    match find_values(table, "command") {
-        Some(values) => read_commands(alloc, values),
-        None => Err(ValueFault::Malformed),
-    }
+    read_commands(alloc, needed!(find_values(table, "command")))
 }
 
 fn read_commands(alloc: Global, values: &[Value]) -> Result<Vec<ScriptCommand>, ValueFault>

@@ -1,101 +1,90 @@
-//! What is wrong in a line file or a script, in the order in which it is read.
+//! What is wrong in a line file or a script, in the order in which it is read. The text's strings and comments are blanked.
 
-use crate::document::find_table;
-use crate::flaws::{Flaw, Spot, array_at, validate_entry, validate_table};
-use crate::forms::{COMMAND, EDIT, EDIT_KINDS, EDITS, EXPECT, Form, LINE, SCRIPT, SLAVE};
+use crate::flaws::{Flaw, Found, Spot};
+use crate::forms::{
+    COMMAND, EDIT, EDIT_KINDS, EDITS, EXPECT, Field, Form, LINE, SCRIPT, SLAVE, Shape,
+};
 use crate::places::Part;
 use sii_words::MAX_SLAVES;
 use toml::{Table, Value};
 
-/// Validates a line file with this document. The text's strings and comments are blanked.
-pub(crate) fn validate_line<'a>(text: Part<'_>, table: &'a Table) -> Result<(), Spot<'a>> {
+/// What is validated, or what is wrong with it.
+type Validated<'a, T> = Result<T, Spot<'a>>;
+
+/// Validates a line file with this document.
+pub(crate) fn validate_line<'a>(text: Part<'_>, table: &'a Table) -> Validated<'a, ()> {
     validate_table(text, table, LINE)?;
-    let Some(slaves) = array_at(table, "slave") else {
-        return Ok(());
-    };
+    let slaves = array_at(table, "slave");
     if slaves.is_empty() || slaves.len() > MAX_SLAVES {
         return Err(Flaw::Slaves(slaves.len()).within(text));
     }
-    for index in 0..slaves.len() {
-        validate_entry(text.entry("slave", index), &slaves[index], SLAVE)?;
+    for (index, slave) in slaves.iter().enumerate() {
+        validate_entry(text.entry("slave", index), slave, SLAVE)?;
     }
     Ok(())
 }
 
-/// Validates a script with this document, whose first bad command is the one of this place, from 0. The text's strings and comments are blanked.
+/// Validates a script with this document, whose first bad command is the one of this place, from 0.
 pub(crate) fn validate_script<'a>(
     text: Part<'_>,
     table: &'a Table,
     command: usize,
-) -> Result<(), Spot<'a>> {
+) -> Validated<'a, ()> {
     validate_table(text, table, SCRIPT)?;
-    let Some(commands) = array_at(table, "command") else {
-        return Ok(());
-    };
-    match commands.get(command) {
+    match array_at(table, "command").get(command) {
         Some(value) => validate_command(text.entry("command", command), value),
         None => Ok(()),
     }
 }
 
 /// Validates the command that stands in this part of a text, in the order in which it is read.
-fn validate_command<'a>(part: Part<'_>, command: &'a Value) -> Result<(), Spot<'a>> {
-    let table = match validate_entry(part, command, COMMAND) {
-        Err(
-            Spot {
-                flaw: Flaw::Unknown("expect", _),
-                ..
-            },
-        ) => return Err(Flaw::Beside.within(part)),
-        validated => validated?,
-    };
+fn validate_command<'a>(part: Part<'_>, command: &'a Value) -> Validated<'a, ()> {
+    let validated = validate_entry(part, command, COMMAND);
+    if let Err(
+        Spot {
+            flaw: Flaw::Unknown("expect", _),
+            ..
+        },
+    ) = validated
+    {
+        return Err(Flaw::Beside.within(part));
+    }
+    let table = validated?;
     validate_kinds(part, table, COMMAND)?;
-    match array_at(table, "group") {
-        Some(edits) => {
-            for index in 0..edits.len() {
-                validate_group_edit(part.entry("group", index), &edits[index])?;
-            }
-            Ok(())
-        }
-        None => validate_edit(part, table),
+    for (index, edit) in array_at(table, "group").iter().enumerate() {
+        let part = part.entry("group", index);
+        let table = validate_entry(part, edit, EDIT)?;
+        validate_fields(part, table, "expect", EXPECT)?;
+        validate_kinds(part, table, EDIT_KINDS)?;
+        validate_edit(part, table)?;
     }
-}
-
-/// Refuses a table that has none of the keys of this form, or two of them.
-fn validate_kinds<'a>(part: Part<'_>, table: &Table, form: Form) -> Result<(), Spot<'a>> {
-    let mut found = None;
-    for field in form.0 {
-        let key = field.key();
-        match found {
-            _ if !table.contains_key(key) => {}
-            None => found = Some(key),
-            Some(one) => return Err(Flaw::Two(one, key).within(part)),
-        }
-    }
-    match found {
-        Some(_) => Ok(()),
-        None => Err(Flaw::NoneOf(form).within(part)),
-    }
-}
-
-/// Validates an edit of a group: first what it expects.
-fn validate_group_edit<'a>(part: Part<'_>, edit: &'a Value) -> Result<(), Spot<'a>> {
-    let table = validate_entry(part, edit, EDIT)?;
-    validate_fields(part, table, "expect", EXPECT)?;
-    validate_kinds(part, table, EDIT_KINDS)?;
     validate_edit(part, table)
 }
 
+/// Refuses a table that has none of the keys of this form, or two of them.
+fn validate_kinds<'a>(part: Part<'_>, table: &Table, form: Form) -> Validated<'a, ()> {
+    let mut found = form
+        .0
+        .iter()
+        .map(|field| field.key())
+        .filter(|key| table.contains_key(*key));
+    match (found.next(), found.next()) {
+        (None, _) => Err(Flaw::NoneOf(form).within(part)),
+        (Some(one), Some(other)) => Err(Flaw::Two(one, other).within(part)),
+        _ => Ok(()),
+    }
+}
+
 /// Validates the fields of the edit that a table has, and what stands at `expect` among them.
-fn validate_edit<'a>(part: Part<'_>, table: &'a Table) -> Result<(), Spot<'a>> {
+fn validate_edit<'a>(part: Part<'_>, table: &'a Table) -> Validated<'a, ()> {
     for (key, form) in EDITS {
-        validate_fields(part, table, key, *form)?;
-        if let Some(fields) = find_table(table, key) {
-            if fields.contains_key("expect") && table.contains_key("expect") {
-                return Err(Flaw::Twice.within(part));
-            }
-            validate_fields(part.from_key(key), fields, "expect", EXPECT)?;
+        let Some(fields) = validate_fields(part, table, key, form)? else {
+            continue;
+        };
+        if fields.contains_key("expect") && table.contains_key("expect") {
+            return Err(Flaw::Twice.within(part));
         }
+        validate_fields(part.from_key(key), fields, "expect", EXPECT)?;
     }
     Ok(())
 }
@@ -106,9 +95,45 @@ fn validate_fields<'a>(
     table: &'a Table,
     key: &str,
     form: Form,
-) -> Result<(), Spot<'a>> {
-    if let Some(fields) = table.get(key) {
-        validate_entry(part.from_key(key), fields, form)?;
+) -> Validated<'a, Option<&'a Table>> {
+    let Some(fields) = table.get(key) else {
+        return Ok(None);
+    };
+    Ok(Some(validate_entry(part.from_key(key), fields, form)?))
+}
+
+/// Validates the entry of an array, which has to be a table of this form and stands in this part of a text.
+fn validate_entry<'a>(part: Part<'_>, value: &'a Value, form: Form) -> Validated<'a, &'a Table> {
+    let Some(table) = value.as_table() else {
+        return Err(Flaw::NoTable(Found::of(value, Shape::Table)).within(part));
+    };
+    validate_table(part, table, form)?;
+    Ok(table)
+}
+
+/// Validates a table of this form, in this part of a text. Its first flaw is an unknown key, else the first key in the form's order that is missing
+/// or has a value of another shape.
+fn validate_table<'a>(part: Part<'_>, table: &'a Table, form: Form) -> Validated<'a, ()> {
+    let is_known = |key: &String| form.0.iter().any(|field| field.key() == key.as_str());
+    if let Some(key) = table.keys().find(|key| !is_known(key)) {
+        return Err(Flaw::Unknown(key.as_str(), form).within(part));
+    }
+    for field in form.0 {
+        match (table.get(field.key()), *field) {
+            (Some(value), Field::Needed(key, shape) | Field::Optional(key, shape)) => {
+                if !shape.fits(value) {
+                    return Err(Flaw::Wrong(key, Found::of(value, shape), shape).within(part));
+                }
+            }
+            (None, Field::Needed(key, _)) => return Err(Flaw::Missing(key).within(part)),
+            (None, Field::Optional(..)) => {}
+        }
     }
     Ok(())
+}
+
+/// The values of the array at a key; none where there is no array.
+fn array_at<'a>(table: &'a Table, key: &str) -> &'a [Value] {
+    let array = table.get(key).and_then(|value| value.as_array());
+    array.map_or(&[], |values| values.as_slice())
 }

@@ -2,7 +2,6 @@
 #![tactic(auto)]
 
 mod noting;
-mod shown;
 mod telling;
 
 pub use noting::Noting;

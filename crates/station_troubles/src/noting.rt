@@ -1,11 +1,11 @@
 //! A store that keeps what was noted last, and why the last call failed, if it did.
 ghost use Rattle.std.specs.Prelude.{◌≡◌};
 
-use crate::shown::Shown;
+use command_line::{INPUT, TYPED};
 use station_files::{Entry, Location, LockFault, Place, Store};
 use station_listing::Code;
 use std::alloc::{AllocError, Global};
-use std::fmt::Display;
+use std::fmt::{self, Display};
 use std::io;
 use thiserror::Error;
 
@@ -68,15 +68,36 @@ impl Notes {
 
     /// Keeps why a call on the file of this name failed, or forgets why an earlier one did.
     fn end(&mut self, name: &str, failed: Option<Why>) {
-        let is_of_call = match &self.last {
-            Some(note) => note.is_of_call(),
-            None => false,
-        };
+        let is_of_call = self.last.as_ref().is_some_and(|note| note.is_of_call());
         match failed {
             Some(Why::Busy) => self.keep(Code::Busy, Place::File(name), &Why::Busy),
             Some(why) => self.keep(Code::File, Place::File(name), &why),
             None if is_of_call => self.last = None,
             None => {}
+        }
+    }
+}
+
+/// A place, as it is printed before what is wrong there. The name of a file stands between quotes, on one line whatever it has. `INPUT` is
+/// standard input, and `TYPED` the commands after `-e`.
+#[derive(Clone, Copy)]
+struct Shown<'a> {
+    place: Place<'a>,
+}
+
+impl fmt::Display for Shown<'_> {
+    fn fmt<W: fmt::Write>(&self, f: &mut fmt::Formatter<W>) -> fmt::Result {
+        match self.place {
+            Place::Named => Ok(()),
+            // (a command is the second of its two lines)
+            Place::Line(name, line) if name == TYPED => {
+                write!(f, "-e number {}: ", line / 2 + line % 2)
+            }
+            Place::Line(name, line) if name == INPUT => write!(f, "standard input, line {line}: "),
+            Place::Line(name, line) => write!(f, "{name:?}, line {line}: "),
+            Place::File(name) if name == TYPED => f.write_str("the commands of -e: "),
+            Place::File(name) if name == INPUT => f.write_str("standard input: "),
+            Place::File(name) => write!(f, "{name:?}: "),
         }
     }
 }

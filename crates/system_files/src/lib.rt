@@ -7,4 +7,4 @@ mod replacing;
 mod streams;
 
 pub use file_store::{FileStore, SystemFile};
-pub use streams::{Text, hold_streams};
+pub use streams::{hold_streams, open_text};

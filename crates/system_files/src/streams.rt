@@ -1,7 +1,8 @@
 //! The standard streams of a program that was started without some of them, and where its text goes where its standard output is a wire.
 
+use either::Either;
 use std::fs::{File, Files, OpenOptions};
-use std::io::{self, Write};
+use std::io;
 use std::os::fd::AsRawFd;
 
 /// Opens the null device for each of the descriptors 0, 1 and 2 that is closed, for as long as the files live that are returned. Else a file that
@@ -26,45 +27,18 @@ pub fn hold_streams<R: Files<File = File>>(files: &R) -> io::Result<[Option<File
     Ok(held)
 }
 
-/// Where the text goes.
-#[derive(Drop)]
-pub enum Text<E> {
-    /// To this file, after what it has.
-    File(File),
-    /// To this stream.
-    Stream(E),
-}
-
-impl<E: Write + Drop> Text<E> {
-    /// The file of this name, to add text to it; or this stream.
-    ///
-    /// # Errors
-    ///
-    /// The file isn't there, or can't be written.
-    pub fn open<R: Files<File = File>>(
-        files: &R,
-        name: Option<&str>,
-        stream: E,
-    ) -> io::Result<Text<E>> {
-        let Some(name) = name else {
-            return Ok(Text::Stream(stream));
-        };
-        Ok(Text::File(OpenOptions::new().append(true).open(files, name)?))
-    }
-}
-
-impl<E: Write> Write for Text<E> {
-    fn write(&mut self, bytes: &[u8]) -> io::Result<usize> {
-        match self {
-            Text::File(file) => file.write(bytes),
-            Text::Stream(stream) => stream.write(bytes),
-        }
-    }
-
-    fn flush(&mut self) -> io::Result<()> {
-        match self {
-            Text::File(file) => file.flush(),
-            Text::Stream(stream) => stream.flush(),
-        }
+/// The file of this name, to add text to it; or this stream.
+///
+/// # Errors
+///
+/// The file isn't there, or can't be written.
+pub fn open_text<R: Files<File = File>, E: Drop>(
+    files: &R,
+    name: Option<&str>,
+    stream: E,
+) -> io::Result<Either<File, E>> {
+    match name {
+        Some(name) => Ok(Either::Left(OpenOptions::new().append(true).open(files, name)?)),
+        None => Ok(Either::Right(stream)),
     }
 }

@@ -74,42 +74,33 @@ pub enum WireFault {
     Station(Fault),
 }
 
-/// How a fault is printed.
-#[derive(Clone, Copy)]
-enum Printed {
-    /// As this fault of the station.
-    Station(Fault),
-    /// As one that the station doesn't have: its code, and the number after it.
-    Wire(Code, Option<usize>),
-}
-
-/// How it is printed that a line can't be brought up.
-fn printed_line(fault: LineFault) -> Printed {
+/// The code with which it is printed that a line can't be brought up, and the number after it.
+fn printed_line(fault: LineFault) -> (Code, Option<usize>) {
     let (code, slave) = match fault {
-        LineFault::Memory => return Printed::Station(Fault::Memory),
-        LineFault::Silent => return Printed::Wire(Code::Silent, None),
-        LineFault::NoSlaves => return Printed::Wire(Code::NoSlaves, None),
+        LineFault::Memory => return (Code::Memory, None),
+        LineFault::Silent => return (Code::Silent, None),
+        LineFault::NoSlaves => return (Code::NoSlaves, None),
         LineFault::TooManySlaves { slaves } => (Code::TooManySlaves, slaves),
         LineFault::Unaddressed { slave } | LineFault::SharedAddress { slave, .. } => {
             (Code::StationAddress, slave)
         }
         LineFault::Slave { slave, why } => match why {
-            SlaveFault::Dead(_) => return Printed::Station(Fault::SlaveDead { slave }),
+            SlaveFault::Dead(_) => (Code::SlaveDead, slave),
             SlaveFault::Held => (Code::Held, slave),
             SlaveFault::Smaller { .. } => (Code::SmallerChip, slave),
         },
     };
-    Printed::Wire(code, Some(usize::from(slave)))
+    (code, Some(usize::from(slave)))
 }
 
-/// How it is printed that a site has stopped.
-fn printed_stop(reason: StopReason) -> Printed {
+/// The same of a site that has stopped.
+fn printed_stop(reason: StopReason) -> (Code, Option<usize>) {
     match reason {
-        StopReason::Journal => Printed::Station(Fault::Disk),
-        StopReason::Silent => Printed::Wire(Code::Silent, None),
-        StopReason::Differs { slave, .. } => Printed::Wire(Code::Differs, Some(slave)),
-        StopReason::WordFailed { slave } => Printed::Wire(Code::WordFailed, Some(slave)),
-        StopReason::NotOneDatagram { slave } => Printed::Wire(Code::NotForWire, Some(slave)),
+        StopReason::Journal => (Code::Disk, None),
+        StopReason::Silent => (Code::Silent, None),
+        StopReason::Differs { slave, .. } => (Code::Differs, Some(slave)),
+        StopReason::WordFailed { slave } => (Code::WordFailed, Some(slave)),
+        StopReason::NotOneDatagram { slave } => (Code::NotForWire, Some(slave)),
     }
 }
 
@@ -159,72 +150,70 @@ fn word_of(seen: &LineSeen, slave: usize) -> Option<OpenWord> {
 }
 
 impl WireFault {
-    fn printed(self) -> Printed {
+    /// The code that the fault is printed with, and the number after it; of one of the station the code alone.
+    fn printed(self) -> (Code, Option<usize>) {
         let (code, number) = match self {
-            WireFault::Station(fault) => return Printed::Station(fault),
+            WireFault::Station(fault) => return (fault.code(), None),
             WireFault::Line(fault) => return printed_line(fault),
             WireFault::Stopped { reason, .. } => return printed_stop(reason),
-            WireFault::Unwritten { slave, .. } => return Printed::Station(Fault::SlaveDead {
-                slave,
-            }),
+            WireFault::NotOne { .. } => return (Code::NoSlave, None),
+            WireFault::Unwritten { slave, .. } => (Code::SlaveDead, usize::from(slave)),
             WireFault::OtherCount { slaves } => (Code::OtherCount, slaves),
             WireFault::UnknownSize { slave, .. } => (Code::UnknownSize, slave),
             WireFault::Running { slave } => (Code::Running, slave),
             WireFault::Held { slave } => (Code::Held, slave),
             WireFault::OtherSize { command, .. } => (Code::OtherSize, command),
             WireFault::OtherDevice { slave, .. } => (Code::OtherDevice, slave),
-            WireFault::NotOne { .. } => return Printed::Wire(Code::NoSlave, None),
             WireFault::OtherWords { slave, .. } => (Code::OtherWords, slave),
             WireFault::NothingPending { slave } => (Code::NothingPending, slave),
         };
-        Printed::Wire(code, Some(number))
+        (code, Some(number))
     }
 
     /// The code that the fault is printed with.
     pub fn code(self) -> Code {
-        match self.printed() {
-            Printed::Station(fault) => fault.code(),
-            Printed::Wire(code, _) => code,
-        }
+        self.printed().0
     }
 
     /// The exit status for this fault: that of the station's fault, 1 where no slave, or several, are meant, 3 where a file is another line's or
-    /// isn't for this line, and 4 for any other.
+    /// isn't for this line, 5 where memory was refused, and 4 for any other.
     pub fn status(self) -> ExitStatus {
-        match self.printed() {
-            Printed::Station(fault) => fault.status(),
-            Printed::Wire(Code::NoSlave, _) => ExitStatus::Refused,
-            Printed::Wire(
+        match (self, self.code()) {
+            (WireFault::Station(fault), _) => fault.status(),
+            (_, Code::NoSlave) => ExitStatus::Refused,
+            (
+                _,
                 Code::OtherCount
                 | Code::OtherSize
                 | Code::SmallerChip
                 | Code::OtherDevice
                 | Code::OtherWords
                 | Code::NothingPending,
-                _,
             ) => ExitStatus::File,
-            Printed::Wire(..) => ExitStatus::Device,
+            (_, Code::Memory) => ExitStatus::Memory,
+            _ => ExitStatus::Device,
         }
     }
 }
 
 impl fmt::Display for WireFault {
     fn fmt<W: fmt::Write>(&self, f: &mut fmt::Formatter<W>) -> fmt::Result {
-        match (self.printed(), self) {
-            (Printed::Station(fault), _) => fault.fmt(f),
-            (
-                Printed::Wire(code, Some(slave)),
-                WireFault::Stopped {
-                    reason: StopReason::Differs { what, .. },
-                    ..
-                },
-            ) => write!(f, "fault {code} {slave} ({what})"),
-            (Printed::Wire(code, _), WireFault::NotOne { .. }) => write!(f, "refused {code}"),
-            (Printed::Wire(code, Some(slave)), WireFault::OtherWords { difference, .. }) => {
-                write!(f, "fault {code} {slave} ({difference})")
-            }
-            (Printed::Wire(code, Some(number)), _) => write!(f, "fault {code} {number}"),
-            (Printed::Wire(code, None), _) => write!(f, "fault {code}"),
+        let (code, number) = self.printed();
+        match self {
+            WireFault::Station(fault) => return fault.fmt(f),
+            WireFault::NotOne { .. } => return write!(f, "refused {code}"),
+            _ => write!(f, "fault {code}")?,
+        }
+        if let Some(number) = number {
+            write!(f, " {number}")?;
+        }
+        match self {
+            WireFault::OtherWords { difference, .. } => write!(f, " ({difference})"),
+            WireFault::Stopped {
+                reason: StopReason::Differs { what, .. },
+                ..
+            } => write!(f, " ({what})"),
+            _ => Ok(()),
         }
     }
 }

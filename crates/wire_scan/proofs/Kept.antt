@@ -1,7 +1,8 @@
 -- What a backup does to files, as they are judged and written.
-use Rattle.std.proofs.Common.{◌≡◌, ◌≢◌, ◌⊎◌, ℕ, ◌+◌, ◌<◌, List, Option, Some, None, Err, IfNone, IfSome, IsSome, IsSomeAnd, length, map, take}
+use Rattle.std.proofs.Common.{◌≡◌, ◌≢◌, ◌⊎◌, ℕ, ◌+◌, ◌<◌, List, Option, Some, None, Result, Ok, Err, IfNone, IfSome, IsSome, IsSomeAnd, length, map, take}
 use Rattle.std.proofs.Common.{get_or, String, Global, string_bytes, refl, sym, ap, subst, ◌∙◌, inl, inr}
 use Rattle.std.specs.List.{AllZip}
+use Rattle.std.specs.Prelude.{IsErrAnd}
 use Rattle.std.proofs.lemmas.List.{map_more, take_more}
 use Rattle.sii_words.proofs.Quantifiers.{zip_snoc}
 use Rattle.station_files.specs.FileNames.{IsLineSeparate, spelt}
@@ -50,6 +51,11 @@ pub unchanged : (fault : WireFault) (old new : Known) (name : List ℕ) → new 
 unchanged fault old new name same =
     let P : Known → Type 0 = λ files. Backs (Err fault) old files name in
     subst P (sym same) (record { kept = λ n bytes is. is; unwritten = λ early. refl; done = tt })
+
+-- the same, where the fault of a call is handed on
+pub unchanged_at : (result : Result (Unit {0}) WireFault) (P : WireFault → Type 0) (old new : Known) (name : List ℕ) → IsErrAnd result P → new ≡ old → Backs result old new name
+unchanged_at (Ok done) P old new name gave same = absurd gave
+unchanged_at (Err fault) P old new name gave same = unchanged fault old new name same
 
 -- ---- what is judged
 

@@ -1,5 +1,5 @@
 //! The subcommand `backup`.
-ghost use Rattle.std.specs.Prelude.{◌≡◌, ◌⊎◌, length, map, string_bytes, vec_len, IfErr, IfNone, IfSome, OnOk};
+ghost use Rattle.std.specs.Prelude.{◌≡◌, ◌⊎◌, length, map, string_bytes, vec_len, IfErr, OnOk};
 ghost use Rattle.std.specs.List.{AllZip};
 ghost use Rattle.station_files.specs.Faults.{IsOfStream};
 ghost use Rattle.station_files.specs.FileNames.{IsLineSeparate, spelt};
@@ -7,17 +7,16 @@ ghost use Rattle.station_files.specs.Files.{ChangesAmong, ChangesOnly, HasBytes,
 ghost use Rattle.station_files.specs.LineFiles.{SpellsWords, names_of};
 ghost use Rattle.wire_scan.specs.Backup.{AreDistinct, Backs, HasNoPast, IsBackedUp, IsPlanned, KeepsAll, MayStay};
 
-use crate::beginning::validate_files;
-use crate::measures::{print_measures, validate_measures};
-use crate::plan::{Plan, is_there, plan_backup};
+use crate::plan::{Plan, is_there, plan_backup, validate_images, validate_journal_file};
 use sii_words::Words;
 use station_files::{Fault, Store};
 use std::alloc::Global;
-use std::io::Write;
+use std::io::{self, Write};
 use std::rt::Clock;
-use wire_bringup::{Sizes, bring_up, hand_back};
+use wire_bringup::{FoundLine, Sizes, bring_up, hand_back};
 use wire_faults::WireFault;
-use wire_frames::{NumberedWire, Wire};
+use wire_frames::{LineFault, NumberedWire, Wire};
+use wire_words::{Extent, SizeFound};
 
 /// Brings up the line on this wire, and writes the words of each slave to its image file. The line file `name` says which that is. Where
 /// it isn't there it is written too, after the image files, and then names `STEM-s0.bin`, `STEM-s1.bin` and so on, and `STEM-journal.bin`,
@@ -34,7 +33,7 @@ use wire_frames::{NumberedWire, Wire};
 /// the given ones; as for `load_line` and `keep_line_separate`; `OtherCount` where the line file names another number of slaves; `Exists` for the
 /// first image file that is there with other words, and then for a journal that is there and is that of another number of slaves, or damaged,
 /// or has live batches. Nothing is written up to there. Then `File` or `Memory`, as the store answers.
-#[tactic(auto, using(crate::proofs::Kept::unchanged))]
+#[tactic(auto, using(crate::proofs::Kept::unchanged, crate::proofs::Kept::unchanged_at))]
 pub fn backup_line<R: Clock + AllocGlobal, W: Wire, S: Store, O: Write>(
     rt: &R,
     wire: &mut NumberedWire<W>,
@@ -45,24 +44,12 @@ pub fn backup_line<R: Clock + AllocGlobal, W: Wire, S: Store, O: Write>(
 ) -> Result<(), WireFault>
     ensures { Backs result (S.files store.old) (S.files store.new) name.now }
 {
-    match measured_slaves(rt, wire, sizes, output) {
-        Ok(slaves) => save_backup(rt.alloc(), name, &slaves, store),
-        Err(fault) => Err(fault),
-    }
-}
-
-/// Brings up the line, looks at the sizes that were found, and gives the words of the slaves.
-fn measured_slaves<R: Clock + AllocGlobal, W: Wire, O: Write>(
-    rt: &R,
-    wire: &mut NumberedWire<W>,
-    sizes: &Sizes,
-    output: &mut O,
-) -> Result<Vec<Words>, WireFault> {
     let found = bring_up(rt.alloc(), wire, rt, sizes)?;
     hand_back(wire, &found.states());
     validate_measures(&found, sizes)?;
     print_measures(&found, output)?;
-    Ok(found.into_words(rt.alloc())?)
+    let slaves = found.into_words(rt.alloc())?;
+    save_backup(rt.alloc(), name, &slaves, store)
 }
 
 /// Writes the files of a backup of slaves with these words, as `backup_line` does, if what is there of them may stay.
@@ -70,7 +57,7 @@ fn measured_slaves<R: Clock + AllocGlobal, W: Wire, O: Write>(
 /// # Errors
 ///
 /// As for `backup_line`, after those of the line.
-#[tactic(auto, using(crate::proofs::Kept::unchanged))]
+#[tactic(auto, using(crate::proofs::Kept::unchanged, crate::proofs::Kept::unchanged_at))]
 pub fn save_backup<S: Store>(
     alloc: Global,
     name: &str,
@@ -79,21 +66,16 @@ pub fn save_backup<S: Store>(
 ) -> Result<(), WireFault>
     ensures { Backs result (S.files store.old) (S.files store.new) name.now }
 {
-    let plan = match plan_backup(alloc, name, slaves.len(), store) {
-        Ok(plan) => plan,
-        Err(fault) => return Err(fault),
-    };
-    match validate_files(alloc, &plan.line, slaves, store) {
-        Ok(()) => {}
-        Err(fault) => return Err(WireFault::Station(fault)),
-    }
+    let plan = plan_backup(alloc, name, slaves.len(), store)?;
+    validate_images(alloc, &plan.line.images, slaves, store)?;
+    validate_journal_file(alloc, plan.line.journal.as_str(), slaves, store)?;
     match write_plan(name, &plan, slaves, store) {
         Ok(()) => Ok(()),
         Err(fault) => Err(WireFault::Station(fault)),
     }
 }
 
-/// Writes the files of a plan that aren't there: the image files, and then the line file.
+/// Writes the files of a plan that aren't there: the image files, and then the line file, if it has a text.
 fn write_plan<S: Store>(
     name: &str,
     plan: &Plan,
@@ -110,8 +92,12 @@ fn write_plan<S: Store>(
     ensures failed { IfErr result IsOfStream }
 {
     match write_images(&plan.line.images, slaves, store) {
-        Ok(()) => write_text(name, &plan.text, store),
-        Err(fault) => Err(fault),
+        Ok(()) => {}
+        Err(fault) => return Err(fault),
+    }
+    match &plan.text {
+        Some(text) => write_missing(name, text.as_bytes(), store),
+        None => Ok(()),
     }
 }
 
@@ -132,22 +118,6 @@ fn write_images<S: Store>(images: &[String], slaves: &[Words], store: &mut S) ->
     Ok(())
 }
 
-/// Writes the line file, if it has a text.
-#[tactic(auto, using(crate::proofs::Kept::kept_same))]
-fn write_text<S: Store>(name: &str, text: &Option<String>, store: &mut S) -> Result<(), Fault>
-    ensures kept { KeepsAll (S.files store.old) (S.files store.new) }
-    ensures written { OnOk result (IfSome text.now (λ text.
-        IsAbsent (S.files store.old) name.now → HasBytes (S.files store.new) name.now (string_bytes text))) }
-    ensures unwritten { IfNone text.now (S.files store.new ≡ S.files store.old) }
-    ensures others { ChangesOnly (S.files store.old) (S.files store.new) name.now }
-    ensures failed { IfErr result IsOfStream }
-{
-    match text {
-        Some(text) => write_missing(name, text.as_bytes(), store),
-        None => Ok(()),
-    }
-}
-
 /// Writes a file, where it isn't there.
 #[tactic(auto, using(crate::proofs::Kept::kept_by_one, crate::proofs::Kept::kept_same))]
 pub(crate) fn write_missing<S: Store>(name: &str, bytes: &[u8], store: &mut S) -> Result<(), Fault>
@@ -161,4 +131,50 @@ pub(crate) fn write_missing<S: Store>(name: &str, bytes: &[u8], store: &mut S) -
         store.write(name, bytes)?;
     }
     Ok(())
+}
+
+/// Looks whether each slave can be worked on, and has a size that can be found or was given.
+///
+/// # Errors
+///
+/// For the first slave: `Line` where it can't be worked on, and `UnknownSize` where its words are all alike, and its word 0x3E tells another
+/// size than the words that would be backed up.
+pub fn validate_measures(found: &FoundLine, sizes: &Sizes) -> Result<(), WireFault> {
+    for (slave, each) in (0u16..).zip(&found.slaves) {
+        if let Err(why) = each.words {
+            return Err(WireFault::Line(LineFault::Slave { slave, why }));
+        }
+        let place = usize::from(slave);
+        let is_given = sizes.given.get(place).copied().flatten().is_some();
+        match each.size {
+            Some(size) if !is_given && is_unknown(size) => {
+                return Err(WireFault::UnknownSize {
+                    slave: place,
+                    says: size.says,
+                });
+            }
+            _ => {}
+        }
+    }
+    Ok(())
+}
+
+/// Whether nothing tells how large the EEPROM is.
+fn is_unknown(size: SizeFound) -> bool {
+    size.extent == Extent::Uniform && size.says != u32::from(size.words)
+}
+
+/// Prints a line for each slave whose EEPROM is worked on with another size than its word 0x3E tells.
+pub(crate) fn print_measures<O: Write>(found: &FoundLine, output: &mut O) -> io::Result<()> {
+    for (slave, each) in found.slaves.iter().enumerate() {
+        match each.size {
+            Some(size) if size.says != u32::from(size.words) => {
+                let (words, says) = (size.words, size.says);
+                let larger = if size.is_larger { " larger" } else { "" };
+                writeln!(output, "slave {slave} words {words} says {says}{larger}")?;
+            }
+            _ => {}
+        }
+    }
+    output.flush()
 }

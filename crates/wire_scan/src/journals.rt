@@ -1,7 +1,8 @@
 //! Validates the bytes of a journal's file.
-ghost use Rattle.std.specs.Prelude.{◌≡◌, length, map, IfOk, OnOk};
+ghost use Rattle.std.specs.Prelude.{◌≡◌, length, map, IfErr, IfOk, OnOk};
 ghost use Rattle.jrn_format.specs.Journal.{IsJournal};
 ghost use Rattle.wire_scan.specs.Backup.{IsWithoutPast};
+ghost use Rattle.wire_scan.specs.Opening.{RefusesBytes};
 
 use jrn_format::{Journal, JournalFault, scan};
 use sii_words::Words;
@@ -10,10 +11,6 @@ use station_line::{note_journal, of_journal};
 use std::alloc::{AllocError, Global};
 
 /// Reads these bytes of the file of this name as the journal of a line of slaves with these words.
-///
-/// # Errors
-///
-/// `NotAJournal`, `BadVersion`, `WrongLine` or `BadJournal` where they aren't; `Memory`.
 pub(crate) fn validate_journal<S: Store>(
     alloc: Global,
     name: &str,
@@ -22,6 +19,7 @@ pub(crate) fn validate_journal<S: Store>(
     store: &mut S,
 ) -> Result<Journal, Fault>
     ensures read { IfOk result (IsJournal journal.now (map length slaves.now)) }
+    ensures refused { IfErr result (RefusesBytes journal.now (map length slaves.now)) }
     ensures same { S.files store.new ≡ S.files store.old }
 {
     let sizes = sizes_of(alloc, slaves)?;
@@ -54,9 +52,5 @@ pub fn require_empty(alloc: Global, journal: &[u8], slaves: &[Words]) -> Result<
 pub(crate) fn sizes_of(alloc: Global, slaves: &[Words]) -> Result<Vec<u16>, AllocError>
     ensures { IfOk result (λ sizes. sizes.items ≡ map length slaves.now) }
 {
-    let mut sizes = Vec::new(alloc);
-    for words in slaves {
-        sizes.push(words.len() as u16)?;
-    }
-    Ok(sizes)
+    slaves.iter().map(|words| words.len() as u16).collect(alloc)
 }

@@ -5,9 +5,11 @@ ghost use Rattle.sii_words.specs.Redo.{redone};
 ghost use Rattle.jrn_format.specs.Batch.{IsWithin};
 ghost use Rattle.book_model.specs.Entries.{live_runs};
 ghost use Rattle.station_files.specs.FileNames.{spelt};
+ghost use Rattle.station_files.specs.LineFiles.{RefusesWords};
 ghost use Rattle.station_files.specs.declared.faults.Fault.TheVariants.{Memory};
 ghost use Rattle.wire_scan.specs.Keeping.{AreKept, AreMends, ArePassed, AreRedone, AreSeen, IsEditOf, IsImageOf, IsOwn, IsRefusal, IsSeen, KeepsEach, Mends, MendsAll, may_differ};
 ghost use Rattle.wire_scan.specs.Keeping.{refusal_of, said_of, together, with_edit, wanted_words, with_serial};
+ghost use Rattle.wire_scan.specs.Opening.{RefusesImages};
 
 use crate::asked::{Mend, Mends};
 use crate::plan::is_there;
@@ -18,6 +20,7 @@ use sii_words::{ImageFile, MIN_WORDS, Plant, Words};
 use slave_match::{Difference, Reason, difference_between, is_same_type, reason_of, redo_batches};
 use station_files::{Fault, Store, load_slave};
 use std::alloc::{AllocError, Global};
+use wire_bringup::Sizes;
 use wire_faults::WireFault;
 
 /// A line whose slaves are those of their image files, but for what was said.
@@ -37,6 +40,7 @@ pub(crate) fn load_images<S: Store>(
 ) -> Result<Vec<Option<Words>>, Fault>
     ensures images { IfOk result (λ images. AllZip (IsImageOf (S.files store.old)) (spelt names.now) images.items) }
     ensures count { IfOk result (λ images. length images.items ≡ length names.now) }
+    ensures refused { IfErr result (RefusesImages (S.files store.old) (spelt names.now)) }
     ensures same { S.files store.new ≡ S.files store.old }
 {
     let mut images = Vec::new(alloc);
@@ -52,6 +56,7 @@ pub(crate) fn load_images<S: Store>(
 /// The words of this image file. None where it isn't there.
 fn load_image<S: Store>(alloc: Global, name: &str, store: &mut S) -> Result<Option<Words>, Fault>
     ensures image { IfOk result (IsImageOf (S.files store.old) name.now) }
+    ensures refused { IfErr result (RefusesWords (S.files store.old) name.now) }
     ensures same { S.files store.new ≡ S.files store.old }
 {
     if !is_there(name, store)? {
@@ -60,12 +65,40 @@ fn load_image<S: Store>(alloc: Global, name: &str, store: &mut S) -> Result<Opti
     Ok(Some(load_slave(alloc, name, store)?))
 }
 
-/// Looks whether each slave has the words of its image file, where there is one, outside of those that a recovery with these live batches writes.
-/// What is said of a slave counts in place of that.
+/// The sizes of the slaves with these image files. Of one whose file isn't there nothing is known.
 ///
 /// # Errors
 ///
-/// `OtherWords` for the first slave that has others; `Memory`.
+/// `File` where a file can't be read; `NotAFile`; `OddLength` and `BadSize` where one is no EEPROM image of 64 to 4,096 words, a multiple of
+/// 64; `Memory`.
+pub fn sizes_of_images<S: Store>(
+    alloc: Global,
+    names: &[String],
+    is_trusted: bool,
+    store: &mut S,
+) -> Result<Sizes, Fault>
+    ensures { S.files store.new ≡ S.files store.old }
+{
+    let images = load_images(alloc, names, store)?;
+    Ok(sizes_of(&images, is_trusted))
+}
+
+/// The sizes of the slaves whose image files have these words.
+pub(crate) fn sizes_of(images: &[Option<Words>], is_trusted: bool) -> Sizes {
+    let mut sizes = Sizes {
+        is_trusted,
+        ..Sizes::unknown()
+    };
+    for (slot, image) in sizes.given.iter_mut().zip(images) {
+        if let Some(words) = image {
+            *slot = u16::try_from(words.len()).ok();
+        }
+    }
+    sizes
+}
+
+/// Looks whether each slave has the words of its image file, where there is one, outside of those that a recovery with these live batches writes.
+/// What is said of a slave counts in place of that.
 pub(crate) fn validate_kept(
     alloc: Global,
     slaves: &[Words],
@@ -104,10 +137,6 @@ pub(crate) enum Beside {
 }
 
 /// What is seen of each slave beside its image file, where these batches are live in the journal.
-///
-/// # Errors
-///
-/// `Memory`.
 pub(crate) fn compare_all(
     alloc: Global,
     slaves: &[Words],
@@ -172,11 +201,7 @@ pub(crate) fn recovered(words: Vec<Words>, batches: &[Batch]) -> Plant
     plant
 }
 
-/// Looks whether no slave is refused.
-///
-/// # Errors
-///
-/// `OtherWords` for the first one that is.
+/// Looks whether no slave is refused. `OtherWords` comes for the first one that is.
 fn require_alike(
     slaves: &[Words],
     images: &[Option<Words>],

@@ -3,29 +3,23 @@
 
 mod asked;
 mod backup;
-mod beginning;
 mod journals;
 mod keeping;
-mod measures;
 mod naming;
 mod opening;
 mod pending;
 mod plan;
 mod scan;
-mod scan_beside;
-mod sizes;
 mod validating;
 
 pub use asked::{Mend, Mends, ScanOptions, Tells};
-pub use backup::{backup_line, save_backup};
+pub use backup::{backup_line, save_backup, validate_measures};
 pub use journals::require_empty;
-pub use measures::validate_measures;
+pub use keeping::sizes_of_images;
 pub use naming::{CaptureNames, Named, keep_capture_separate, keep_script_separate};
 pub use opening::{FoundWire, find_line, open_line};
 pub use pending::{PendingOrder, list_pending};
-pub use scan::scan_line;
-pub use scan_beside::scan_files;
-pub use sizes::sizes_of_images;
+pub use scan::{scan_files, scan_line};
 pub use validating::{
     copies_of, validate_commands, validate_image, validate_images, validate_slaves, validate_states,
 };

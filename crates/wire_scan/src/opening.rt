@@ -1,21 +1,20 @@
 //! Finds a line on a wire and its journal in a file, and makes the site of both.
-ghost use Rattle.std.specs.Prelude.{◌≡◌, ◌≤◌, length, map, string_bytes, IfErr, IfOk, OnOk};
+ghost use Rattle.std.specs.Prelude.{◌≡◌, ◌≤◌, ◌⊎◌, length, map, string_bytes, IfErr, IfOk, OnOk};
 ghost use Rattle.sii_words.specs.Words.{bytes_of};
 ghost use Rattle.station_files.specs.Files.{ChangesAmong, HasBytes};
-ghost use Rattle.station_files.specs.FileNames.{IsLineSeparate, spelt};
+ghost use Rattle.station_files.specs.FileNames.{IsLineSeparate, RefusesLineNames, spelt};
 ghost use Rattle.station_files.specs.LineFiles.{SpellsLine, names_of};
 ghost use Rattle.station_files.specs.Faults as station;
 ghost use Rattle.station_line.specs.Validating.{HasJournal};
 ghost use Rattle.station_line.specs.OpenFiles.{AreOpenedAs};
 ghost use Rattle.station_line.specs.Site.{files_of};
 ghost use Rattle.wire_scan.specs.Keeping.{AreMends, AreOfImages, KeepsImages, MendsFiles, MendsImages};
-ghost use Rattle.wire_scan.specs.Opening.{IfOtherWords, IsFound, IsOtherFault, RefusesFound, RefusesRead};
+ghost use Rattle.wire_scan.specs.Opening.{IsFound, IsOfWire, RefusesFound, RefusesLock, RefusesRead};
 
 use crate::asked::{ScanOptions, Tells};
 use crate::backup::write_missing;
 use crate::journals::validate_journal;
-use crate::keeping::{Kept, load_images, validate_kept};
-use crate::sizes::sizes_of;
+use crate::keeping::{Kept, load_images, sizes_of, validate_kept};
 use crate::validating::{validate_slaves, validate_states};
 use sii_edit::Command;
 use sii_words::{MAX_SLAVES, Words};
@@ -79,7 +78,7 @@ pub fn find_line<R: Clock + AllocGlobal, W: Wire, S: Store>(
         MendsFiles (S.files store.old) found.line asked.mends found.journal.items found.slaves.items found.images.items found.mends.items) }
     ensures some { IfOk result (λ found. 1 ≤ length found.slaves.items) }
     ensures most { IfOk result (λ found. length found.slaves.items ≤ 64) }
-    ensures refused { IfErr result (IfOtherWords (RefusesFound (S.files store.old) name.now asked.mends)) }
+    ensures refused { IfErr result (RefusesFound (S.files store.old) S.leads name.now asked.mends) }
     ensures same { S.files store.new ≡ S.files store.old }
 {
     let line = load_line(rt.alloc(), name, store)?;
@@ -92,9 +91,8 @@ pub fn find_line<R: Clock + AllocGlobal, W: Wire, S: Store>(
             let Read {
                 slaves,
                 journal,
-                kept,
+                kept: Kept { images, commands },
             } = read;
-            let Kept { images, commands } = kept;
             Ok(FoundWire {
                 line,
                 slaves,
@@ -122,7 +120,7 @@ fn bring_up_validated<R: Clock + AllocGlobal, W: Wire>(
 ) -> Result<FoundLine, WireFault>
     ensures some { IfOk result (λ found. 1 ≤ length found.slaves.items) }
     ensures most { IfOk result (λ found. length found.slaves.items ≤ 64) }
-    ensures failed { IfErr result IsOtherFault }
+    ensures failed { IfErr result IsOfWire }
 {
     let sizes = sizes_of(images, asked.trusts_images);
     // On a wire that is lent slaves may be in any state, and who has their EEPROMs is looked at as they are opened.
@@ -166,7 +164,7 @@ fn read_found<S: Store>(
     ensures mends { IfOk result (λ read. AreMends asked.mends read.kept.commands.items) }
     ensures mended { IfOk result (λ read.
         MendsImages asked.mends read.journal.items read.slaves.items images.now read.kept.images.items read.kept.commands.items) }
-    ensures refused { IfErr result (IfOtherWords (RefusesRead (S.files store.old) line.now asked.mends images.now)) }
+    ensures refused { IfErr result (RefusesRead (S.files store.old) line.now asked.mends images.now) }
     ensures same { S.files store.new ≡ S.files store.old }
 {
     let slaves = validate_slaves(alloc, found, line.images.len())?;
@@ -194,6 +192,8 @@ fn lock_journal<S: Store>(
     store: &mut S,
 ) -> Result<S::Lock, Fault>
     ensures separate { OnOk result (IsLineSeparate S.leads line.now name.now) }
+    ensures refused { IfErr result (λ fault. RefusesLock (S.files store.old) (string_bytes line.now.journal) fault
+        ⊎ RefusesLineNames S.leads line.now name.now fault) }
     ensures same { S.files store.new ≡ S.files store.old }
 {
     let journal = line.journal.as_str();
@@ -205,13 +205,8 @@ fn lock_journal<S: Store>(
         store.note(fault.code(), Place::File(journal), &Wrong::NotAFile);
         return Err(fault);
     };
-    match keep_line_separate(alloc, line, name, store) {
-        Ok(()) => Ok(lock),
-        Err(fault) => {
-            drop(lock);
-            Err(fault)
-        }
-    }
+    keep_line_separate(alloc, line, name, store)?;
+    Ok(lock)
 }
 
 /// Opens the journal's file, of which these bytes were read, and the image files of slaves with these words, for work on them in place. An image

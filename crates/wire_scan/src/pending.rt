@@ -3,7 +3,7 @@ ghost use Rattle.std.specs.Prelude.{◌≡◌, ◌≤◌, length, None, IfErr, I
 ghost use Rattle.station_files.specs.Faults as station;
 ghost use Rattle.wire_faults.specs.Faults.{IsOfStream};
 ghost use Rattle.wire_faults.specs.declared.faults.WireFault.TheVariants.{NothingPending};
-ghost use Rattle.wire_scan.specs.Opening.{IfOtherWords, IsOtherFault, RefusesFound};
+ghost use Rattle.wire_scan.specs.Opening.{IfOtherWords, IsOtherFault, RefusesSlaveOf};
 ghost use Rattle.wire_scan.specs.Pending.{GivesUp, GivesUpFound, GivesUpPending, IsPending, PendsNothing, WritesImageFirst, WritesInOrder, let_pass};
 
 use crate::asked::{Mend, Mends, ScanOptions};
@@ -17,7 +17,7 @@ use sii_words::Plant;
 use station_files::{Fault, Store};
 use station_line::of_journal;
 use station_rows::{Form, Rows, Value, data, named, said};
-use std::alloc::{AllocError, Global};
+use std::alloc::Global;
 use std::io::Write;
 use std::rt::Clock;
 use wire_bringup::hand_back;
@@ -59,27 +59,22 @@ pub fn list_pending<R: Clock + AllocGlobal, W: Wire, S: Store, O: Write>(
         OnOk result (GivesUp (S.files store.old) (S.files store.new) order.entry.line.now order.entry.asked.mends slave)) }
     ensures first { IfSome order.entry.gives_up (WritesInOrder (S.files store.old) (S.files store.new) order.entry.line.now) }
     ensures refused { IfErr result (λ fault. ¬ IsOfStream fault → S.files store.new ≡ S.files store.old) }
-    ensures words { IfErr result (IfOtherWords (RefusesFound (S.files store.old) order.entry.line.now
+    ensures words { IfErr result (IfOtherWords (RefusesSlaveOf (S.files store.old) order.entry.line.now
         (let_pass order.entry.gives_up order.entry.asked.mends))) }
     ensures passed { order.entry.gives_up ≡ None → IfErr result IsOtherFault }
 {
-    match find_line(rt, wire, order.line, options_of(order), store) {
+    // No slave is refused for other words than those of its image file where nothing is given up, and else all but the one that is.
+    let asked = ScanOptions {
+        is_forced: true,
+        mends: let_pass(order.gives_up, order.asked.mends),
+        ..order.asked
+    };
+    match find_line(rt, wire, order.line, asked, store) {
         Ok(found) => {
             hand_back(wire, &found.states);
             list_found(rt.alloc(), &found, order, store, output)
         }
         Err(fault) => Err(fault),
-    }
-}
-
-/// How the line is found: no slave is refused for other words than those of its image file where nothing is given up, and else all but the one that is.
-fn options_of(order: PendingOrder<'_>) -> ScanOptions
-    ensures { result.mends ≡ let_pass order.entry.gives_up order.entry.asked.mends }
-{
-    ScanOptions {
-        is_forced: true,
-        mends: let_pass(order.gives_up, order.asked.mends),
-        ..order.asked
     }
 }
 
@@ -161,10 +156,8 @@ fn require_pending(pending: &[ChangedWord], slave: u16) -> Result<(), WireFault>
     ensures some { OnOk result (¬ PendsNothing pending.now slave) }
     ensures none { IfErr result (λ fault. (fault ≡ NothingPending slave) × PendsNothing pending.now slave) }
 {
-    for word in pending {
-        if word.slave == slave {
-            return Ok(());
-        }
+    if pending.iter().any(|word| word.slave == slave) {
+        return Ok(());
     }
     Err(WireFault::NothingPending {
         slave: usize::from(slave),
@@ -183,44 +176,27 @@ fn print_pending<O: Write>(
     ensures { IfErr result station.IsOfStream }
 {
     let mut rows = Rows::new(alloc, order.form);
-    for slave in 0..slaves {
-        put_slave(&mut rows, slave as u16, pending, order.gives_up)?;
-    }
-    rows.write(output)
-}
-
-/// Puts a row for a slave, and one for each of its words that are pending.
-fn put_slave(
-    rows: &mut Rows,
-    slave: u16,
-    pending: &[ChangedWord],
-    gives_up: Option<u16>,
-) -> Result<(), AllocError> {
-    let own = pending.iter().filter(|word| word.slave == slave);
-    let is_given_up = gives_up == Some(slave);
-    rows.put(
-        "slave",
-        &[
+    for slave in 0..slaves as u16 {
+        let own = pending.iter().filter(|word| word.slave == slave);
+        let is_given_up = order.gives_up == Some(slave);
+        let row = [
             named("slave", slave),
             named("pending", own.count()),
             said("given up", is_given_up),
             data("given_up", is_given_up),
-        ],
-    )?;
-    for word in pending {
-        if word.slave == slave {
-            rows.put(
-                "pending",
-                &[
-                    named("slave", slave),
-                    named("word", Value::Word(word.at)),
-                    named("has", Value::Word(word.old)),
-                    named("pending", Value::Word(word.new)),
-                ],
-            )?;
+        ];
+        rows.put("slave", &row)?;
+        for word in pending.iter().filter(|word| word.slave == slave) {
+            let row = [
+                named("slave", slave),
+                named("word", Value::Word(word.at)),
+                named("has", Value::Word(word.old)),
+                named("pending", Value::Word(word.new)),
+            ];
+            rows.put("pending", &row)?;
         }
     }
-    Ok(())
+    rows.write(output)
 }
 
 /// Gives a slave up: its image file gets the words that it has, and then the journal's file is replaced by one that has nothing for this slave.

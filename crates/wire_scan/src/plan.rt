@@ -1,10 +1,15 @@
-//! Which files a backup writes.
-ghost use Rattle.std.specs.Prelude.{◌≡◌, vec_len, IfOk, IfSome, IsSome, false, true};
-ghost use Rattle.station_files.specs.FileNames.{IsLineSeparate};
+//! Which files a backup writes, and what may be there of them already.
+ghost use Rattle.std.specs.Prelude.{◌≡◌, length, map, vec_len, IfOk, IfSome, IsSome, OnOk, false, true};
+ghost use Rattle.std.specs.List.{AllZip};
+ghost use Rattle.station_files.specs.FileNames.{IsLineSeparate, spelt};
 ghost use Rattle.station_files.specs.Files.{IsAbsent, Known};
-ghost use Rattle.wire_scan.specs.Backup.{IsPlanned};
+ghost use Rattle.wire_scan.specs.Backup.{HasNoPast, IsPlanned, MayStay};
 
-use station_files::{Entry, Fault, Store, keep_line_separate, load_line};
+use crate::journals::require_empty;
+use sii_words::Words;
+use station_files::{
+    Entry, Fault, MOST_OF_JOURNAL, Place, Store, Wrong, keep_line_separate, load_line, read_file,
+};
 use station_text::{LineFile, read_line};
 use std::alloc::Global;
 use std::io;
@@ -101,4 +106,80 @@ pub(crate) fn new_plan(alloc: Global, name: &str, slaves: usize) -> Result<Plan,
         line,
         text: Some(text),
     })
+}
+
+/// Looks whether each of these image files isn't there, or has the words of its slave. No file changes.
+///
+/// # Errors
+///
+/// `Exists` for the first one that holds anything else; `NotAFile`; `File` where the store fails; `Memory`.
+pub(crate) fn validate_images<S: Store>(
+    alloc: Global,
+    names: &[String],
+    slaves: &[Words],
+    store: &mut S,
+) -> Result<(), Fault>
+    requires { length names.now ≡ length slaves.now }
+    ensures validated { OnOk result (AllZip (MayStay (S.files store.old)) (spelt names.now) slaves.now) }
+    ensures same { S.files store.new ≡ S.files store.old }
+{
+    for slave in 0..names.len() {
+        validate_image(alloc, names[slave].as_str(), &slaves[slave], store)?;
+    }
+    Ok(())
+}
+
+/// Looks whether this image file isn't there, or has these words.
+fn validate_image<S: Store>(
+    alloc: Global,
+    name: &str,
+    words: &Words,
+    store: &mut S,
+) -> Result<(), Fault>
+    ensures validated { OnOk result (MayStay (S.files store.old) name.now words.now) }
+    ensures same { S.files store.new ≡ S.files store.old }
+{
+    if !is_there(name, store)? {
+        return Ok(());
+    }
+    let bytes = words.to_bytes()?;
+    match read_file(alloc, name, bytes.len() as u64, store) {
+        Ok(held) if held.as_slice() == bytes.as_slice() => Ok(()),
+        Ok(_) | Err(Fault::TooLong) => Err(taken(name, store)),
+        Err(fault) => Err(fault),
+    }
+}
+
+/// Looks whether the journal's file isn't there, or `require_empty` takes it. No file changes.
+///
+/// # Errors
+///
+/// The same; `TooLong`.
+pub(crate) fn validate_journal_file<S: Store>(
+    alloc: Global,
+    name: &str,
+    slaves: &[Words],
+    store: &mut S,
+) -> Result<(), Fault>
+    ensures validated { OnOk result (HasNoPast (S.files store.old) name.now (map length slaves.now)) }
+    ensures same { S.files store.new ≡ S.files store.old }
+{
+    if !is_there(name, store)? {
+        return Ok(());
+    }
+    let journal = read_file(alloc, name, MOST_OF_JOURNAL, store)?;
+    match require_empty(alloc, &journal, slaves) {
+        Ok(()) => Ok(()),
+        Err(Fault::Exists) => Err(taken(name, store)),
+        Err(fault) => Err(fault),
+    }
+}
+
+/// The fault for a file of this name that is there with other contents, which is noted.
+fn taken<S: Store>(name: &str, store: &mut S) -> Fault
+    ensures { S.files store.new ≡ S.files store.old }
+{
+    let fault = Fault::Exists;
+    store.note(fault.code(), Place::File(name), &Wrong::Exists);
+    fault
 }

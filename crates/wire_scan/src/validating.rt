@@ -1,7 +1,7 @@
 //! What is looked at once a line is found, before a word is written.
 ghost use Rattle.std.specs.Prelude.{◌≡◌, ◌≤◌, length, IfErr, IfOk, OnOk};
 ghost use Rattle.station_files.specs.Devices.{IsForSlave};
-ghost use Rattle.wire_scan.specs.Opening.{IsOtherFault};
+ghost use Rattle.wire_scan.specs.Opening.{IsOfSlaves, IsOfWire};
 
 use line_changes::resizes;
 use sii_edit::{Command, Edit};
@@ -24,7 +24,7 @@ pub fn validate_slaves(
 ) -> Result<Vec<Words>, WireFault>
     ensures count { IfOk result (λ slaves. length slaves.items ≡ wanted) }
     ensures found { IfOk result (λ slaves. length slaves.items ≡ length found.slaves.items) }
-    ensures failed { IfErr result IsOtherFault }
+    ensures failed { IfErr result (IsOfSlaves wanted) }
 {
     let slaves = found.into_words(alloc)?;
     let count = slaves.len();
@@ -42,7 +42,7 @@ pub fn validate_slaves(
 /// For the first slave of so many: `Running` where it is in Safe-Operational or Operational, and `Held` where its PDI has the EEPROM or is
 /// offered it.
 pub fn validate_states(states: &[SlaveState], slaves: usize) -> Result<(), WireFault>
-    ensures { IfErr result IsOtherFault }
+    ensures { IfErr result IsOfWire }
 {
     for (slave, state) in states.iter().take(slaves).enumerate() {
         if state.is_above_preop() {

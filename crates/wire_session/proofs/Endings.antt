@@ -1,25 +1,14 @@
 -- How the work on a line on a wire ends: what was written before it, and what is told after it.
-use Rattle.std.proofs.Common.{◌≡◌, Result, Ok, Err, IsErrAnd, inl, inr, ap, sym, subst, ◌∙◌}
-use Rattle.std.specs.Prelude.{IfOk}
+use Rattle.std.proofs.Common.{◌≡◌, Result, Ok, Err, IsErrAnd, inl, inr, refl, sym, subst, ◌∙◌}
+use Rattle.std.specs.Prelude.{⊤, IfOk, IsErr}
 use Rattle.std.proofs.lemmas.Result.{IfOk-weaker}
 use Rattle.station_text.specs.declared.line_file.LineFile.{LineFile}
 use Rattle.station_files.specs.Files.{Known, ChangesAmong}
 use Rattle.station_line.specs.Site.{files_of}
 use Rattle.wire_faults.specs.declared.faults.WireFault.{WireFault}
 use Rattle.wire_faults.specs.Faults.{IsOfStream}
-use Rattle.station_files.specs.declared.faults.Fault.{Fault}
-use Rattle.wire_faults.specs.declared.faults.WireFault.TheVariants as wire
-use Rattle.script_session.specs.Saving.{MayFail}
-use Rattle.wire_session.specs.Ending.{EndsOpened, LeavesImages}
+use Rattle.wire_session.specs.Ending.{EndsOpened}
 use Rattle.wire_session.specs.Reporting.{IsExplained, IsReported}
-
--- ---- what follows from what
-
--- a fault with which files are saved
-pub may_fail : (T : Type 0) (fault : Fault) (old new : Known) (line : LineFile) → MayFail old new fault
-    → LeavesImages {T = T} (Err (wire.Station fault)) old new line
-may_fail T fault old new line (inl same) = λ separate. λ other not. ap (λ (files : Known). files other) same
-may_fail T fault old new line (inr failed) = λ separate. absurd (separate failed)
 
 -- ---- the files of the line are opened
 
@@ -73,3 +62,36 @@ pub reported_twice : {T : Type 0} (ended reported result : Result T WireFault) �
 reported_twice {T} ended reported result (inl same) later = subst (λ (it : Result T WireFault). IsReported it result) same later
 reported_twice {T} ended reported result (inr both) (inl same) = inr (both.0, subst (λ (it : Result T WireFault). IsErrAnd it IsOfStream) (sym same) both.1)
 reported_twice {T} ended reported result (inr both) (inr later) = inr (both.0, later.1)
+
+-- a fault stays one, and one of a file or of memory stays such a one
+reported_stays : {T : Type 0} (P : WireFault → Type 0) (explained result : Result T WireFault) → ((fault : WireFault) → IsOfStream fault → P fault)
+    → IsReported explained result → IsErrAnd explained P → IsErrAnd result P
+reported_stays {T} P explained result of_stream (inl same) failed = subst (λ (r : Result T WireFault). IsErrAnd r P) (sym same) failed
+reported_stays P explained (Ok value) of_stream (inr both) failed = absurd both.1
+reported_stays P explained (Err fault) of_stream (inr both) failed = of_stream fault both.1
+
+pub stream_stays : {T : Type 0} (ended explained result : Result T WireFault) → IsExplained ended explained → IsReported explained result
+    → IsErrAnd ended IsOfStream → IsErrAnd result IsOfStream
+stream_stays {T} ended explained result explains reports failed =
+    reported_stays IsOfStream explained result (λ fault stream. stream) reports (first ended explained explains failed)
+  where
+    first : (ended explained : Result T WireFault) → IsExplained ended explained → IsErrAnd ended IsOfStream → IsErrAnd explained IsOfStream
+    first ended explained (inl same) failed = subst (λ (r : Result T WireFault). IsErrAnd r IsOfStream) (sym same) failed
+    first (Ok value) explained (inr never) failed = absurd failed
+    first (Err fault) (Ok value) (inr never) failed = absurd never
+    first (Err fault) (Err other) (inr stream) failed = stream failed
+
+pub fault_stays : {T : Type 0} (ended explained result : Result T WireFault) → IsExplained ended explained → IsReported explained result → IsErr ended
+    → IsErr result
+fault_stays {T} ended explained result explains reports failed =
+    is_fault result (reported_stays (λ fault. ⊤) explained result (λ fault stream. tt) reports (first ended explained explains failed))
+  where
+    first : (ended explained : Result T WireFault) → IsExplained ended explained → IsErr ended → IsErrAnd explained (λ fault. ⊤)
+    first (Ok value) explained explains failed = absurd cc
+    first (Err fault) explained (inl same) failed = subst (λ (r : Result T WireFault). IsErrAnd r (λ fault. ⊤)) (sym same) tt
+    first (Err fault) (Ok value) (inr never) failed = absurd never
+    first (Err fault) (Err other) (inr stream) failed = tt
+
+    is_fault : (result : Result T WireFault) → IsErrAnd result (λ fault. ⊤) → IsErr result
+    is_fault (Ok value) never = absurd never
+    is_fault (Err fault) some = refl

@@ -1,6 +1,6 @@
-mod AfterDesk
 mod Endings
 mod Interleaved
+mod Keeping
 mod Mirrored
 mod Recovering
 mod RunEnds

@@ -1,17 +1,17 @@
 -- What the files hold after a recovery on a wire.
-use Rattle.std.proofs.Common.{◌≡◌, ℕ, List, length, map, Result, Ok, Err, inl, inr, sym, subst, ◌∙◌}
-use Rattle.std.specs.Prelude.{⊤, IfErr, IsSomeAnd, OnOk, string_bytes}
-use Rattle.site_core.specs.State.{State, Seen}
+use Rattle.std.proofs.Common.{◌≡◌, ℕ, List, length, map, Result, Ok, Err, inl, inr, refl, sym, subst, ◌∙◌}
+use Rattle.std.specs.Prelude.{⊤, IfErr, IfOk, IsErr, IsSomeAnd, OnOk, string_bytes}
+use Rattle.site_core.specs.State.{Seen}
 use Rattle.site_shadow.specs.Site.{SiteValue}
 use Rattle.station_alone.specs.Station.{Station}
-use Rattle.station_alone.specs.Recovery.{HasRecovered, BeginsRecovered}
+use Rattle.station_alone.specs.Recovery.{HasRecovered}
 use Rattle.station_text.specs.declared.line_file.LineFile.{LineFile}
 use Rattle.station_files.specs.Files.{Known, HasBytes, ChangesAmong}
 use Rattle.station_files.specs.FileNames.{IsLineSeparate}
 use Rattle.station_files.specs.LineFiles.{SpellsLine, SpellsSlaves}
 use Rattle.station_files.proofs.Loaded.{of_held}
 use Rattle.station_files.specs.Locations.{Leads}
-use Rattle.station_line.specs.Site.{IsSiteOf, files_of, switched_on, HoldsSite}
+use Rattle.station_line.specs.Site.{IsSiteOf, files_of, switched_on}
 use Rattle.wire_faults.specs.declared.faults.WireFault.{WireFault}
 use Rattle.wire_faults.specs.declared.faults.WireFault.TheVariants as wire
 use Rattle.station_line.specs.Init as bench
@@ -24,69 +24,68 @@ use Rattle.wire_scan.specs.Keeping.{AreOfImages}
 use Rattle.wire_scan.specs.Opening.{IsFound}
 use Rattle.wire_scan.specs.declared.asked.Mend.{Mend}
 use Rattle.wire_session.specs.declared.logs.Worked.{Worked}
-use Rattle.wire_session.specs.Recovery.{BeginsJournal, IsBegun, RefusesInit, EndsOpenedRecovery, EndsRecovery, Recovers, SavesRecovered}
-use Rattle.wire_session.specs.Slaves.{SlavesHold}
-use Rattle.station_files.specs.declared.faults.Fault.{Fault}
+use Rattle.wire_session.specs.Keeping.{KeepsRecovered}
+use Rattle.wire_session.specs.Recovery.{BeginsJournal, IsBegun, RefusesInit, EndsOpenedRecovery, Recovers}
+use Rattle.wire_session.specs.Slaves.{AllHold}
 use Rattle.wire_session.specs.Reporting.{IsPrinted}
-use Rattle.script_session.specs.Saving.{MayFail}
-use Rattle.wire_session.specs.Ending.{LeavesImages}
-use Rattle.wire_session.proofs.Endings.{ends_after_open, may_fail}
+use Rattle.station_files.specs.declared.faults.ExitStatus.{ExitStatus}
+use Rattle.script_session.specs.declared.logs.LineLog.{LineLog}
+use Rattle.script_session.specs.declared.running.LineRun.{LineRun}
+use Rattle.script_session.specs.After.{SavesRecovered}
+use Rattle.script_session.specs.Running.{whole_of}
+use Rattle.script_session.proofs.AfterLaws.{saves_weaker}
+use Rattle.script_session.proofs.RunLaws.{of_ended, some_weaker}
+use Rattle.wire_session.proofs.Endings.{ends_after_open}
+use Rattle.wire_session.proofs.RunEnds.{EndsWith, both_ok}
 
 -- ---- the line is recovered
 
-saved_by : (Hold : Station → Type 0) (result : Result (Unit {0}) WireFault) (new : Known) (line : LineFile) (before : Seen) (s : Station) (state : State)
-    → HasRecovered s → BeginsRecovered before s → OnOk result (Hold s) → state ≡ s.seen.state → OnOk result (HoldsSite new line state)
-    → OnOk result (SavesRecovered Hold new line before)
-saved_by Hold (Ok done) new line before s state is_recovered begins slaves is held =
-    record { s = s; recovered = is_recovered; begins = begins; held = subst (λ (x : State). HoldsSite new line x) is held; slaves = slaves }
-saved_by Hold (Err fault) new line before s state is_recovered begins slaves is held = tt
+-- what was recovered is printed, or a fault is told
+pub saves_recovery : {T : Type 0} (Own : Type 0) (Counted : Station → Type 0) (Way : LineLog T → Station → Type 0) (run : LineRun T) (given ended : Result ExitStatus WireFault)
+    (result : Result (Unit {0}) WireFault) (new : Known) (line : LineFile) (before : Seen) → IfOk given (EndsWith run)
+    → IfOk ended (λ status. (given ≡ Ok status) × Own) → IsPrinted ended result
+    → OnOk run.ended (SavesRecovered (λ s. IsSomeAnd (whole_of run.reported.desk run.reported.after) (λ whole. Counted s × Way whole s)) new line before)
+    → IfOk result (λ done. SavesRecovered (λ s. IsSomeAnd (whole_of run.reported.desk run.reported.after) (λ whole. Way whole s)) new line before)
+saves_recovery Own Counted Way run given (Ok status) (Ok done) new line before has is printed saves =
+    let ends : EndsWith run status = subst (λ (r : Result ExitStatus WireFault). IfOk r (EndsWith run)) is.0 has in
+    saves_weaker (λ s recovered way. some_weaker (whole_of run.reported.desk run.reported.after) (λ whole both. both.1) way) (λ s begins. begins)
+    (of_ended _ run.ended ends.so saves)
+saves_recovery Own Counted Way run given (Ok status) (Err fault) new line before has is printed saves = tt
+saves_recovery Own Counted Way run given (Err fault) result new line before has is printed saves =
+    subst (λ (r : Result (Unit {0}) WireFault). IfOk r (λ done. SavesRecovered (λ s. IsSomeAnd (whole_of run.reported.desk run.reported.after)
+    (λ whole. Way whole s)) new line before)) (sym printed) tt
 
-pub ends_recovered : (Hold : Station → Type 0) (result : Result (Unit {0}) WireFault) (old new : Known) (line : LineFile) (before : Seen) (s : Station) (state : State)
-    → HasRecovered s → BeginsRecovered before s → OnOk result (Hold s) → state ≡ s.seen.state
-    → OnOk result (HoldsSite new line state) → ChangesAmong old new (files_of line) → LeavesImages result old new line → EndsRecovery Hold result old new line before
-ends_recovered Hold result old new line before s state is_recovered begins slaves is held others failed = record {
-  others = others;
-  unsaved = failed;
-  saved = saved_by Hold result new line before s state is_recovered begins slaves is held;
-}
+-- what is known where it ended without a fault is so after that
+pub own_printed : (Own : Type 0) (given ended : Result ExitStatus WireFault) (result : Result (Unit {0}) WireFault)
+    → IfOk ended (λ status. (given ≡ Ok status) × Own) → IsPrinted ended result → IfOk result (λ done. Own)
+own_printed Own given (Ok status) (Ok done) own printed = own.1
+own_printed Own given (Ok status) (Err fault) own printed = tt
+own_printed Own given (Err fault) result own printed = subst (λ (r : Result (Unit {0}) WireFault). IfOk r (λ done. Own)) (sym printed) tt
 
--- what is said of what was saved, once it is printed
-pub printed : (P : Type 0) (saved : Result (Unit {0}) Fault) (result : Result (Unit {0}) WireFault) → IsPrinted saved result → OnOk saved P → OnOk result P
-printed P (Ok done) (Ok reported) is holds = holds
-printed P (Ok done) (Err fault) is holds = tt
-printed P (Err fault) result is holds = subst (λ (r : Result (Unit {0}) WireFault). OnOk r P) (sym is) tt
-
-pub printed_leaves : (saved : Result (Unit {0}) Fault) (result : Result (Unit {0}) WireFault) (old new : Known) (line : LineFile) → IsPrinted saved result
-    → IfErr saved (MayFail old new) → LeavesImages result old new line
-printed_leaves (Ok done) (Ok reported) old new line is may = tt
-printed_leaves (Ok done) (Err fault) old new line is may = λ separate. absurd (separate is)
-printed_leaves (Err fault) result old new line is may =
-    subst (λ (r : Result (Unit {0}) WireFault). LeavesImages r old new line) (sym is) (may_fail (Unit {0}) fault old new line may)
+pub fails_printed : (ended : Result ExitStatus WireFault) (result : Result (Unit {0}) WireFault) → IsPrinted ended result → IsErr ended → IsErr result
+fails_printed (Ok status) result printed failed = absurd cc
+fails_printed (Err fault) result printed failed = subst (λ (r : Result (Unit {0}) WireFault). IsErr r) (sym printed) refl
 
 -- ---- the files of the line are opened
 
-pub recovers_opened : (Before After : Station → Type 0) (result : Result (Unit {0}) WireFault) (old mid new : Known) (line : LineFile) (plant : List (List ℕ))
-    (bytes : List ℕ) (site : SiteValue) → ChangesAmong old mid (files_of line) → IsSiteOf plant bytes site
-    → ((s : Station) → HasRecovered s → Before s → After s) → EndsRecovery Before result mid new line site.seen
-    → EndsOpenedRecovery After result old new line (switched_on plant bytes)
-recovers_opened Before After result old mid new line plant bytes site others made says ends =
-    ends_after_open (λ done. SavesRecovered Before new line site.seen) (λ done. SavesRecovered After new line (switched_on plant bytes)) result old mid new line others
-    (λ done saves. subst (λ (seen : Seen). SavesRecovered After new line seen) made.seen (record {
-      s = saves.s;
-      recovered = saves.recovered;
-      begins = saves.begins;
-      held = saves.held;
-      slaves = says saves.s saves.recovered saves.slaves;
-    })) ends.others ends.saved
+pub recovers_opened : {Own : Type 0} (Before After : Station → Type 0) (result : Result (Unit {0}) WireFault) (old mid new : Known) (line : LineFile)
+    (plant : List (List ℕ)) (bytes : List ℕ) (site : SiteValue) → ChangesAmong old mid (files_of line) → IsSiteOf plant bytes site
+    → ((s : Station) → HasRecovered s → Own → Before s → After s) → ChangesAmong mid new (files_of line) → IfOk result (λ done. Own)
+    → IfOk result (λ done. SavesRecovered Before new line site.seen) → EndsOpenedRecovery After result old new line (switched_on plant bytes)
+recovers_opened {Own} Before After result old mid new line plant bytes site opened made says others own saved =
+    ends_after_open (λ done. Own × SavesRecovered Before new line site.seen) (λ done. SavesRecovered After new line (switched_on plant bytes)) result old mid
+    new line opened
+    (λ done saves. subst (λ (seen : Seen). SavesRecovered After new line seen) made.seen
+    (saves_weaker (λ s recovered way. says s recovered saves.0 way) (λ s begins. begins) saves.1)) others (both_ok (λ done. Own) (λ done. SavesRecovered Before new line site.seen) result own saved)
 
 -- ---- the whole
 
-pub recovers : (worked : Worked (Unit {0}) WireLog) (said : List Mend) (leads : Leads) (old found new : Known) (name : List ℕ) (line : LineFile) (plant : List (List ℕ)) (bytes : List ℕ) → IsFound old name line plant bytes
+pub recovers : (F : Type 0) (worked : Worked (Unit {0}) WireLog) (said : List Mend) (leads : Leads) (old found new : Known) (name : List ℕ) (line : LineFile) (plant : List (List ℕ)) (bytes : List ℕ) → IsFound old name line plant bytes
     → HasJournal (map length plant) bytes → AreOfImages old line said bytes plant → IsLineSeparate leads line name → found ≡ old
-    → EndsOpenedRecovery (λ s. IsSomeAnd worked.reported (SlavesHold plant s)) worked.ended found new line (switched_on plant bytes) → Recovers worked said leads old new name
-recovers worked said leads old found new name line plant bytes given validated kept separate same ends =
-    let P : Known → Type 0 = λ files. EndsOpenedRecovery (λ s. IsSomeAnd worked.reported (SlavesHold plant s)) worked.ended files new line (switched_on plant bytes) in
-    inr (record { line = line; plant = plant; bytes = bytes; found = given; validated = validated; kept = kept; separate = separate; ends = subst P same ends })
+    → EndsOpenedRecovery (AllHold plant worked.reported) worked.ended found new line (switched_on plant bytes) → KeepsRecovered F worked plant bytes → Recovers F worked said leads old new name
+recovers F worked said leads old found new name line plant bytes given validated kept separate same ends keeps =
+    let P : Known → Type 0 = λ files. EndsOpenedRecovery (AllHold plant worked.reported) worked.ended files new line (switched_on plant bytes) in
+    inr (record { line = line; plant = plant; bytes = bytes; found = given; validated = validated; kept = kept; separate = separate; ends = subst P same ends; keeps = keeps })
 
 -- ---- init
 

@@ -5,11 +5,9 @@ use Rattle.std.specs.List.{AllByRecursion}
 use Rattle.std.proofs.lemmas.List.{length-map}
 use Rattle.std.proofs.lemmas.Option.{slice_get_within, slice_get-get_or}
 use Rattle.site_core.specs.Line.{Line}
-use Rattle.esc_model.specs.SlaveHalf.{SlaveHalf, powered_up, MayLeave}
+use Rattle.esc_model.specs.SlaveHalf.{SlaveHalf, powered_up}
 use Rattle.esc_model.specs.Orders.{station}
-use Rattle.esc_model.proofs.Resting.{MayLeave-same}
-use Rattle.site_core.specs.State.{Seen, Pair, EachMayLeave}
-use Rattle.site_core.specs.Times.{Follows}
+use Rattle.site_core.specs.State.{Seen, Pair}
 use Rattle.site_core.proofs.StopImages.{StopImage-same}
 use Rattle.site_shadow.specs.Site.{SiteValue}
 use Rattle.site_wire.specs.After.{IsAfter}
@@ -25,22 +23,20 @@ use Rattle.site_wire.specs.declared.device.WireDevice.{WireDevice}
 use Rattle.site_wire.proofs.AmendedLaws.{brought_up_is_after}
 use Rattle.site_wire.proofs.Behind.{slaves_are_behind}
 use Rattle.site_wire.proofs.Living.{lives_parts, lives_station}
+use Rattle.kept_wire.proofs.InJobs.{left_with}
 use Rattle.kept_files.proofs.Extending.{first_stays}
-use Rattle.kept_files.proofs.AtDeskOnFiles.{worked_follows}
 use Rattle.book_model.specs.Book.{base_of}
 use Rattle.station_alone.specs.Station.{Station}
 use Rattle.station_alone.specs.Recovery.{HasRecovered}
 use Rattle.station_jobs.specs.declared.log.SlaveLog.{SlaveLog}
 use Rattle.station_jobs.specs.Ends.{Stay}
-use Rattle.station_threads.specs.Parts.{IsEndOfSlave}
 use Rattle.script_session.specs.declared.logs.PartLog.{PartLog}
-use Rattle.script_session.specs.Parts.{AreReportedOf, BeginsWith, EndsWith}
-use Rattle.station_jobs.specs.Working.{IsWorked}
+use Rattle.script_session.specs.Parts.{AreReportedOf}
 use Rattle.station_line.specs.Site.{IsFollowed, powered_up_from, switched_on}
 use Rattle.script_session.specs.AtDesk.{IsServedReported}
 use Rattle.script_session.specs.Saving.{KeepsReported}
 use Rattle.script_session.proofs.SavingLaws.{keeps_reported}
-use Rattle.script_session.proofs.SlaveLaws.{placed-at}
+use Rattle.script_session.proofs.ThreeDevices.{HasLed, LedSlave, led_slave}
 use Rattle.script_session.specs.declared.logs.LineLog.{LineLog}
 use Rattle.script_session.specs.Running.{EndsReported}
 use Rattle.wire_session.specs.Interleaving.{Interleaves}
@@ -60,29 +56,7 @@ powered_at at (first ∷ plant) zero words here =
 powered_at at (first ∷ plant) (suc slave) words here =
     subst (λ (n : ℕ). slice_get (powered_up_from (at + 1) plant) slave ≡ Some (powered_up words n)) (omega arith) (powered_at (at + 1) plant slave words here)
 
--- what is told of a part that ended soundly, and of whose device it is told
-record ReportedAt {D T : Type 0} (follows : D → Seen → Type 0) (well : D → Type 0) (tells : D → T → Type 0) (reported : List (PartLog T)) (k : ℕ)
-    (end : Stay SiteValue SlaveLog) : Type 0 where
-  part : PartLog T
-  here : slice_get reported k ≡ Some part
-  worked : IsWorked end.log.slave end.log.jobs end.start.seen end.site.seen
-  followed : IsFollowed (KeepsReported follows well tells part.reported) end.site.seen
-
 module _ {D T : Type 0} (follows : D → Seen → Type 0) (well : D → Type 0) (tells : D → T → Type 0) where
-  reported_at : (reported : List (PartLog T)) (ends : List (Stay SiteValue SlaveLog)) (k : ℕ) (end : Stay SiteValue SlaveLog)
-      → AreReportedOf follows well tells reported ends → AllByRecursion (λ (part : PartLog T). IsTrue part.is_sound) reported → slice_get ends k ≡ Some end
-      → ReportedAt follows well tells reported k end
-  reported_at [] [] k end are sound here = absurd cc
-  reported_at [] (e ∷ ends) k end are sound here = absurd are
-  reported_at (part ∷ reported) [] k end are sound here = absurd are
-  reported_at (part ∷ reported) (e ∷ ends) zero end are sound here =
-      let same : e ≡ end = cc in
-      subst (ReportedAt follows well tells (part ∷ reported) zero) same
-      (record { part = part; here = refl; worked = are.0.worked; followed = keeps_reported follows well tells part e.site.seen sound.0 are.0.followed })
-  reported_at (part ∷ reported) (e ∷ ends) (suc k) end are sound here =
-      let later = reported_at reported ends k end are.1 sound.1 here in
-      record { part = later.part; here = later.here; worked = later.worked; followed = later.followed }
-
   -- the device of a part of which this is told
   reported_of : (reported : List (PartLog T)) (ends : List (Stay SiteValue SlaveLog)) (k : ℕ) (part : PartLog T) → AreReportedOf follows well tells reported ends
       → AllByRecursion (λ (one : PartLog T). IsTrue one.is_sound) reported → slice_get reported k ≡ Some part
@@ -99,27 +73,6 @@ module _ {D T : Type 0} (follows : D → Seen → Type 0) (well : D → Type 0) 
   reported_of (one ∷ reported) (e ∷ ends) (suc k) part are sound here = reported_of reported ends k part are.1 sound.1 here
 
 -- WHAT A POWER CUT LEAVES
-
--- The words of all slaves, with those of one as a power cut may leave them.
-record LeftWith (halves : List SlaveHalf) (slave : ℕ) (left : List ℕ) : Type 0 where
-  words : List (List ℕ)
-  each : EachMayLeave halves words
-  here : slice_get words slave ≡ Some left
-
-left_same : (halves : List SlaveHalf) → (words : List (List ℕ)) × EachMayLeave halves words
-left_same [] = ([], tt)
-left_same (half ∷ halves) = let rest = left_same halves in (half.words ∷ rest.0, (MayLeave-same half, rest.1))
-
-left_with : (halves : List SlaveHalf) (slave : ℕ) (half : SlaveHalf) (left : List ℕ) → slice_get halves slave ≡ Some half → MayLeave half left
-    → LeftWith halves slave left
-left_with [] slave half left here may = absurd cc
-left_with (first ∷ halves) zero half left here may =
-    let same : first ≡ half = cc in
-    let rest = left_same halves in
-    record { words = left ∷ rest.0; each = (subst (λ (h : SlaveHalf). MayLeave h left) (sym same) may, rest.1); here = refl }
-left_with (first ∷ halves) (suc slave) half left here may =
-    let rest = left_with halves slave half left here may in
-    record { words = first.words ∷ rest.words; each = (MayLeave-same first, rest.each); here = rest.here }
 
 -- Of a station that has recovered each slave after its half has the contents.
 holds_contents : (s : Station) (slave : ℕ) (half later : SlaveHalf) → HasRecovered s → slice_get s.seen.state.halves slave ≡ Some half → IsAfter half later
@@ -172,26 +125,25 @@ goes_thrice slave a b c d first second third one two three =
 
 -- devices that have a device on a wire inside
 module _ {L F C D : Type 0} (within : D → WireDevice L F C) where
-  abbrev follows : D → Seen → Type 0
+  abbrev pub follows : D → Seen → Type 0
   follows device seen = WireFollows (within device) seen
 
-  abbrev well : D → Type 0
+  abbrev pub well : D → Type 0
   well device = (within device).is_over ≡ false
 
-  abbrev tells : D → WireLog → Type 0
+  abbrev pub tells : D → WireLog → Type 0
   tells device reported = TellsWire (within device) reported
 
   -- one device, from the first call of its site on
-  one_device : (slave : ℕ) (before now : Seen) (first half : SlaveHalf) (reported : WireLog) → before.past ≡ [] → Follows before now
-      → IsFollowed (KeepsReported follows well tells reported) now
-      → slice_get before.state.halves slave ≡ Some first → slice_get now.state.halves slave ≡ Some half → GoesOn slave first half (exchanges reported.sent)
-  one_device slave before now first half reported new goes followed at_first at_now =
-      let kept : WireFollows (within followed.0) now = followed.1.0.0 in
-      let slaves = slaves_are_behind L F C (within followed.0) now kept in
-      let log : exchanges reported.sent ≡ slaves.log = ap exchanges followed.1.1.sent ∙ slaves.has in
+  one_device : (slave : ℕ) (first half : SlaveHalf) (reported : WireLog) → HasLed follows well tells slave first half reported
+      → GoesOn slave first half (exchanges reported.sent)
+  one_device slave first half reported led =
+      let kept : WireFollows (within led.followed.0) led.now = led.followed.1.0.0 in
+      let slaves = slaves_are_behind L F C (within led.followed.0) led.now kept in
+      let log : exchanges reported.sent ≡ slaves.log = ap exchanges led.followed.1.1.sent ∙ slaves.has in
       λ real later station_is after lives.
-      slaves.follow followed.1.0.1 followed.1.0.2 slave first half real later
-      (ap (λ state. slice_get state.halves slave) (first_stays before now new goes) ∙ at_first) at_now station_is after
+      slaves.follow led.followed.1.0.1 led.followed.1.0.2 slave first half real later
+      (ap (λ state. slice_get state.halves slave) (first_stays led.before led.now led.new led.goes) ∙ led.at_first) led.at_now station_is after
       (subst (λ (l : List Exchanged). Lives l real later) log lives)
 
   -- a device that was sound has sent to the slaves of its part alone
@@ -206,50 +158,17 @@ module _ {L F C D : Type 0} (within : D → WireDevice L F C) where
   module _ (turns : Bool) (site : SiteValue) (slaves : ℕ) (s : Station) (reported : LineLog WireLog) (new : site.seen.past ≡ [])
       (followed : EndsReported follows well tells turns site slaves reported s.seen) where
     abbrev opened : Station
-    opened = followed.leads.opened
+    opened = followed.opened
 
-    abbrev left : SiteValue
-    left = followed.leads.after.left
+    abbrev served : IsServedReported follows well tells turns opened reported.desk followed.desk.left
+    served = followed.desk.served
 
-    abbrev served : IsServedReported follows well tells turns opened reported.desk left
-    served = followed.leads.after.served
-
-    -- what is told of the device of a slave's part
-    part_at : (slave : ℕ) → slave < length opened.seen.state.halves
-        → (part : PartLog WireLog) × (slice_get reported.desk.slaves.items slave ≡ Some part)
-    part_at slave inside =
-        let parts = served.served in
-        let at_opened = slice_get-get_or opened.seen.state.halves slave (powered_up [] 0) inside in
-        let begun = placed-at BeginsWith 0 opened.seen.state.halves parts.sites.slaves.items slave (get_or opened.seen.state.halves slave (powered_up [] 0))
-        parts.separate.slaves at_opened in
-        let end = placed-at (λ place (x : SiteValue) (e : Stay SiteValue SlaveLog). IsEndOfSlave place x e) 0 parts.sites.slaves.items parts.ends.workers.items slave begun.0
-        parts.of_sites.workers begun.1 in
-        let work = reported_at follows well tells reported.desk.slaves.items parts.ends.workers.items slave end.0 served.devices.slaves served.sound.slaves end.1 in
-        (work.part, work.here)
-
-    three_devices : (slave : ℕ) (first half : SlaveHalf) → slice_get site.seen.state.halves slave ≡ Some first → slice_get s.seen.state.halves slave ≡ Some half
-        → slave < length opened.seen.state.halves → GoesOn slave first half (sent_to slave reported)
-    three_devices slave first half at_first at_last inside =
-        let parts = served.served in
-        let at_opened = slice_get-get_or opened.seen.state.halves slave (powered_up [] 0) inside in
-        let mid = get_or opened.seen.state.halves slave (powered_up [] 0) in
-        let begun = placed-at BeginsWith 0 opened.seen.state.halves parts.sites.slaves.items slave mid parts.separate.slaves at_opened in
-        let end = placed-at (λ place (x : SiteValue) (e : Stay SiteValue SlaveLog). IsEndOfSlave place x e) 0 parts.sites.slaves.items parts.ends.workers.items slave begun.0
-        parts.of_sites.workers begun.1 in
-        let back = placed-at EndsWith 0 parts.ends.workers.items left.seen.state.halves slave end.0 parts.together.halves end.1 in
-        let work = reported_at follows well tells reported.desk.slaves.items parts.ends.workers.items slave end.0 served.devices.slaves served.sound.slaves end.1 in
-        let before = keeps_reported follows well tells reported.desk.line opened.seen served.sound.line served.devices.before in
-        let one = one_device slave site.seen opened.seen first mid reported.desk.line.reported new followed.leads.opens before at_first at_opened in
-        let from_first : 0 + slave ≡ slave = omega arith in
-        let start_is : end.0.start ≡ begun.0 = end.2.start in
-        let two = one_device slave end.0.start.seen end.0.site.seen mid back.0 work.part.reported
-        (ap (λ (x : SiteValue). x.seen.past) start_is ∙ begun.2.new) (worked_follows end.0.log.slave end.0.log.jobs end.0.start.seen end.0.site.seen work.worked)
-        work.followed (ap (λ (x : SiteValue). slice_get x.seen.state.halves slave) start_is
-        ∙ subst (λ (n : ℕ). slice_get begun.0.seen.state.halves n ≡ Some mid) from_first begun.2.has)
-        (subst (λ (n : ℕ). slice_get end.0.site.seen.state.halves n ≡ Some back.0) from_first back.2) in
-        let three = one_device slave left.seen s.seen back.0 half reported.after parts.together.new followed.leads.after.after followed.ends.ends back.1 at_last in
-        subst (λ (part : Option (PartLog WireLog)). GoesOn slave first half (exchanges reported.desk.line.reported.sent ++ sent_by part ++ exchanges reported.after.sent)) (sym work.here)
-        (goes_thrice slave first mid back.0 half (exchanges reported.desk.line.reported.sent) (exchanges work.part.reported.sent) (exchanges reported.after.sent) one two three)
+    three_devices : (slave : ℕ) (first half : SlaveHalf) → LedSlave follows well tells slave first half reported → GoesOn slave first half (sent_to slave reported)
+    three_devices slave first half led =
+        subst (λ (part : Option (PartLog WireLog)). GoesOn slave first half (exchanges reported.desk.line.reported.sent ++ sent_by part ++ exchanges reported.after.sent)) (sym led.here)
+        (goes_thrice slave first led.mid led.back half (exchanges reported.desk.line.reported.sent) (exchanges led.part.reported.sent) (exchanges reported.after.sent)
+        (one_device slave first led.mid reported.desk.line.reported led.opening) (one_device slave led.mid led.back led.part.reported led.desk)
+        (one_device slave led.back half reported.after led.after))
 
     -- no device of another part has sent to a slave
     module _ (own : AreOfParts (λ (part : LinePart) (one : WireLog). one.journal.part ≡ Some part) reported.desk) (slave : ℕ) where
@@ -300,15 +219,14 @@ module _ {L F C D : Type 0} (within : D → WireDevice L F C) where
         let there : slave < length plant = slice_get_within plant slave words here in
         let inside : slave < length opened.seen.state.halves =
         (let many : length plant ≡ length opened.seen.state.halves =
-        sym (length-map plant length) ∙ ap length (sym sizes) ∙ ap (λ (l : Line). length l.sizes) (sym followed.leads.line) ∙ served.followed.count in omega (arith, there, many)) in
-        let last : slave < length s.seen.state.halves = (let many = followed.ends.count in omega (arith, there, many, count)) in
+        sym (length-map plant length) ∙ ap length (sym sizes) ∙ ap (λ (l : Line). length l.sizes) (sym followed.line) ∙ served.count in omega (arith, there, many)) in
+        let last : slave < length s.seen.state.halves = (let many = followed.desk.ends.count in omega (arith, there, many, count)) in
         let half = get_or s.seen.state.halves slave (powered_up [] 0) in
         let at_last = slice_get-get_or s.seen.state.halves slave (powered_up [] 0) last in
         let at_first : slice_get site.seen.state.halves slave ≡ Some (powered_up words (station slave)) =
         ap (λ (seen : Seen). slice_get seen.state.halves slave) found ∙ powered_at 0x1001 plant slave words here in
-        let goes = three_devices slave (powered_up words (station slave)) half at_first at_last inside in
-        let part = part_at slave inside in
+        let led = led_slave follows well tells turns site slaves s.seen reported new followed slave (powered_up words (station slave)) half at_first at_last inside in
         λ desk real later among up lives.
         holds_contents s slave half later recovered at_last
-        (goes real later refl (brought_up_is_after words (station slave) real up)
-        (own_lives own slave desk real later among up.station_is part.0 part.1 lives))
+        (three_devices slave (powered_up words (station slave)) half led real later refl (brought_up_is_after words (station slave) real up)
+        (own_lives own slave desk real later among up.station_is led.part led.here lives))

@@ -1,8 +1,8 @@
 pub mod Ending
 pub mod Interleaving
+pub mod Keeping
 pub mod Planning
 pub mod Recovery
-pub mod Redoing
 pub mod Reporting
 pub mod Running
 pub mod Slaves

@@ -1,14 +1,12 @@
 -- What is told at the end of a run or a recovery.
 use Rattle.std.specs.Prelude.{◌≡◌, ◌⊎◌, Result, Ok, Err, IfErr, IsErrAnd, IsOk}
 use Rattle.wire_faults.specs.declared.faults.WireFault.{WireFault}
-use Rattle.wire_faults.specs.declared.faults.WireFault.TheVariants as wire
 use Rattle.wire_faults.specs.Faults.{IsOfStream}
-use Rattle.station_files.specs.declared.faults.Fault.{Fault}
 
--- What was saved is printed, unless the output fails; or saving failed, with this fault.
-abbrev pub IsPrinted : Result (Unit {0}) Fault → Result (Unit {0}) WireFault → Type 0
-IsPrinted (Ok done) result = IfErr result IsOfStream
-IsPrinted (Err fault) result = result ≡ Err (wire.Station fault)
+-- The work ended without a fault and that is printed, unless the output fails; or it ended with this fault.
+abbrev pub IsPrinted : {T : Type 0} → Result T WireFault → Result (Unit {0}) WireFault → Type 0
+IsPrinted (Ok value) result = IfErr result IsOfStream
+IsPrinted (Err fault) result = result ≡ Err fault
 
 -- the work ended so; or it ended with a fault that is told as another one, and as one of a file or of memory if it is one
 abbrev pub IsExplained : {T : Type 0} → Result T WireFault → Result T WireFault → Type 0

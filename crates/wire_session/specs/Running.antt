@@ -1,5 +1,5 @@
 -- `run` on a wire: how the line that was found is served by threads, and what the files hold in the end.
-use Rattle.std.specs.Prelude.{◌≡◌, ◌⊎◌, ◌++◌, ℕ, false, List, length, map, Option, None, IsErr, IsTrue}
+use Rattle.std.specs.Prelude.{◌≡◌, ◌⊎◌, ◌++◌, ℕ, false, List, length, map, IsTrue}
 use Rattle.sii_edit.specs.declared.command.Command.{Command}
 use Rattle.site_shadow.specs.Site.{SiteValue}
 use Rattle.station_text.specs.declared.line_file.LineFile.{LineFile}
@@ -16,15 +16,16 @@ use Rattle.wire_scan.specs.Keeping.{AreMends, AreOfImages, MendsFiles}
 use Rattle.wire_scan.specs.Opening.{IsFound}
 use Rattle.wire_scan.specs.declared.asked.Mend.{Mend}
 use Rattle.site_wire.specs.declared.device.WireLog.{WireLog}
-use Rattle.script_session.specs.declared.logs.LineLog.{LineLog}
+use Rattle.script_session.specs.declared.logs.RunLog.{RunLog}
 use Rattle.wire_session.specs.declared.logs.Worked.{Worked}
-use Rattle.wire_session.specs.Ending.{EndsOpened}
+use Rattle.wire_session.specs.Ending.{EndsOpened, StopsBefore}
+use Rattle.wire_session.specs.Keeping.{KeepsFound}
 use Rattle.wire_session.specs.Slaves.{SlavesAreSaved}
 
 -- The files hold the state of a station that was served on a site of slaves with these words and a journal with these bytes, and the answers to the
 -- commands give the status. Where threads could be made, so that the commands were submitted at a desk, so do the slaves, by what is told of the devices.
 pub record SavesFound (files : Known) (line : LineFile) (plant : List (List ℕ)) (bytes : List ℕ) (commands : List Command)
-    (reported : Option (LineLog WireLog)) (status : ExitStatus) : Type 0 where
+    (reported : RunLog WireLog) (status : ExitStatus) : Type 0 where
   pub site : SiteValue
   pub made : IsSiteOf plant bytes site
   pub saves : AnswersGive (SavesRun false files line site commands) status
@@ -47,8 +48,8 @@ pub record BeginsWithMends (files : Known) (line : LineFile) (said : List Mend) 
   pub all : commands ≡ mends ++ after
 
 -- The line was found, each slave has the words of its image file, but for what was said, the journal is one of its slaves, the script was read, their
--- files stand apart, and the commands were run as far as the result says.
-pub record RunsFound (worked : Worked ExitStatus WireLog) (said : List Mend) (leads : Leads) (old new : Known) (name script : List ℕ) : Type 0 where
+-- files stand apart, and the commands were run as far as the result says. What a power cut has left of journal and slaves is kept.
+pub record RunsFound (F : Type 0) (worked : Worked ExitStatus WireLog) (said : List Mend) (leads : Leads) (old new : Known) (name script : List ℕ) : Type 0 where
   pub line : LineFile
   pub plant : List (List ℕ)
   pub bytes : List ℕ
@@ -59,14 +60,15 @@ pub record RunsFound (worked : Worked ExitStatus WireLog) (said : List Mend) (le
   pub spelt : BeginsWithMends old line said bytes plant script commands
   pub separate : IsRunSeparate leads line name script
   pub ends : EndsFound worked old new line plant bytes commands
+  pub keeps : KeepsFound F worked plant bytes commands
 
--- what `run` does: it stops before it writes and before the line has a device, as where the journal is refused; or it runs the commands
-abbrev pub RunsScript : Worked ExitStatus WireLog → List Mend → Leads → Known → Known → List ℕ → List ℕ → Type 0
-RunsScript worked said leads old new name script = (IsErr worked.ended × (worked.reported ≡ None) × (new ≡ old)) ⊎ RunsFound worked said leads old new name script
+-- what `run` does: it stops before that, as where the journal is refused; or it runs the commands
+abbrev pub RunsScript : Type 0 → Worked ExitStatus WireLog → List Mend → Leads → Known → Known → List ℕ → List ℕ → Type 0
+RunsScript F worked said leads old new name script = StopsBefore worked old new ⊎ RunsFound F worked said leads old new name script
 
 -- The line was found, each slave has the words of its image file, but for what was said, and the image files that were to be written to their slaves were,
--- as commands, as far as the result says.
-pub record MendsFound (worked : Worked ExitStatus WireLog) (said : List Mend) (leads : Leads) (old new : Known) (name : List ℕ) : Type 0 where
+-- as commands, as far as the result says. What a power cut has left of journal and slaves is kept.
+pub record MendsFound (F : Type 0) (worked : Worked ExitStatus WireLog) (said : List Mend) (leads : Leads) (old new : Known) (name : List ℕ) : Type 0 where
   pub line : LineFile
   pub plant : List (List ℕ)
   pub bytes : List ℕ
@@ -79,7 +81,8 @@ pub record MendsFound (worked : Worked ExitStatus WireLog) (said : List Mend) (l
   pub mended : MendsFiles old line said bytes plant begun mends
   pub separate : IsLineSeparate leads line name
   pub ends : EndsFound worked old new line plant bytes mends
+  pub keeps : KeepsFound F worked plant bytes mends
 
 -- what `recover` does where image files are to be written to their slaves
-abbrev pub MendsLine : Worked ExitStatus WireLog → List Mend → Leads → Known → Known → List ℕ → Type 0
-MendsLine worked said leads old new name = (IsErr worked.ended × (worked.reported ≡ None) × (new ≡ old)) ⊎ MendsFound worked said leads old new name
+abbrev pub MendsLine : Type 0 → Worked ExitStatus WireLog → List Mend → Leads → Known → Known → List ℕ → Type 0
+MendsLine F worked said leads old new name = StopsBefore worked old new ⊎ MendsFound F worked said leads old new name

@@ -1,5 +1,5 @@
 -- What real slaves hold after a run or a recovery on a wire (ETG.1000.4, slave information interface).
-use Rattle.std.specs.Prelude.{◌≡◌, ℕ, List, ◌∷◌, ◌++◌, map, Option, Some, IsSomeAnd, slice_get}
+use Rattle.std.specs.Prelude.{◌≡◌, ℕ, List, ◌∷◌, ◌++◌, map, Some, IsSomeAnd, slice_get}
 use Rattle.esc_model.specs.SlaveHalf.{SlaveHalf}
 use Rattle.esc_model.specs.Orders.{station}
 use Rattle.site_shadow.specs.declared.lending.LinePart.{LinePart}
@@ -17,6 +17,8 @@ use Rattle.station_line.specs.Site.{HoldsSite}
 use Rattle.script_session.specs.declared.logs.DeskLog.{DeskLog}
 use Rattle.script_session.specs.declared.logs.PartLog.{PartLog}
 use Rattle.script_session.specs.declared.logs.LineLog.{LineLog}
+use Rattle.script_session.specs.declared.logs.RunLog.{RunLog}
+use Rattle.script_session.specs.Running.{whole_of}
 use Rattle.wire_session.specs.Interleaving.{Interleaves}
 
 -- THE DEVICES
@@ -50,6 +52,10 @@ SlaveHolds slave words contents reported = (desk : List Exchanged) (real later :
 abbrev pub SlavesHold : List (List ℕ) → Station → LineLog WireLog → Type 0
 SlavesHold plant s reported = (slave : ℕ) (words : List ℕ) → slice_get plant slave ≡ Some words → SlaveHolds slave words (base_of s.book) reported
 
+-- All devices are told of, and by that each slave that was found with these words holds the contents of this station.
+abbrev pub AllHold : List (List ℕ) → RunLog WireLog → Station → Type 0
+AllHold plant reported s = IsSomeAnd (whole_of reported.desk reported.after) (SlavesHold plant s)
+
 -- The files hold the state of a line that was recovered, and by what was told each slave that was found with these words holds its contents.
-abbrev pub SlavesAreSaved : List (List ℕ) → Known → LineFile → Option (LineLog WireLog) → Type 0
-SlavesAreSaved plant files line reported = (s : Station) × HasRecovered s × HoldsSite files line s.seen.state × IsSomeAnd reported (SlavesHold plant s)
+abbrev pub SlavesAreSaved : List (List ℕ) → Known → LineFile → RunLog WireLog → Type 0
+SlavesAreSaved plant files line reported = (s : Station) × HasRecovered s × HoldsSite files line s.seen.state × AllHold plant reported s

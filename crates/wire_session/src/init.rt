@@ -34,7 +34,10 @@ pub fn init_on_wire<R: Clock + AllocGlobal, W: Wire, S: Store, O: Write>(
     ensures refused { IfErr result (RefusesInit (S.files store.old) (S.files store.new) S.leads name.now) }
 {
     match validate_line(rt, wire, name, asked, store) {
-        Ok(()) => format_line(rt.alloc(), name, store, output),
+        Ok(()) => match init_line(rt.alloc(), name, store, output) {
+            Ok(()) => Ok(()),
+            Err(fault) => Err(WireFault::Station(fault)),
+        },
         Err(fault) => Err(fault),
     }
 }
@@ -91,20 +94,4 @@ fn validate_line<R: Clock + AllocGlobal, W: Wire, S: Store>(
     hand_back(wire, &found.states());
     let _slaves = validate_slaves(rt.alloc(), found, line.images.len())?;
     Ok(())
-}
-
-/// Makes the journal, as for a line on files.
-fn format_line<S: Store, O: Write>(
-    alloc: Global,
-    name: &str,
-    store: &mut S,
-    output: &mut O,
-) -> Result<(), WireFault>
-    ensures formatted { OnOk result (Formats ⊤ (S.files store.old) (S.files store.new) name.now) }
-    ensures refused { IfErr result (RefusesInit (S.files store.old) (S.files store.new) S.leads name.now) }
-{
-    match init_line(alloc, name, store, output) {
-        Ok(()) => Ok(()),
-        Err(fault) => Err(WireFault::Station(fault)),
-    }
 }

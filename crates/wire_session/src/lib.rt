@@ -9,7 +9,6 @@ mod logs;
 mod mending;
 mod planning;
 mod recovery;
-mod redoing;
 mod reporting;
 mod running;
 

@@ -1,4 +1,5 @@
 //! The subcommand `recover`, where image files are to be written to their slaves.
+ghost use Rattle.wire_mirror.specs.declared.journal_file.JournalFile.{JournalFile};
 ghost use Rattle.wire_session.specs.Running.{MendsLine};
 
 use crate::logs::Worked;
@@ -34,7 +35,7 @@ pub fn mend_line<
     store: &mut S,
     output: &mut O,
 ) -> Worked<ExitStatus, WireLog>
-    ensures { MendsLine result asked.mends S.leads (S.files store.old) (S.files store.new) name.now }
+    ensures { MendsLine (JournalFile S.File) result asked.mends S.leads (S.files store.old) (S.files store.new) name.now }
 {
     let mut wire = wire;
     let forced = ScanOptions {

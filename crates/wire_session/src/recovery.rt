@@ -1,24 +1,29 @@
 //! The subcommand `recover`.
-ghost use Rattle.std.specs.Prelude.{◌≡◌, ◌≤◌, false, length, IfSome, IsSomeAnd, IsTrue};
+ghost use Rattle.std.specs.Prelude.{◌≡◌, ◌≤◌, [], false, length, IfOk, IfSome, IsErr, IsSomeAnd, IsTrue};
 ghost use Rattle.esc_rom.specs.Owned.{OwnsAll};
-ghost use Rattle.station_line.specs.Site.{switched_on};
-ghost use Rattle.wire_session.specs.Recovery.{EndsOpenedRecovery, EndsRecovery, Recovers};
-ghost use Rattle.script_session.specs.Running.{EndsReported};
-ghost use Rattle.wire_session.specs.Slaves.{AreOfParts, SlavesHold};
+ghost use Rattle.station_files.specs.Files.{ChangesAmong};
+ghost use Rattle.station_line.specs.Site.{files_of, switched_on};
+ghost use Rattle.script_session.specs.After.{SavesRecovered};
+ghost use Rattle.script_session.specs.Running.{EndsReported, OfDevices, OfRecovery, RunGoes, whole_of};
+ghost use Rattle.wire_mirror.specs.declared.journal_file.JournalFile.{JournalFile};
+ghost use Rattle.wire_session.specs.Keeping.{KeepsRecovered};
+ghost use Rattle.wire_session.specs.Recovery.{EndsOpenedRecovery, Recovers};
+ghost use Rattle.wire_session.specs.Slaves.{AllHold, AreOfParts};
 ghost use Rattle.wire_session.specs.Reporting.{IsPrinted};
 
 use crate::as_found::AsFound;
-use crate::followed::followed;
-use crate::logs::Worked;
-use crate::redoing::{ByThreads, recover_by_threads};
+use crate::followed::{Followed, followed};
+use crate::logs::{Worked, of_own_parts};
 use crate::reporting::{report_end, tell_why};
+use crate::running::end_of;
+use kept_wire::a_cut_leaves_kept_on_a_wire;
 use line_changes::Before;
-use script_session::{LineLog, save_reported};
+use script_session::{LineRun, recover_by_threads};
 use sii_words::Plant;
 use site_shadow::ShadowSite;
 use site_wire::{LiveLine, LockedLine, TellsPart, WireLog};
 use station_alone::Recovered;
-use station_files::{Fault, Store};
+use station_files::{ExitStatus, Fault, Store};
 use station_line::{site_of, write_recovered};
 use station_text::LineFile;
 use std::alloc::{AllocError, Global};
@@ -29,7 +34,7 @@ use std::thread::Threads;
 use wire_bringup::hand_back;
 use wire_faults::WireFault;
 use wire_frames::{NumberedWire, Wire};
-use wire_mirror::Images;
+use wire_mirror::{Images, JournalFile};
 use wire_scan::{FoundWire, ScanOptions, find_line, open_line};
 
 /// Recovers the line on this wire, whose line file is `name`, with its journal: what is live in the journal is done, and the slaves then
@@ -57,7 +62,7 @@ pub fn recover_line<
     store: &mut S,
     output: &mut O,
 ) -> Worked<(), WireLog>
-    ensures { Recovers result asked.mends S.leads (S.files store.old) (S.files store.new) name.now }
+    ensures { Recovers (JournalFile S.File) result asked.mends S.leads (S.files store.old) (S.files store.new) name.now }
 {
     let mut wire = wire;
     let forced = ScanOptions {
@@ -90,8 +95,9 @@ fn recover_found<
     requires most { length found.slaves.items ≤ 64 }
     requires count { length found.slaves.items ≡ length found.line.images.items }
     requires images { length found.images.items ≡ length found.line.images.items }
-    ensures { EndsOpenedRecovery (λ s. IsSomeAnd result.reported (SlavesHold found.slaves.items s)) result.ended
+    ensures ends { EndsOpenedRecovery (AllHold found.slaves.items result.reported) result.ended
         (S.files store.old) (S.files store.new) found.line (switched_on found.slaves.items found.journal.items) }
+    ensures keeps { KeepsRecovered (JournalFile S.File) result found.slaves.items found.journal.items }
 {
     let FoundWire {
         line,
@@ -140,8 +146,9 @@ fn recover_opened<
     requires most { length found.slaves.now ≤ 64 }
     requires count { length found.slaves.now ≡ length found.line.now.images.items }
     requires images { length found.images.now ≡ length found.line.now.images.items }
-    ensures { EndsOpenedRecovery (λ s. IsSomeAnd result.reported (SlavesHold found.entry.slaves.now s)) result.ended
+    ensures ends { EndsOpenedRecovery (AllHold found.entry.slaves.now result.reported) result.ended
         (S.files store.old) (S.files store.new) found.entry.line.now (switched_on found.entry.slaves.now found.entry.journal.items) }
+    ensures keeps { KeepsRecovered (JournalFile S.File) result found.entry.slaves.now found.entry.journal.items }
 {
     let AsFound {
         line,
@@ -158,14 +165,19 @@ fn recover_opened<
     };
     let images = Images::new(files.images);
     let device = followed(rt, locked, files.journal, &images);
+    // Its contract says what a power cut leaves at a desk.
+    a_cut_leaves_kept_on_a_wire::<
+        JournalFile<'_, S::File>,
+        ShadowSite<Followed<'_, R, W, S::File>>,
+    >();
     match site_of(rt.alloc(), slaves, journal, device) {
         Ok(site) => recover_site(rt, line, site, store, output),
         Err(AllocError) => Worked::of_fault(Fault::Memory),
     }
 }
 
-/// Recovers a line, and saves what its slaves hold to their image files. `Unserved` where something has failed that the device was asked, though
-/// the recovery heard of nothing.
+/// Recovers a line by threads, saves what its slaves hold to their image files, and prints what was recovered. `Unserved` where a part's device isn't
+/// reported as its own.
 fn recover_site<R: Wait + Threads + AllocGlobal + Sync, D: TellsPart + Send, S: Store, O: Write>(
     rt: &R,
     line: &LineFile,
@@ -175,43 +187,42 @@ fn recover_site<R: Wait + Threads + AllocGlobal + Sync, D: TellsPart + Send, S: 
 ) -> Worked<(), D::Logged>
     requires disk { IsTrue site.line.has_disk }
     requires owned { OwnsAll site.line }
-    ensures own { IfSome result.reported (λ reported. AreOfParts D.is_of reported.desk) }
-    ensures recovers { EndsRecovery
-        (λ s. IsSomeAnd result.reported (λ reported. EndsReported D.follows D.well D.tells false site (length line.now.images.items) reported s.seen))
-        result.ended (S.files store.old) (S.files store.new) line.now site.seen }
+    ensures own { IfOk result.ended (λ done. IfSome result.reported.desk (AreOfParts D.is_of)) }
+    ensures others { ChangesAmong (S.files store.old) (S.files store.new) (files_of line.now) }
+    ensures goes { site.seen.past ≡ [] → RunGoes (OfRecovery site.seen (OfDevices D.follows D.well D.tells result.reported)) site.seen []
+        (IsErr result.ended) }
+    ensures saved { IfOk result.ended (λ done. SavesRecovered (λ s. IsSomeAnd (whole_of result.reported.desk result.reported.after) (λ reported.
+        EndsReported D.follows D.well D.tells false site (length line.now.images.items) reported s.seen)) (S.files store.new) line.now site.seen) }
 {
-    match recover_by_threads(rt, site, line.images.len()) {
-        Ok(redone) => {
-            let ByThreads {
-                alone,
-                recovered,
-                reported: desk,
-            } = redone;
-            let (core, left) = alone.into_parts();
-            drop(core);
-            let (saved, after) = save_reported(rt.alloc(), line, left, store);
-            Worked {
-                ended: print_saved(saved, recovered, output),
-                reported: Some(LineLog { desk, after }),
-            }
-        }
-        Err(fault) => Worked::of_fault(fault),
+    let LineRun {
+        answers,
+        closed,
+        ended,
+        recovered,
+        reported,
+    } = recover_by_threads(rt, line, site, store);
+    let ended = of_own_parts::<D>(end_of(answers, closed, ended), &reported);
+    Worked {
+        ended: print_recovered(ended, recovered, output),
+        reported,
     }
 }
 
-/// Prints what was recovered, if that was saved.
-fn print_saved<O: Write>(
-    saved: Result<(), Fault>,
-    recovered: Recovered,
+/// Prints what was recovered, if the work ended without a fault.
+fn print_recovered<O: Write>(
+    ended: Result<ExitStatus, WireFault>,
+    recovered: Option<Recovered>,
     output: &mut O,
 ) -> Result<(), WireFault>
-    ensures { IsPrinted saved result }
+    ensures { IsPrinted ended result }
 {
-    match saved {
-        Ok(()) => {
-            write_recovered(recovered, output)?;
+    match ended {
+        Ok(_) => {
+            if let Some(recovered) = recovered {
+                write_recovered(recovered, output)?;
+            }
             Ok(())
         }
-        Err(fault) => Err(WireFault::Station(fault)),
+        Err(fault) => Err(fault),
     }
 }

@@ -1,5 +1,5 @@
 //! The subcommand `run`.
-ghost use Rattle.std.specs.Prelude.{◌≡◌, ◌≤◌, ◌∷◌, ◌++◌, [], false, length, map, None, Ok, IfOk, IfSome, IsOkAnd, IsSomeAnd, IsTrue, OnOk};
+ghost use Rattle.std.specs.Prelude.{◌≡◌, ◌≤◌, ◌∷◌, ◌++◌, [], false, length, map, None, Ok, IfOk, IfSome, IsErr, IsOkAnd, IsSomeAnd, IsTrue, OnOk};
 ghost use Rattle.esc_rom.specs.Owned.{OwnsAll};
 ghost use Rattle.station_files.specs.Files.{ChangesAmong};
 ghost use Rattle.station_files.specs.FileNames.{files_with, written_of};
@@ -8,17 +8,20 @@ ghost use Rattle.station_line.specs.Answers.{AnswersGive};
 ghost use Rattle.station_line.specs.Validating.{HasJournal, IsRunSeparate};
 ghost use Rattle.station_line.specs.Opened.{is_old};
 ghost use Rattle.station_line.specs.Site.{files_of};
-ghost use Rattle.script_session.specs.Running.{EndsReported, SavesSite};
+ghost use Rattle.script_session.specs.Running.{EndsReported, OfDevices, RunGoes, SavesSite, whole_of};
 ghost use Rattle.wire_scan.specs.Opening.{IsFound};
 ghost use Rattle.wire_scan.specs.Keeping.{AreOfImages};
+ghost use Rattle.wire_mirror.specs.declared.journal_file.JournalFile.{JournalFile};
+ghost use Rattle.wire_session.specs.Keeping.{KeepsFound};
 ghost use Rattle.wire_session.specs.Running.{BeginsWithMends, EndsFound, RunsScript};
 ghost use Rattle.wire_session.specs.Slaves.{AreOfParts};
 
 use crate::as_found::AsFound;
 use crate::expecting::expect_words;
-use crate::followed::followed;
-use crate::logs::{Worked, are_of_parts};
+use crate::followed::{Followed, followed};
+use crate::logs::{Worked, of_own_parts};
 use crate::reporting::{report_end, tell_handed, tell_why};
+use kept_wire::a_cut_leaves_kept_on_a_wire;
 use line_changes::Before;
 use line_watch::Watch;
 use script_session::{LineRun, Start, Task, Work, run_line};
@@ -38,7 +41,7 @@ use std::thread::Threads;
 use wire_bringup::hand_back;
 use wire_faults::WireFault;
 use wire_frames::{NumberedWire, Wire};
-use wire_mirror::Images;
+use wire_mirror::{Images, JournalFile};
 use wire_scan::{
     FoundWire, Named, ScanOptions, find_line, keep_script_separate, open_line, validate_commands,
     validate_images,
@@ -86,7 +89,8 @@ pub fn run_script<
     store: &mut S,
     output: &mut O,
 ) -> Worked<ExitStatus, WireLog>
-    ensures { RunsScript result order.entry.asked.mends S.leads (S.files store.old) (S.files store.new) order.entry.named.line.now order.entry.named.script.now }
+    ensures { RunsScript (JournalFile S.File) result order.entry.asked.mends S.leads (S.files store.old) (S.files store.new)
+        order.entry.named.line.now order.entry.named.script.now }
 {
     let mut wire = wire;
     match find_all(watch.rt, &mut wire, order, store) {
@@ -115,7 +119,8 @@ pub(crate) fn find_all<R: Clock + AllocGlobal, W: Wire, S: Store>(
     ensures most { IfOk result (λ given. length given.found.slaves.items ≤ 64) }
     ensures spelt { IfOk result (λ given. BeginsWithMends (S.files store.old) given.found.line order.entry.asked.mends given.found.journal.items
         given.found.slaves.items order.entry.named.script.now given.commands.items) }
-    ensures kept { IfOk result (λ given. AreOfImages (S.files store.old) given.found.line order.entry.asked.mends given.found.journal.items given.found.slaves.items) }
+    ensures kept { IfOk result (λ given. AreOfImages (S.files store.old) given.found.line order.entry.asked.mends given.found.journal.items
+        given.found.slaves.items) }
     ensures images { IfOk result (λ given. length given.found.images.items ≡ length given.found.slaves.items) }
     ensures separate { IfOk result (λ given.
         IsRunSeparate S.leads given.found.line order.entry.named.line.now order.entry.named.script.now) }
@@ -213,7 +218,8 @@ pub(crate) fn run_found<
     requires most { length found.slaves.items ≤ 64 }
     requires count { length found.slaves.items ≡ length found.line.images.items }
     requires images { length found.images.items ≡ length found.line.images.items }
-    ensures { EndsFound result (S.files store.old) (S.files store.new) found.line found.slaves.items found.journal.items commands.items }
+    ensures ends { EndsFound result (S.files store.old) (S.files store.new) found.line found.slaves.items found.journal.items commands.items }
+    ensures keeps { KeepsFound (JournalFile S.File) result found.slaves.items found.journal.items commands.items }
 {
     let FoundWire {
         line,
@@ -277,8 +283,9 @@ fn run_opened<
     requires count { length found.slaves.now ≡ length found.line.now.images.items }
     requires images { length found.images.now ≡ length found.line.now.images.items }
     requires still { task.turns ≡ false }
-    ensures { EndsFound result (S.files store.old) (S.files store.new)
+    ensures ends { EndsFound result (S.files store.old) (S.files store.new)
         found.entry.line.now found.entry.slaves.now found.entry.journal.items task.work.commands.items }
+    ensures keeps { KeepsFound (JournalFile S.File) result found.entry.slaves.now found.entry.journal.items task.work.commands.items }
 {
     let AsFound {
         line,
@@ -297,6 +304,11 @@ fn run_opened<
     let is_old = is_old(&journal);
     let images = Images::new(files.images);
     let device = followed(rt, locked, files.journal, &images);
+    // Its contract says what a power cut leaves at a desk.
+    a_cut_leaves_kept_on_a_wire::<
+        JournalFile<'_, S::File>,
+        ShadowSite<Followed<'_, R, W, S::File>>,
+    >();
     match site_of(rt.alloc(), slaves, journal, device) {
         Ok(site) => run_site(rt, line, Start { site, is_old }, task, store, output),
         Err(AllocError) => {
@@ -318,39 +330,29 @@ fn run_site<R: Wait + Threads + AllocGlobal + Sync, D: TellsPart + Send, S: Stor
     requires disk { IsTrue start.site.line.has_disk }
     requires owned { OwnsAll start.site.line }
     requires old { start.is_old ≡ is_old start.site.seen.state.disk.bytes }
-    ensures own { IfSome result.reported (λ reported. AreOfParts D.is_of reported.desk) }
+    ensures own { IfOk result.ended (λ status. IfSome result.reported.desk (AreOfParts D.is_of)) }
     ensures others { ChangesAmong (S.files store.old) (S.files store.new) (files_of line.now) }
-    ensures saved { IfOk result.ended (AnswersGive (SavesSite (λ last. IsSomeAnd result.reported (λ reported.
-        EndsReported D.follows D.well D.tells task.turns start.site (length line.now.images.items) reported last)) (S.files store.new) line.now
+    ensures goes { start.site.seen.past ≡ [] → RunGoes (OfDevices D.follows D.well D.tells result.reported) start.site.seen task.work.commands.items
+        (IsErr result.ended) }
+    ensures saved { IfOk result.ended (AnswersGive (SavesSite (λ last. IsSomeAnd (whole_of result.reported.desk result.reported.after) (λ reported.
+        EndsReported D.follows D.well D.tells task.turns start.site (length line.now.images.items) reported last.seen)) (S.files store.new) line.now
         start.site task.work.commands.items)) }
 {
     let LineRun {
         answers,
         closed,
         ended,
+        recovered: _,
         reported,
     } = run_line(rt, line, start, task, store, output);
-    let ended = end_of(answers, closed, ended);
-    match reported.whole() {
-        Some(whole) => {
-            if !are_of_parts::<D>(&whole.desk) {
-                drop(whole);
-                return Worked::of_fault(Fault::Unserved);
-            }
-            Worked {
-                ended,
-                reported: Some(whole),
-            }
-        }
-        None => Worked {
-            ended,
-            reported: None,
-        },
+    Worked {
+        ended: of_own_parts::<D>(end_of(answers, closed, ended), &reported),
+        reported,
     }
 }
 
 /// How a run ended: with the exit status that its answers give, or a fault, that of its desk first.
-fn end_of(
+pub(crate) fn end_of(
     answers: Answered,
     closed: Result<(), Fault>,
     ended: Result<Answered, Fault>,

@@ -23,7 +23,7 @@ const ADDRESSED: Quirks = Quirks {
     ..NO_QUIRKS
 };
 
-// It shows as busy late, or not at all.
+// It shows as busy late, for longer than a poll takes, and then for longer than a poll and a fetch.
 const SHOWN_LATE: Quirks = Quirks {
     delay: 3,
     shown_late: 1,

@@ -225,14 +225,14 @@ const TURNED: &[(&[Slave], u32, usize, u8)] = &[
     (PLAINS, 1, 2, 1),
     (PLAINS, 1, 26, 1),
     (PLAINS, 1, 66, 3),
-    // The second slave's reads load eight bytes, which the first poll shows, so from word 4 on its polls have fourteen bytes: bit 6 of the first one;
-    // length and counter of the third one, at byte 24; command and counter of what is after it, at byte 50.
+    // The second slave's reads load eight bytes, which the first poll shows, so the third frame has a command, a fetch at byte 24, and a command at
+    // byte 44: bit 6 of the second poll; length and counter of the fetch; command and counter of what is after it.
     (MIXED, 1, 34, 0x40),
-    (MIXED, 5, 30, 1),
-    (MIXED, 5, 48, 1),
-    (MIXED, 5, 48, 3),
-    (MIXED, 5, 50, 1),
-    (MIXED, 5, 70, 1),
+    (MIXED, 2, 30, 1),
+    (MIXED, 2, 42, 1),
+    (MIXED, 2, 42, 3),
+    (MIXED, 2, 44, 1),
+    (MIXED, 2, 64, 1),
 ];
 
 // Whether this is found of these slaves where one frame has this fate.
@@ -301,15 +301,15 @@ type Case = (
 // The frames to slaves that are all read: each pair of words takes two frames for all slaves: 32 pairs of the first 64 words, and as many
 // from each of seven words on at which chips may begin to repeat. Besides there are two broadcasts, a poll and a clearing of all slaves, and five
 // frames for each slave. Of slaves that load eight bytes each four words take two frames: 16 times, and as many from each of the seven words on; the
-// first poll that shows it has four bytes of data, so that the first four words take four frames. Of slaves of 128 words 64 pairs are read, and 32
-// from each of six words on.
+// first poll that shows it has four bytes of data, so that those words are fetched in one frame more. Of slaves of 128 words 64 pairs are read, and
+// 32 from each of six words on.
 const CASES: &[Case] = &[
     (&[PLAIN], None, WELL, Ok(&[READ]), Some(521)),
     (&[PLAIN, PLAIN], None, WELL, Ok(&[READ, READ]), Some(526)),
     (PLAINS, None, WELL, Ok(ALL_READ), Some(531)),
-    (&[WIDE], None, WELL, Ok(&[READ]), Some(267)),
-    (&[WIDE, WIDE], None, WELL, Ok(&[READ, READ]), Some(272)),
-    (&[WIDE, WIDE, WIDE], None, WELL, Ok(ALL_READ), Some(277)),
+    (&[WIDE], None, WELL, Ok(&[READ]), Some(266)),
+    (&[WIDE, WIDE], None, WELL, Ok(&[READ, READ]), Some(271)),
+    (&[WIDE, WIDE, WIDE], None, WELL, Ok(ALL_READ), Some(276)),
     (SIX_LARGER, None, WELL, Ok(SIX_SIZES), Some(546)),
     (&[PLAIN, BUSY, SLOW], None, WELL, Ok(ALL_READ), None),
     (&[SLOW, MISSES, BUSY], None, WELL, Ok(ALL_READ), None),

@@ -1,9 +1,11 @@
 -- What a slave told, as it is heard over a wire.
-use Rattle.std.proofs.Common.{◌≡◌, ◌⊎◌, Some, None, ℕ, ◌<◌, List, slice_index, Option, IfSome, IfOk}
-use Rattle.std.proofs.Common.{subst, arith, rules}
+use Rattle.std.proofs.Common.{◌≡◌, ◌⊎◌, Some, None, ℕ, ◌+◌, ◌*◌, ◌/◌, ◌%◌, ◌<◌, ◌≤◌, List, length, slice_index, Option, IfSome, IfOk, Result}
+use Rattle.std.proofs.Common.{refl, sym, subst, arith, rules}
 use Rattle.std.specs.Option.{ok_or}
+use Rattle.ecat_frame.specs.Frame.{Pdu, sent}
+use Rattle.esc_model.specs.Bytes.{station_of, register_of}
 use Rattle.esc_model.specs.Orders.{address_of}
-use Rattle.wire_frames.specs.Came.{Answered, Heard, Reported, back_of}
+use Rattle.wire_frames.specs.Came.{Answered, Heard, Reported, back_of, IsFor}
 use Rattle.wire_frames.specs.declared.asking.Reply.{Reply}
 use Rattle.wire_words.specs.declared.telling.Hitch.{Hitch}
 

@@ -14,20 +14,27 @@ read_command word held = to_le_bytes w16 0x0100 ++ to_le_bytes w32 word ++ held 
 abbrev pub AreOther : (held : ℕ) → List ℕ → Type 0
 AreOther held bytes = All (λ byte. byte ≢ held) bytes
 
--- The slave took the command to read words from this one on, and it answered a read of control and status, the word's number and the data register
--- (0x0502): idle without an error, and with these bytes, perhaps before others. They are four, or eight where bit 6 says that a read loads so many.
--- None of the first four is the byte that the command put there.
+-- The slave showed that a read command loads eight bytes: bit 6 of control and status (0x0502), perhaps with registers after it.
+pub record ShowsEight (Gives : List ℕ → Type 0) (from : ℕ) : Type 0 where
+  pub status : ℕ
+  pub rest : List ℕ
+  pub shown : Answered Gives from 4 0x0502 (to_le_bytes w16 status ++ rest)
+  pub bit : (status / 0x40) % 2 ≡ 1
+
+-- The slave answered a read of the data register (0x0508) with these bytes; or one of control and status, the word's number and the data register
+-- (0x0502) with six bytes and these.
+pub data DataRead (Gives : List ℕ → Type 0) (from : ℕ) (bytes : List ℕ) : Type 0 where
+  alone : Answered Gives from 4 0x0508 bytes → DataRead Gives from bytes
+  polled : (front : List ℕ) → length front ≡ 6 → Answered Gives from 4 0x0502 (front ++ bytes) → DataRead Gives from bytes
+
+-- The slave took the command to read words from this one on, and it answered a read of the data register with these bytes: four, or eight if it
+-- showed that it loads so many. None of the first four is the byte that the command put there.
 pub record ReadCame (Gives : List ℕ → Type 0) (from word : ℕ) (bytes : List ℕ) : Type 0 where
   pub held : ℕ
-  pub status : ℕ
-  pub number : List ℕ
-  pub others : List ℕ
   pub taken : Answered Gives from 5 0x0502 (read_command word held)
-  pub polled : Answered Gives from 4 0x0502 (to_le_bytes w16 status ++ number ++ bytes ++ others)
-  pub place : length number ≡ 4
-  pub idle : status < 0x2000
+  pub read : DataRead Gives from bytes
   pub loaded : AreOther held (take 4 bytes)
-  pub size : (length bytes ≡ 4) ⊎ ((length bytes ≡ 8) × ((status / 0x40) % 2 ≡ 1))
+  pub size : (length bytes ≡ 4) ⊎ ((length bytes ≡ 8) × ShowsEight Gives from)
 
 -- The four bytes of this word and the next one stand in what the slave answered to a read from the word `start` on, at their place: two bytes
 -- a word.

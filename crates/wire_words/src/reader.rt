@@ -1,5 +1,5 @@
 //! Reading the words of a slave in steps: one datagram of it, and then the answer.
-ghost use Rattle.std.specs.Prelude.{◌≡◌, ◌⊎◌, ◌<◌, true, false, length, IfSome, None};
+ghost use Rattle.std.specs.Prelude.{◌≡◌, ◌⊎◌, true, false, length, IfSome, None};
 ghost use Rattle.ecat_frame.specs.Command.{code_of};
 ghost use Rattle.ecat_frame.specs.declared.command.Command.TheVariants.{Fprd, Fpwr};
 ghost use Rattle.wire_frames.specs.Came.{CameOver, Reported};
@@ -7,16 +7,20 @@ ghost use Rattle.wire_frames.specs.Room.{AddsOne};
 ghost use Rattle.wire_frames.specs.Sending.{InEeprom, OnlyEeprom};
 ghost use Rattle.wire_words.specs.Words.{AreOther, WordsRead};
 ghost use Rattle.wire_words.specs.Reading.{has_reported, most_asked, GoesOn, StaysAt, IsUnderWay};
+ghost use Rattle.wire_words.specs.declared.reader.Phase.TheVariants as phase;
 
-use crate::reading::{EMPTY, Read, ReadSize, are_other, data_polled, read_content};
+use crate::reading::{EMPTY, Read, ReadSize, are_other, data_fetched, data_polled, read_content};
 use crate::sizing::{block_after, words_ahead};
 use crate::telling::Hitch;
 use ecat_frame::{Command, Datagram, Frame, fp};
-use rom_steps::{CONTROL, TRIES};
+use rom_steps::{CONTENT, CONTROL};
 use wire_frames::{Last, Reply, UNCOUNTED, Wire, reply_at};
 
-/// How many polls find words that aren't loaded yet, before they are read again. With the pauses between, that takes 0.09 seconds.
-const EARLY: u32 = 100;
+/// How often a reader tries the same words that reads beside others.
+const READINGS: u32 = 3;
+
+/// How often words are fetched that aren't loaded yet, before they are read again. With the pauses between, that takes 0.09 seconds.
+const FETCHES: u32 = 100;
 
 /// What stands in the data register first, before words are loaded: a byte that EEPROMs seldom hold.
 const HELD: u8 = 0xb9;
@@ -31,7 +35,9 @@ pub(crate) enum Phase {
     Tells,
     /// It polls until the slave has read them, with so many bytes of the data register behind control and status.
     Polls(ReadSize),
-    /// It polls until the slave is idle: at first, and where something went amiss.
+    /// It fetches so many bytes of them.
+    Fetches(ReadSize),
+    /// It polls likewise until the slave is idle: at first, and where something went amiss.
     Settles,
     /// It clears the slave's errors: command 000.
     Clears,
@@ -59,7 +65,7 @@ pub struct Reader {
     pub(crate) stumbles: u32,
     /// The byte that its command puts where the words come to stand.
     pub(crate) held: u8,
-    /// How many polls found that byte there yet.
+    /// How many fetches in a row found that byte there yet.
     early: u32,
     /// How many bytes a read loads, as the slave showed it last.
     loads: ReadSize,
@@ -79,12 +85,13 @@ const NOTHING: Last = Last {
     status: None,
 };
 
-/// A datagram with this command, and the counter that it came back with.
-fn last_of(command: Command, reply: &Reply) -> Last {
+/// A datagram for this register, and the counter that it came back with.
+fn last_of(command: Command, register: u16, reply: &Reply) -> Last {
     Last {
         command,
+        register,
         counter: Some(reply.counter),
-        ..NOTHING
+        status: None,
     }
 }
 
@@ -122,7 +129,7 @@ impl Reader {
             all_before: 64,
             end: 64,
             phase: Phase::Settles,
-            tries: TRIES,
+            tries: READINGS,
             ..Reader::ended()
         }
     }
@@ -177,26 +184,34 @@ impl Reader {
         ensures only { OnlyEeprom frame.new }
         ensures adds { AddsOne (most_asked self.phase) frame.old frame.new }
     {
+        let station = self.station;
         match self.phase {
-            Phase::Tells => self.put_in(frame, Command::Fpwr, &read_content(self.word, self.held)),
-            Phase::Polls(size) => self.put_in(frame, Command::Fprd, &EMPTY[..6 + size.bytes()]),
-            Phase::Settles => self.put_in(frame, Command::Fprd, &EMPTY[..10]),
-            Phase::Clears => self.put_in(frame, Command::Fpwr, &[0, 0]),
+            Phase::Tells => put_in(
+                frame,
+                Command::Fpwr,
+                station,
+                CONTROL,
+                &read_content(self.word, self.held),
+            ),
+            Phase::Polls(size) => put_in(
+                frame,
+                Command::Fprd,
+                station,
+                CONTROL,
+                &EMPTY[..6 + size.bytes()],
+            ),
+            Phase::Settles => put_in(frame, Command::Fprd, station, CONTROL, &EMPTY[..10]),
+            Phase::Clears => put_in(frame, Command::Fpwr, station, CONTROL, &[0, 0]),
+            Phase::Fetches(size) => {
+                put_in(
+                    frame,
+                    Command::Fprd,
+                    station,
+                    CONTENT,
+                    &EMPTY[..size.bytes()],
+                )
+            }
             Phase::Ends => {}
-        }
-    }
-
-    /// Puts a datagram for its slave's registers from control and status on after those of a frame, if there is room for it.
-    fn put_in(self, frame: &mut Frame, command: Command, content: &[u8])
-        requires command { (command ≡ Fprd) ⊎ (command ≡ Fpwr) }
-        requires eeprom { InEeprom 0x0502 (length content.now) }
-        requires only { OnlyEeprom frame.old }
-        ensures only { OnlyEeprom frame.new }
-        ensures adds { AddsOne (length content.now) frame.old frame.new }
-    {
-        match frame.push(command, 0, fp(self.station, CONTROL), content) {
-            Ok(()) => return,
-            Err(_) => return,
         }
     }
 
@@ -268,24 +283,31 @@ impl Reader {
         stumbled.to(Phase::Settles)
     }
 
-    /// The slave has shown this control and status. None where it is idle without an error, and has read what it was told to.
-    fn polled(self, status: u16, poll: Last) -> Option<Reader>
-        ensures none { result ≡ None → (has_reported self.phase ≡ true) × (status < 0x2000) }
-        ensures some { IfSome result (GoesOn self) }
+    /// The slave's errors are clear: it tries these words again, or ends.
+    fn cleared(self) -> Reader
+        ensures reported { has_reported result.phase ≡ false }
+        ensures stays { StaysAt self result }
+    {
+        if self.stumbles >= self.tries {
+            return self.to(Phase::Ends);
+        }
+        self.to(Phase::Tells)
+    }
+
+    /// The slave has shown this control and status.
+    fn polled(self, status: u16, poll: Last) -> Reader
+        ensures { GoesOn status self result }
     {
         if status >= 0x8000 {
-            return Some(self.waiting(0, poll));
-        }
-        match self.phase {
-            Phase::Polls(_) if status >= 0x2000 => Some(self.stumbled(poll)),
-            Phase::Polls(_) => None,
-            _ => Some(self.to(Phase::Clears)),
+            self.waiting(0, poll)
+        } else {
+            self.idle(status, poll)
         }
     }
 
     /// The slave isn't idle, or so many polls in a row weren't counted.
     fn waiting(self, uncounted: u32, poll: Last) -> Reader
-        ensures { GoesOn self result }
+        ensures { GoesOn 0 self result }
     {
         if uncounted >= UNCOUNTED {
             return Reader {
@@ -300,36 +322,65 @@ impl Reader {
         }
     }
 
-    /// A byte of the words is the one that its command put there. Where that is so of the first word, they aren't loaded yet, and are polled for
-    /// again. Else the EEPROM may hold that byte, and they are read again with another one.
-    fn unsure(self, pair: [u8; 4], poll: Last) -> Reader
-        ensures { GoesOn self result }
+    /// The slave is idle, and shows this.
+    fn idle(self, status: u16, poll: Last) -> Reader
+        ensures { GoesOn status self result }
+    {
+        if !matches!(self.phase, Phase::Polls(_)) {
+            return self.to(Phase::Clears);
+        }
+        if status >= 0x2000 {
+            return self.stumbled(poll);
+        }
+        let loads = ReadSize::shown_by(status);
+        let fetches = self.to(Phase::Fetches(loads.fetched_at(self.word)));
+        Reader { loads, ..fetches }
+    }
+
+    /// A byte of the words is the one that its command put there. Where that is so of the first word, they aren't loaded yet, and are fetched again.
+    /// Else the EEPROM may hold that byte, and they are read again with another one.
+    fn unsure(self, pair: [u8; 4], fetch: Last) -> Reader
+        ensures { GoesOn 0 self result }
     {
         let [low, high, ..] = pair;
-        if low == self.held && high == self.held && self.early < EARLY {
+        if low == self.held && high == self.held && self.early < FETCHES {
             return Reader {
                 early: self.early + 1,
-                uncounted: 0,
                 ..self
             };
         }
-        self.stumbled(poll)
+        self.stumbled(fetch)
     }
 }
 
-/// The answer of the reader's slave at this place of a frame to a datagram for its registers from control and status on, if there is one.
+/// Puts a datagram for registers of the EEPROM of the slave with this station address after those of a frame, if there is room for it.
+fn put_in(frame: &mut Frame, command: Command, station: u16, register: u16, content: &[u8])
+    requires command { (command ≡ Fprd) ⊎ (command ≡ Fpwr) }
+    requires eeprom { InEeprom register (length content.now) }
+    requires only { OnlyEeprom frame.old }
+    ensures only { OnlyEeprom frame.new }
+    ensures adds { AddsOne (length content.now) frame.old frame.new }
+{
+    match frame.push(command, 0, fp(station, register), content) {
+        Ok(()) => return,
+        Err(_) => return,
+    }
+}
+
+/// The answer of the reader's slave at this place of a frame to a datagram for this register, if there is one.
 fn answer_to<W: Wire>(
     reader: Reader,
     command: Command,
+    register: u16,
     content: &[u8],
     returned: &Frame,
     place: usize,
 ) -> Reply
     requires came { CameOver W.gives returned.now }
     requires command { (command ≡ Fprd) ⊎ (command ≡ Fpwr) }
-    ensures { Reported W.gives reader.station (code_of command) 0x0502 content.now result }
+    ensures { Reported W.gives reader.station (code_of command) register content.now result }
 {
-    let address = fp(reader.station, CONTROL);
+    let address = fp(reader.station, register);
     let asked = Datagram {
         command,
         index: 0,
@@ -347,28 +398,25 @@ fn after_command<W: Wire>(reader: Reader, returned: &Frame, place: usize) -> Rea
     ensures stays { StaysAt reader result }
 {
     let command = read_content(reader.word, reader.held);
-    let taken = answer_to::<W>(reader, Command::Fpwr, &command, returned, place);
+    let taken = answer_to::<W>(reader, Command::Fpwr, CONTROL, &command, returned, place);
     if taken.counter == 1 {
-        reader.to(Phase::Polls(reader.loads.taken_at(reader.word)))
+        reader.to(Phase::Polls(reader.loads.fetched_at(reader.word)))
     } else {
-        reader.stumbled(last_of(Command::Fpwr, &taken))
+        reader.stumbled(last_of(Command::Fpwr, CONTROL, &taken))
     }
 }
 
-/// The reader after the answer to the clearing of errors: it tries these words again, or ends.
+/// The reader after the answer to the clearing of errors.
 fn after_clearing<W: Wire>(reader: Reader, returned: &Frame, place: usize) -> Reader
     requires { CameOver W.gives returned.now }
     ensures reported { has_reported result.phase ≡ false }
     ensures stays { StaysAt reader result }
 {
-    let cleared = answer_to::<W>(reader, Command::Fpwr, &[0, 0], returned, place);
-    if cleared.counter != 1 {
-        return reader.stumbled(last_of(Command::Fpwr, &cleared));
-    }
-    if reader.stumbles >= reader.tries {
-        reader.to(Phase::Ends)
+    let cleared = answer_to::<W>(reader, Command::Fpwr, CONTROL, &[0, 0], returned, place);
+    if cleared.counter == 1 {
+        reader.cleared()
     } else {
-        reader.to(Phase::Tells)
+        reader.stumbled(last_of(Command::Fpwr, CONTROL, &cleared))
     }
 }
 
@@ -380,9 +428,9 @@ pub(crate) struct Stepped {
     pub(crate) read: Option<Read>,
 }
 
-/// The reader after the words that it has polled for, once they are loaded.
-fn with_words(reader: Reader, read: Read, poll: Last) -> Stepped
-    ensures reported { has_reported result.reader.phase ≡ true → GoesOn reader result.reader }
+/// The reader with these words, once they are loaded.
+fn with_words(reader: Reader, read: Read, last: Last) -> Stepped
+    ensures reported { has_reported result.reader.phase ≡ true → GoesOn 0 reader result.reader }
     ensures stays { result.read ≡ None → StaysAt reader result.reader }
     ensures read { IfSome result.read (λ words. (words ≡ read) × AreOther reader.held read.pair) }
 {
@@ -393,7 +441,7 @@ fn with_words(reader: Reader, read: Read, poll: Last) -> Stepped
         }
     } else {
         Stepped {
-            reader: reader.unsure(read.pair, poll),
+            reader: reader.unsure(read.pair, last),
             read: None,
         }
     }
@@ -408,8 +456,8 @@ fn after_poll<W: Wire>(reader: Reader, size: ReadSize, returned: &Frame, place: 
     ensures read { IfSome result.read (WordsRead W.gives reader.station reader.word) }
 {
     let empty = &EMPTY[..6 + size.bytes()];
-    let shown = answer_to::<W>(reader, Command::Fprd, empty, returned, place);
-    let poll = last_of(Command::Fprd, &shown);
+    let shown = answer_to::<W>(reader, Command::Fprd, CONTROL, empty, returned, place);
+    let poll = last_of(Command::Fprd, CONTROL, &shown);
     let Some(status) = shown.word() else {
         return Stepped {
             reader: reader.waiting(reader.uncounted.saturating_add(1), poll),
@@ -420,15 +468,35 @@ fn after_poll<W: Wire>(reader: Reader, size: ReadSize, returned: &Frame, place: 
         status: Some((status / 256) as u8),
         ..poll
     };
-    if let Some(next) = reader.polled(status, poll) {
+    let next = reader.polled(status, poll);
+    if next.phase != Phase::Fetches(size) {
         return Stepped {
             reader: next,
             read: None,
         };
     }
-    let loads = ReadSize::shown_by(status);
-    let read = Read::of_bytes(data_polled(&shown), size.at_most(loads));
-    with_words(Reader { loads, ..reader }, read, poll)
+    with_words(next, Read::of_bytes(data_polled(&shown), size), poll)
+}
+
+/// The reader after the fetch of so many bytes of what it read.
+fn after_fetch<W: Wire>(reader: Reader, size: ReadSize, returned: &Frame, place: usize) -> Stepped
+    requires came { CameOver W.gives returned.now }
+    requires fetches { reader.phase ≡ phase.Fetches size }
+    requires reported { IsUnderWay W.gives reader }
+    ensures reported { IsUnderWay W.gives result.reader }
+    ensures stays { result.read ≡ None → StaysAt reader result.reader }
+    ensures read { IfSome result.read (WordsRead W.gives reader.station reader.word) }
+{
+    let empty = &EMPTY[..size.bytes()];
+    let fetched = answer_to::<W>(reader, Command::Fprd, CONTENT, empty, returned, place);
+    let fetch = last_of(Command::Fprd, CONTENT, &fetched);
+    if fetched.counter != 1 {
+        return Stepped {
+            reader: reader.stumbled(fetch),
+            read: None,
+        };
+    }
+    with_words(reader, Read::of_bytes(data_fetched(&fetched), size), fetch)
 }
 
 /// The reader after the answer at this place of a frame that came back.
@@ -440,6 +508,7 @@ pub(crate) fn step<W: Wire>(reader: Reader, returned: &Frame, place: usize) -> S
     ensures read { IfSome result.read (WordsRead W.gives reader.station reader.word) }
 {
     let next = match reader.phase {
+        Phase::Fetches(size) => return after_fetch::<W>(reader, size, returned, place),
         Phase::Tells => after_command::<W>(reader, returned, place),
         Phase::Polls(size) => return after_poll::<W>(reader, size, returned, place),
         Phase::Settles => return after_poll::<W>(reader, ReadSize::Four, returned, place),

@@ -33,21 +33,11 @@ impl ReadSize {
         }
     }
 
-    /// How many of them are taken of a read from this word on. Eight are where it is a multiple of four: such a read ends before a chip does.
-    pub(crate) fn taken_at(self, word: u16) -> ReadSize
+    /// How many of them are fetched of a read from this word on. Eight are where it is a multiple of four: such a read ends before a chip does.
+    pub(crate) fn fetched_at(self, word: u16) -> ReadSize
         ensures { (result ≡ Eight) ↔ ((self ≡ Eight) × (word % 4 ≡ 0)) }
     {
         if word % 4 == 0 { self } else { ReadSize::Four }
-    }
-
-    /// The fewer of both.
-    pub(crate) fn at_most(self, other: ReadSize) -> ReadSize
-        ensures { (result ≡ Eight) ↔ ((self ≡ Eight) × (other ≡ Eight)) }
-    {
-        match other {
-            ReadSize::Four => ReadSize::Four,
-            ReadSize::Eight => self,
-        }
     }
 
     /// The number of bytes.
@@ -62,7 +52,7 @@ impl ReadSize {
     }
 }
 
-/// The words of a read: the one at which it begins and the next one, and the two after them, where eight bytes are taken.
+/// The words of a read: the one at which it begins and the next one, and the two after them, where eight bytes are fetched.
 #[derive(Clone, Copy)]
 pub struct Read {
     pub pair: [u8; 4],
@@ -83,6 +73,14 @@ impl Read {
             },
         }
     }
+}
+
+/// The data register, in the reply to a read of it.
+pub(crate) fn data_fetched(reply: &Reply) -> [u8; 8]
+    ensures { result ≡ take 8 reply.now.content }
+{
+    let [a, b, c, d, e, f, g, h, ..] = reply.content;
+    [a, b, c, d, e, f, g, h]
 }
 
 /// The data register, in the reply to a read of control and status, the word's number, and it.

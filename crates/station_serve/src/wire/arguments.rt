@@ -1,50 +1,36 @@
 //! What a command line asks for.
 
-use crate::arguments::{compared_in, form_of, lines_form, shown_in};
+use crate::arguments::{compared_in, form_of, shown_in};
 use crate::pages::code_asked;
 use crate::wire::changing::{Change, New};
-use crate::wire::of_slaves::{mends_of, sizes_of};
-use crate::wire::one_slave::{Look, Purpose};
+use crate::wire::one_slave::{Look, Purpose, which_in};
 use crate::wire::rows::{rows, wire_program};
-use crate::wire::which::which_in;
-use command_line::{ParsedArguments, Unread, read_typed, read_words, refuse, small_in};
-use sii_words::MAX_SLAVES;
+use command_line::{ParsedArguments, Script, Unread, read_typed, read_words, refuse, small_in};
+use sii_words::{MAX_SLAVES, is_device_size};
 use station_listing::Code;
 use station_rows::Form;
 use station_session::RunNames;
 use std::alloc::Global;
-use std::time::Duration;
 use wire_bringup::Sizes;
 use wire_frames::{FRAME_BYTES, Room};
-use wire_scan::{CaptureNames, Named, PendingOrder, ScanOptions, Tells};
+use wire_scan::{Mend, Mends, Named, PendingOrder, ScanOptions, Tells};
 use wire_session::RunOrder;
 
-/// A command line: what it asks for, and where its text and its frames go.
+/// A command line that was read.
 #[derive(Drop)]
 pub struct Arguments<'a> {
     /// The name of the file that the text goes to; `None` for standard error.
     pub text: Option<&'a str>,
-    /// How long a frame is waited for, if that is said.
-    pub time_out: Option<Duration>,
-    /// The name of the file that each frame is written to, if there is one.
-    pub capture: Option<&'a str>,
-    /// The capture and the files that it may be none of, if there are any.
-    pub separate: Option<CaptureNames<'a>>,
-    pub tenure: Tenure,
-    /// How lines are printed.
-    pub form: Form,
-    /// Whether faults have a second line where standard error is no terminal, too.
-    pub is_verbose: bool,
-    /// Whether no line is drawn with the progress.
-    pub is_quiet: bool,
-    pub task: Task<'a>,
-    /// The text of the script `TYPED`, where commands are typed in place of a script file.
-    pub typed: Option<Vec<u8>>,
+    pub(crate) given: ParsedArguments<'a>,
+    pub(crate) tenure: Tenure,
+    pub(crate) task: Task<'a>,
+    /// The script of typed commands, where these stand in place of a script file.
+    pub(crate) script: Option<Script>,
 }
 
 /// What a command line asks for: a subcommand with its arguments.
 #[derive(Clone, Copy)]
-pub enum Task<'a> {
+pub(crate) enum Task<'a> {
     /// Leaves the words of all slaves as they are.
     Reads(Reading<'a>),
     /// Runs a script on the line. In this folder, if it is known, a call on one slave may have been cut.
@@ -62,7 +48,7 @@ pub enum Task<'a> {
 
 /// What leaves the words of all slaves as they are. The sizes of EEPROMs are there as far as they are given.
 #[derive(Clone, Copy)]
-pub enum Reading<'a> {
+pub(crate) enum Reading<'a> {
     /// Prints a line for each slave, which is compared with its image file where a line file is named.
     Scan(Option<&'a str>, Sizes, Form),
     /// Writes the slaves' image files, which this line file names.
@@ -93,7 +79,7 @@ impl<'a> Task<'a> {
 
 /// Whose the wire is.
 #[derive(Clone, Copy)]
-pub enum Tenure {
+pub(crate) enum Tenure {
     /// The station has it for itself.
     Own,
     /// A master lends it. EEPROMs are taken by force from PDIs that have them, or aren't. A message has so much room.
@@ -112,27 +98,13 @@ pub fn read_arguments<'a>(alloc: Global, words: &'a [String]) -> Result<Argument
     match asked_of(&given) {
         Ok((tenure, task)) => Ok(Arguments {
             text: given.text("text"),
-            time_out: given.milliseconds("timeout"),
-            capture: given.text("capture"),
-            separate: separate_in(&given),
             tenure,
-            form: lines_form(&given),
-            is_verbose: given.has("verbose"),
-            is_quiet: given.has("quiet") || matches!(task, Task::Reads(Reading::Explain { .. })),
             task,
-            typed: read_typed(alloc, program, &given)?,
+            script: read_typed(alloc, program, &given)?,
+            given,
         }),
         Err(text) => Err(refuse(alloc, program, given.subcommand, text)),
     }
-}
-
-/// The capture, and the names of the line file and the script, if there is a capture and a line file.
-fn separate_in<'a>(given: &ParsedArguments<'a>) -> Option<CaptureNames<'a>> {
-    Some(CaptureNames {
-        capture: given.text("capture")?,
-        line: given.text("LINE")?,
-        script: given.text("SCRIPT"),
-    })
 }
 
 /// Whose the wire is, as the options of the subcommand say, or why they are refused.
@@ -167,8 +139,8 @@ fn asked_of<'a>(given: &ParsedArguments<'a>) -> Result<(Tenure, Task<'a>), &'sta
     let tenure = tenure_of(given)?;
     let task = match (given.subcommand, given.text("LINE")) {
         ("run", _) => Task::Run(order_of(given)?, given.text("state")),
-        ("recover", Some(line)) => Task::Recover(line, asked_separate(given)?),
-        ("recover", None) => Task::RecoverLast(folder_in(given)?, asked_separate(given)?),
+        ("recover", Some(line)) => Task::Recover(line, asked_in(given)?),
+        ("recover", None) => Task::RecoverLast(folder_in(given)?, asked_in(given)?),
         ("pending", line) => pending_task(given, line)?,
         ("alias" | "write", _) => Task::Change(change_of(given)?),
         (_, line) => Task::Reads(reading_of(given, line)?),
@@ -186,7 +158,7 @@ fn reading_of<'a>(
         ("scan", _) => Reading::Scan(named, sizes_in(given)?, form_of(given)),
         ("backup", Some(folder)) => Reading::BackupTo(folder, sizes_in(given)?),
         ("backup", None) => Reading::Backup(line, sizes_in(given)?),
-        ("init", _) => Reading::Init(line, asked_separate(given)?),
+        ("init", _) => Reading::Init(line, asked_in(given)?),
         ("plan", _) => Reading::Plan(order_of(given)?),
         ("read" | "show" | "diff" | "verify", _) => Reading::Look(look_of(given)?),
         ("explain", _) => Reading::Explain(code_asked(given)?),
@@ -242,7 +214,7 @@ fn pending_task<'a>(
     given: &ParsedArguments<'a>,
     line: Option<&'a str>,
 ) -> Result<Task<'a>, &'static str> {
-    let asked = asked_separate(given)?;
+    let asked = asked_in(given)?;
     let gives_up = given
         .text("give-up")
         .map(|text| small_in(text).ok_or("--give-up is the number of a slave"))
@@ -268,25 +240,22 @@ fn sizes_in(given: &ParsedArguments<'_>) -> Result<Sizes, &'static str> {
 
 /// What `run` or `plan` is given.
 fn order_of<'a>(given: &ParsedArguments<'a>) -> Result<RunOrder<'a>, &'static str> {
+    let (line, script) = (given.word("LINE"), given.script());
     Ok(RunOrder {
-        named: Named {
-            line: given.word("LINE"),
-            script: given.script(),
-        },
+        named: Named { line, script },
         asked: asked_in(given)?,
     })
 }
 
-/// What the flags ask for.
+/// What the flags ask for. The `--force` of `init`, `recover` and `pending` is about EEPROMs beside a master, and not about slaves in operation.
 fn asked_in(given: &ParsedArguments<'_>) -> Result<ScanOptions, &'static str> {
-    let (found, file) = (given.text("found"), given.text("file"));
-    let mends = mends_of(found, file, given.text("exchanged"));
+    let is_apart = matches!(given.subcommand, "init" | "recover" | "pending");
     Ok(ScanOptions {
         trusts_images: given.has("trust-images"),
-        is_forced: given.has("force"),
+        is_forced: given.has("force") && !is_apart,
         resizes: given.has("resize"),
         any_device: given.has("any-device"),
-        mends: mends.ok_or(
+        mends: mends_in(given).ok_or(
             "--found, --file and --exchanged are SLAVE,.. with numbers from 0 to 63, each once",
         )?,
         tells: Tells {
@@ -297,10 +266,41 @@ fn asked_in(given: &ParsedArguments<'_>) -> Result<ScanOptions, &'static str> {
     })
 }
 
-/// What the flags of `init` and `recover` ask for. Their `--force` is about EEPROMs beside a master, and not about slaves in operation.
-fn asked_separate(given: &ParsedArguments<'_>) -> Result<ScanOptions, &'static str> {
-    Ok(ScanOptions {
-        is_forced: false,
-        ..asked_in(given)?
-    })
+/// What the options say of each slave: those of `--found` are right themselves, of those of `--file` the image files are, and those of `--exchanged`
+/// were exchanged. Each is a list of numbers, separated by commas. None where one can't be read, isn't below 64, or is named twice.
+fn mends_in(given: &ParsedArguments<'_>) -> Option<Mends> {
+    let mut mends = [Mend::Unsaid; MAX_SLAVES];
+    for (said, option) in [
+        (Mend::Slave, "found"),
+        (Mend::File, "file"),
+        (Mend::Exchanged, "exchanged"),
+    ] {
+        let Some(text) = given.text(option) else {
+            continue;
+        };
+        for item in text.split(',') {
+            let slot = mends.get_mut(usize::from(item.parse::<u8>().ok()?))?;
+            if *slot != Mend::Unsaid {
+                return None;
+            }
+            *slot = said;
+        }
+    }
+    Some(mends)
+}
+
+/// The sizes that are spelt so: `SLAVE=N`, separated by commas. None where one can't be read, a slave isn't below 64, or a size isn't 64 to
+/// 4,096 words, a multiple of 64.
+fn sizes_of(text: &str) -> Option<Sizes> {
+    let mut sizes = Sizes::unknown();
+    if text.is_empty() {
+        return Some(sizes);
+    }
+    for item in text.split(',') {
+        let (slave, words) = item.split_once('=')?;
+        let (slave, words) = (slave.parse::<u8>().ok()?, words.parse::<u16>().ok()?);
+        let size = is_device_size(usize::from(words)).then_some(words)?;
+        *sizes.given.get_mut(usize::from(slave))? = Some(size);
+    }
+    Some(sizes)
 }

@@ -5,19 +5,18 @@ ghost use Rattle.std.specs.Prelude.{◌<◌, ◌≤◌, length, IfOk};
 
 use crate::serving::Host;
 use crate::wire::backups::dated_name;
-use crate::wire::one_slave::find_slaves;
+use crate::wire::one_slave::{Which, find_slaves};
 use crate::wire::serving::all_done;
-use crate::wire::which::Which;
 use line_changes::{Before, changes_since, put_changes};
 use line_watch::Watch;
-use sii_words::{ImageFile, Plant};
+use sii_words::{ImageFile, Plant, Words};
 use station_files::{Entry, ExitStatus, Fault, Place, Store, load_line, read_image};
 use station_listing::Code;
 use station_rows::{Rows, named, said};
 use std::alloc::{AllocError, Global};
 use std::io::Write;
 use std::rt::Clock;
-use wire_bringup::{FoundLine, Sizes, look_along};
+use wire_bringup::{Sizes, look_along};
 use wire_faults::WireFault;
 use wire_frames::{NumberedWire, Wire};
 use wire_scan::{
@@ -117,16 +116,15 @@ fn make_ready<H: Clock + AllocGlobal, W: Wire, S: Store, O: Write>(
         New::Image(file) => Some(read_image(alloc, false, Some(file), &mut nothing, store)?),
         New::Alias(_) => None,
     };
-    let meant = find_meant(rt, wire, change, image)?;
+    let Meant { slaves, place } = find_meant(rt, wire, change, image)?;
     let stem = dated_name(rt, change.folder, true)?;
-    let bytes = meant.words.slave(meant.place).to_bytes()?;
     let before = format!(in alloc; "{stem}-before.bin")?;
-    store.write(before.as_str(), &bytes)?;
+    store.write(before.as_str(), &slaves[place].to_bytes()?)?;
     writeln!(output, "kept {before}")?;
     output.flush()?;
-    let script = write_script(alloc, stem.as_str(), meant.place, change.new, store)?;
-    let line = begin_line(alloc, change.folder, stem.as_str(), &meant.words, store)?;
-    let words = meant.words;
+    let script = write_script(alloc, stem.as_str(), place, change.new, store)?;
+    let line = begin_line(alloc, change.folder, stem.as_str(), &slaves, store)?;
+    let words = Plant::of(slaves);
     Ok(Ready {
         line,
         script,
@@ -137,43 +135,35 @@ fn make_ready<H: Clock + AllocGlobal, W: Wire, S: Store, O: Write>(
 /// The words of the slaves of a line, and the place of the one that is meant.
 #[derive(Drop)]
 struct Meant {
-    words: Plant,
+    slaves: Vec<Words>,
     place: usize,
 }
 
-/// Finds the line on this wire, and the slave that is meant, which may get this image.
+/// Finds the line on this wire, of 64 slaves at most, and the slave that is meant, which may get this image.
 fn find_meant<H: Clock + AllocGlobal, W: Wire>(
     rt: &H,
     wire: &mut NumberedWire<W>,
     change: Change<'_>,
     image: Option<ImageFile>,
 ) -> Result<Meant, WireFault>
-    ensures { IfOk result (λ meant. meant.place < length meant.words) }
+    ensures place { IfOk result (λ meant. meant.place < length meant.slaves.items) }
+    ensures slaves { IfOk result (λ meant. length meant.slaves.items ≤ 64) }
 {
     if !change.asked.is_forced && !wire.is_lent() {
         let seen = look_along(wire)?;
         validate_states(&seen.states, usize::from(seen.slaves))?;
     }
     let found = find_slaves(rt, wire, &change.sizes)?;
-    let meant = meant_in(rt.alloc(), found, change)?;
+    let place = change.which.place_in(&found)?;
+    validate_measures(&found, &change.sizes)?;
+    let slaves = found.into_words(rt.alloc())?;
     match &image {
         Some(image) if !change.asked.any_device => {
-            validate_image(meant.place, meant.words.slave(meant.place), image)?;
+            validate_image(place, &slaves[place], image)?;
         }
         _ => {}
     }
-    Ok(meant)
-}
-
-/// The slave that is meant on a line that was found.
-fn meant_in(alloc: Global, found: FoundLine, change: Change<'_>) -> Result<Meant, WireFault>
-    requires { length found.slaves.items ≤ 64 }
-    ensures { IfOk result (λ meant. meant.place < length meant.words) }
-{
-    let place = change.which.place_in(&found)?;
-    validate_measures(&found, &change.sizes)?;
-    let words = Plant::of(found.into_words(alloc)?);
-    Ok(Meant { words, place })
+    Ok(Meant { slaves, place })
 }
 
 /// Writes the script that gives the slave at this place what it is to get, and returns its name.
@@ -232,24 +222,19 @@ fn spelt(alloc: Global, text: &str) -> Result<String, AllocError> {
     Ok(spelt)
 }
 
-/// Writes a backup of slaves with these words, and an empty journal; and makes its line file the last one of the folder. Returns the name of that.
+/// Writes a backup of these slaves, and an empty journal; and makes its line file the last one of the folder. Returns the name of that.
 fn begin_line<S: Store>(
     alloc: Global,
     folder: &str,
     stem: &str,
-    words: &Plant,
+    slaves: &[Words],
     store: &mut S,
 ) -> Result<String, WireFault> {
     let line = format!(in alloc; "{stem}.toml")?;
-    let mut slaves = Vec::new(alloc);
-    for slave in 0..words.len() {
-        slaves.push(words.slave(slave).try_copy()?)?;
-    }
-    save_backup(alloc, line.as_str(), &slaves, store)?;
+    save_backup(alloc, line.as_str(), slaves, store)?;
     let mut unseen: Vec<u8> = Vec::new(alloc);
     begin_journal(alloc, line.as_str(), store, &mut unseen)?;
     let text = store.read(alloc, line.as_str())?.ok_or(Fault::File)?;
-    let last = last_line(alloc, folder)?;
-    store.write(last.as_str(), &text)?;
+    store.write(last_line(alloc, folder)?.as_str(), &text)?;
     Ok(line)
 }

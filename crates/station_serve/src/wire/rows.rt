@@ -1,23 +1,159 @@
 //! The subcommands of the program, with their help.
 
 use crate::arguments::{JSON, LINE, REPORT, VERBOSE};
+use crate::images::{ALL, VERIFY_ANSWERS};
 use crate::pages::EXPLAIN;
-use crate::wire::shared_arguments::{
-    ANY_DEVICE, BESIDE, CAPTURE, CARRY, EVENTS, EXCHANGED, FILE, FORCE, FOUND, GIVE_UP, QUIET,
-    RESIZE, SCRIPT, TAKE, TRUST, WORDS,
-};
-use crate::wire::slave_rows::{ALIAS, DIFF, READ, SHOW, VERIFY, WRITE};
 use command_line::{
-    Argument, INTERFACE, Kind, Program, STATE, Subcommand, TEXT, TIMEOUT,
-    TYPED_COMMANDS as COMMANDS, WIRE, argument, subcommand,
+    Argument, Kind, Program, Subcommand, TEXT, TIMEOUT, TYPED_COMMANDS as COMMANDS, WIRE, argument,
+    subcommand,
 };
 
-/// The line file of `scan`.
-const COMPARED: Argument = Argument {
-    kind: Kind::OptionalWord,
-    help: "The line file, to compare each slave with its image file",
-    ..LINE
-};
+const SCRIPT: Argument =
+    argument!("SCRIPT": WordUnless("command") => "The script file: the commands in order, in TOML; - for standard input");
+
+const WORDS: Argument =
+    argument!("words": Text("SLAVE=N,..") => "How many words the EEPROMs of these slaves have",
+    "How many words the EEPROMs of slaves have, as their data sheets say it: 64 to 4096, a
+multiple of 64. It is needed for blank EEPROMs, whose size can't be told. Later
+calls take the size of each slave from its image file.
+
+Example:
+  sii_wire -i eth0 backup line.toml --words 0=512,3=1024");
+
+const TRUST: Argument =
+    argument!("trust-images": Flag => "Goes by the size of an image file even where the EEPROM is found to be smaller");
+
+const FORCE: Argument =
+    argument!("force": Flag => "Works on slaves above Pre-Operational too, and takes EEPROMs that their PDI has");
+
+const RESIZE: Argument =
+    argument!("resize": Flag => "Lets commands make word 0x3e tell another size than the EEPROM has");
+
+pub(crate) const ANY_DEVICE: Argument =
+    argument!("any-device": Flag => "Takes an image of another vendor or product, or with fewer words than the EEPROM");
+
+const BESIDE: Argument =
+    argument!("beside": Flag => "Works beside a master that lends the wire, and leaves its line running",
+    "A master keeps the line running, and lends the wire. Slaves keep the station addresses
+that it gave them, and nothing is written but registers 0x0500 to 0x050f, those of the
+EEPROM. An EEPROM that was offered to a PDI is asked for, and is handed back at the end.");
+
+const CARRY: Argument =
+    argument!("carry": Text("N[,BYTES]") => "Lets a message to the master hold several datagrams",
+    "A message to the master holds up to N datagrams (1 to 64), of each slave one at most,
+which take up to BYTES bytes (28 to 1486), each with its header and working counter.
+Where nothing is said it holds one.");
+
+const TAKE: Argument =
+    argument!("force": FlagWith("beside") => "Takes EEPROMs that their PDI has beside a master too");
+
+const QUIET: Argument =
+    argument!("quiet": ShortFlag('q') => "Draws no line with the progress, and prints no second line of a fault",
+    "Draws no line with the progress, and prints no second line of a fault, which says what
+was seen and what to do. Without this option, where standard error is a terminal
+and the work takes longer than a second, a line there says how many words were read
+and how many were written, of how many, how many slaves are busy with one, how many
+are done, and about how many seconds are left. It is drawn over itself ten times a
+second at most, and erased before anything else is printed and at the end.");
+
+const CAPTURE: Argument =
+    argument!("capture": Text("FILE") => "Writes the frames on the wire to FILE, in the pcap format",
+    "Writes each frame to FILE as it goes over the wire, also one that is sent again, and
+each EtherCAT frame that comes, in the pcap format with times in nanoseconds: open
+it with Wireshark or tshark. The source address tells the way: 00:10:20:30:40:50
+out, and 02:10:20:30:40:50 back, as slaves mark it. A capture that is there already
+is written anew; a FILE that holds anything else stays, and no frame is sent. If
+FILE can't be written further, the work goes on and tells it at its end.
+
+Example:
+  sii_wire -i eth0 run line.toml script.toml --capture frames.pcap
+  tshark -r frames.pcap");
+
+const FOUND: Argument =
+    argument!("found": Text("SLAVE,..") => "These slaves are right, and not their image files",
+    "Takes the words of these slaves into their image files, where they differ: the slaves
+are right, as where another tool changed them, or one of another type was put there.
+Words that a recovery writes are written all the same.
+
+Example:
+  sii_wire -i eth0 recover line.toml --found 2,3");
+
+const FILE: Argument =
+    argument!("file": Text("SLAVE,..") => "The image files of these slaves are right",
+    "Writes to these slaves what their image files have, where they differ, as a command of
+its own before all others: the image files are right, as where another tool changed the
+slaves, or a power cut tore words beside one. A cut of that is recovered as any other.");
+
+const EXCHANGED: Argument =
+    argument!("exchanged": Text("SLAVE,..") => "These slaves were exchanged, and get what their places had",
+    "Writes to these slaves what their places had, as --file does, but for the serial
+number, which stays: each was exchanged for one of the same vendor and product. One of
+another type is refused.");
+
+const P: Argument = argument!("P": OptionalWord => "The slave's place on the line, from 0");
+
+const BY_ALIAS: Argument =
+    argument!("alias": Text("A") => "The slave with this alias, in place of P");
+
+const BY_DEVICE: Argument =
+    argument!("device": Text("VENDOR:PRODUCT[:SERIAL]") => "The slave with this identity, in place of P; numbers as 0x00000002 or 2");
+
+const IMAGE: Argument = argument!("FILE": OptionalWord => "The image file");
+
+const READ: Subcommand = subcommand!("read": "Reads the EEPROM of one slave",
+    long: "Prints the bytes of the EEPROM of one slave, or writes them to a file. No line file is needed. No word of a slave is written.",
+    after: "Examples:\n  sii_wire -i eth0 read 2 > slave.bin\n  sii_wire -i eth0 read --alias 1001 -o slave.bin",
+    [P, BY_ALIAS, BY_DEVICE,
+     argument!("output": ShortText("FILE", 'o') => "Writes the image to FILE, which may not be there with other words"),
+     WORDS, BESIDE, CARRY, TAKE, CAPTURE, QUIET]);
+
+const SHOW: Subcommand = subcommand!("show": "Prints what the EEPROM of one slave says",
+    long: "Prints the alias, the check byte, the identity and the categories of one slave, as sii_station show does of an image; its \
+        show --help lists the answers. No line file is needed. No word of a slave is written.",
+    after: "Examples:\n  sii_wire -i eth0 show 2\n  sii_wire -i eth0 show --device 0x00000002:0x03ec3052 --all",
+    [P, BY_ALIAS, BY_DEVICE, ALL, JSON, WORDS, BESIDE, CARRY, TAKE, CAPTURE, QUIET]);
+
+const DIFF: Subcommand = subcommand!("diff": "Prints what one slave and an image file differ in",
+    long: "Prints what the EEPROM of one slave and an image file differ in, with what the slave has first, as sii_station diff does of two \
+        images; its diff --help lists the answers. The exit status is 1 where they differ. No word of a slave is written.",
+    after: "Example:\n  sii_wire -i eth0 diff 2 slave.bin",
+    [P, IMAGE, BY_ALIAS, BY_DEVICE, JSON, WORDS, BESIDE, CARRY, TAKE, CAPTURE, QUIET]);
+
+const VERIFY: Subcommand =
+    subcommand!("verify": "Looks whether one slave has the words of an image file",
+    long: "Reads the EEPROM of one slave, and prints which words differ from those of an image file. No word of a slave is written.",
+    after: "Example:\n  sii_wire -i eth0 verify 2 slave.bin",
+    answers: VERIFY_ANSWERS,
+    [P, IMAGE, BY_ALIAS, BY_DEVICE, WORDS, BESIDE, CARRY, TAKE, CAPTURE, QUIET]);
+
+/// The help text on what `alias` and `write` print and keep.
+const CHANGE_ANSWERS: &str = "Answers:
+  kept FILE        the image of the slave as it was is in FILE
+  command 0 ..     and accepted .., as run prints them
+  slave P word 0xW old 0xO new 0xN
+                   word W of slave P had the value O, and has N now; long runs as
+                   plan prints them
+  done words N     all is in the slave; N words have changed
+It is a run on the line that is found. What it needs it keeps under the date and the
+time in a folder for the interface: pilzhoon/INTERFACE in $XDG_STATE_HOME, or else in
+~/.local/state; --state DIR names another one. After a power cut, recover without a
+line file ends the work; until then a call that changes a slave is refused: fault 94
+Exists. It is refused for what run is refused for, with the same flags.";
+
+const ALIAS: Subcommand = subcommand!("alias": "Sets the configured station alias of one slave",
+    long: "Sets the configured station alias of one slave, and the check byte that goes with it. No line file is needed.",
+    after: "Examples:\n  sii_wire -i eth0 alias 2 1001\n  sii_wire -i eth0 alias --alias 1001 7",
+    answers: CHANGE_ANSWERS,
+    [P,
+     argument!("VALUE": OptionalWord => "The new alias, 0 to 65535, or in hexadecimal, 0x0 to 0xffff"),
+     BY_ALIAS, BY_DEVICE, JSON, WORDS, BESIDE, CARRY, FORCE, CAPTURE, QUIET]);
+
+const WRITE: Subcommand = subcommand!("write": "Writes an image file to one slave",
+    long: "Writes an image file over the first words of the EEPROM of one slave. An image of another vendor or product, or with fewer \
+        words than the EEPROM, is refused (fault 114). No line file is needed.",
+    after: "Example:\n  sii_wire -i eth0 write 2 slave.bin",
+    answers: CHANGE_ANSWERS,
+    [P, IMAGE, ANY_DEVICE, BY_ALIAS, BY_DEVICE, JSON, WORDS, BESIDE, CARRY, FORCE, RESIZE, CAPTURE, QUIET]);
 
 const SCAN: Subcommand = subcommand!("scan": "Prints what the slaves of the line are",
     long: "Brings up the line and reads the EEPROM of each slave. No word and no file is written, but for that of --capture.",
@@ -44,20 +180,8 @@ and with LINE:
                    N words differ, the first of them W: the slave has X, and the file
                    Y; R is what it usually is: elsewhere (place P: it is that slave of
                    the line), same type, other type, torn, or changed",
-    [COMPARED, WORDS, JSON, BESIDE, CARRY, TAKE, CAPTURE, QUIET]);
-
-/// The line file of `backup`, where the files don't go to a folder.
-const BACKED: Argument = Argument {
-    kind: Kind::WordUnless("to"),
-    ..LINE
-};
-
-const FOLDER: Argument =
-    argument!("to": TextWithout("FOLDER", "LINE") => "Writes a backup of its own into this folder, under the date and the time",
-    "Writes the line file, the image files and the journal into FOLDER, which has to be
-there, under names that begin with the date and the time in UTC, as
-FOLDER/20261126-211500.toml and FOLDER/20261126-211500-s0.bin, and prints the name of
-the line file. Nothing that is there is written over.");
+    [Argument { kind: Kind::OptionalWord, help: "The line file, to compare each slave with its image file", ..LINE },
+     WORDS, JSON, BESIDE, CARRY, TAKE, CAPTURE, QUIET]);
 
 const BACKUP: Subcommand = subcommand!("backup": "Writes the words of each slave to its image file",
     long: "Brings up the line, reads the EEPROM of each slave, writes its words to its image file, and makes an empty journal if there is \
@@ -78,7 +202,13 @@ and then, where the journal was made:
   formatted AREA   it is empty; its area has AREA bytes
 and with --to, behind all:
   line NAME        the name of the line file",
-    [BACKED, FOLDER, WORDS, JSON, BESIDE, CARRY, TAKE, CAPTURE, QUIET]);
+    [Argument { kind: Kind::WordUnless("to"), ..LINE },
+     argument!("to": TextWithout("FOLDER", "LINE") => "Writes a backup of its own into this folder, under the date and the time",
+    "Writes the line file, the image files and the journal into FOLDER, which has to be
+there, under names that begin with the date and the time in UTC, as
+FOLDER/20261126-211500.toml and FOLDER/20261126-211500-s0.bin, and prints the name of
+the line file. Nothing that is there is written over."),
+     WORDS, JSON, BESIDE, CARRY, TAKE, CAPTURE, QUIET]);
 
 const INIT: Subcommand = subcommand!("init": "Makes an empty journal for the line",
     long: "Brings up the line, and makes an empty journal for as many slaves. No word of a slave is written.",
@@ -115,7 +245,17 @@ a command that makes word 0x3e tell another size than the EEPROM has (112), an i
 another vendor or product, or with fewer words than the EEPROM (114), unless the script
 says replace = true with it, and a slave that has other words than its image file
 (115), unless --found, --file or --exchanged names it. Commands of --file and --exchanged come first.",
-    [LINE, SCRIPT, COMMANDS, BESIDE, CARRY, FORCE, TRUST, RESIZE, ANY_DEVICE, FOUND, FILE, EXCHANGED, REPORT, EVENTS, JSON, CAPTURE, QUIET]);
+    [LINE, SCRIPT, COMMANDS, BESIDE, CARRY, FORCE, TRUST, RESIZE, ANY_DEVICE, FOUND, FILE, EXCHANGED, REPORT,
+     argument!("events": Flag => "Prints what happens to the commands as it happens, for programs",
+    "Prints behind the answers, each line as soon as it is so:
+  event durable N  N commands are durable by now
+  event settled N  N commands are settled by now
+  event access P uncounted
+                   slave P didn't take the access to its EEPROM back at the end;
+                   or: silent, no frame came back
+  event image L    the process image is another one: L lines follow, as layout
+                   prints it. It counts once the slaves start again"),
+     JSON, CAPTURE, QUIET]);
 
 const PLAN: Subcommand =
     subcommand!("plan": "Says what a script would do to the line, and does nothing",
@@ -186,7 +326,16 @@ A slave that has other words than its image file (fault 115) matters only where 
 one is given up.
 
 Without LINE it is the line on which alias or write was cut.",
-    [RECOVERED, GIVE_UP, JSON, BESIDE, CARRY, TAKE, TRUST, CAPTURE, QUIET]);
+    [RECOVERED,
+     argument!("give-up": Text("SLAVE") => "Gives this slave up, and recovers the others",
+    "Gives this slave up, as where its EEPROM is write protected: what is listed of it isn't
+done. It keeps the words that it has, also torn ones, and its image file gets them. The
+journal then has nothing for it, and the line is recovered: the other slaves get all
+that they are to have. A command may so be done in part.
+
+Example:
+  sii_wire -i eth0 pending line.toml --give-up 2"),
+     JSON, BESIDE, CARRY, TAKE, TRUST, CAPTURE, QUIET]);
 
 /// The subcommands, in the order of the help.
 pub(crate) fn rows() -> [Subcommand; 14] {
@@ -207,6 +356,13 @@ Exit status: 0 done, 1 a command was refused, 2 wrong usage, 3 a file or its for
 
 /// What stands before the subcommand.
 const OPTIONS: &[Argument] = &[WIRE, TEXT, INTERFACE, TIMEOUT, STATE, VERBOSE];
+
+/// The launcher opens the interface, and hands on the wire.
+const INTERFACE: Argument =
+    argument!("interface": ShortText("INTERFACE", 'i') => "The network interface, as eth0; -i alone lists all");
+
+const STATE: Argument =
+    argument!("state": Text("DIR") => "The folder in which alias and write keep their journal and the image read before");
 
 /// The program with these subcommands.
 pub(crate) fn wire_program(subcommands: &[Subcommand]) -> Program<'_> {

@@ -1,17 +1,17 @@
 //! The program as a function of its arguments and streams.
 
+use crate::arguments::lines_form;
+use crate::ending::{print_failures, status_of_plan, tell_refused};
 use crate::pages::{explanation, print_page};
-use crate::refusals::{status_of_plan, tell_refused};
-use crate::serving::{Host, watch_of};
+use crate::serving::{Host, Streams, watch_of};
 use crate::wire::arguments::{Arguments, Reading, Task, Tenure};
 use crate::wire::backups::{back_up, back_up_to};
 use crate::wire::capture::{begin_capture, end_capture};
 use crate::wire::changing::{change_slave, last_line, require_ended};
 use crate::wire::one_slave::look_at_slave;
-use command_line::{InputScript, Script};
+use command_line::{InputScript, ParsedArguments};
 use line_watch::{Capture, Cleared, ObservedWire, Progress, Watch};
-use site_file::RandomAccessFile;
-use station_files::{ExitStatus, Failure, Failures, Fault, Store, report_fault};
+use station_files::{ExitStatus, Failures, Fault, Store, report_fault};
 use station_rows::{LineRows, RefusedCommand};
 use station_troubles::{CAPTURE_OR_OUTPUT, Noting, OUTPUT, tell_more};
 use std::alloc::Global;
@@ -38,20 +38,9 @@ pub struct Connection<L> {
     pub number: u32,
 }
 
-/// What a user sees beside the text.
-#[derive(Drop)]
-pub struct Screen<'a, E, T> {
-    /// The stream for faults.
-    pub faults: &'a mut E,
-    /// Whether a fault of the line has a second line.
-    pub is_reported: bool,
-    /// The terminal for the line with the progress, if there is one.
-    pub terminal: Option<T>,
-}
-
 /// Carries out a command line over this connection, and returns the exit status: `Done`; `Refused` where a command was refused; `File` for a
-/// file or its form; `Device` for the line; or `Memory`. Faults are printed to the screen's stream, those of the line with a second line after
-/// if the screen says so. A line on its terminal, if it has one, tells how far the work is.
+/// file or its form; `Device` for the line; or `Memory`. Each fault has a second line after it, but with `--quiet` without `--verbose`. A line on the
+/// terminal, if there is one, tells how far the work is.
 ///
 /// Each frame is written down in the file of the capture, if one is named, once it is sent or received. Where the capture can't begin, no
 /// frame is sent and nothing is read or written. If it can't be written further, the work goes on as without it, and the fault is printed
@@ -66,94 +55,66 @@ pub fn serve_on_wire<
 >(
     rt: &H,
     arguments: Arguments<'_>,
-    screen: Screen<'_, E, T>,
     connection: Connection<L>,
     store: &mut S,
-    output: &mut O,
+    streams: Streams<'_, O, E>,
+    terminal: Option<T>,
 ) -> ExitStatus {
     let mut arguments = arguments;
-    let typed = arguments.typed.take();
-    let mut joined = InputScript::new(store, typed.map(Script::typed));
-    serve_noting(rt, arguments, screen, connection, &mut joined, output)
+    let mut joined = InputScript::new(store, arguments.script.take());
+    serve_noting(rt, &arguments, connection, &mut joined, streams, terminal)
 }
 
 /// The same with the script among the files of the store. What is noted of files is kept, if a fault has a second line.
 fn serve_noting<H: Host, L: OwnWire, S: Store, O: Write, E: Write, T: Write + Send + Copy + Drop>(
     rt: &H,
-    arguments: Arguments<'_>,
-    screen: Screen<'_, E, T>,
+    arguments: &Arguments<'_>,
     connection: Connection<L>,
     store: &mut S,
-    output: &mut O,
+    streams: Streams<'_, O, E>,
+    terminal: Option<T>,
 ) -> ExitStatus {
     let alloc = rt.alloc();
-    let mut noting = Noting::new(alloc, store, screen.is_reported);
-    let remembers = screen.is_reported && !matches!(arguments.task, Task::Reads(_));
-    let mut lines = LineRows::new(alloc, arguments.form, remembers, output);
-    serve_job(rt, arguments, screen, connection, &mut noting, &mut lines)
-}
-
-/// The same on a store that keeps what is noted, with what is printed as lines or as rows.
-fn serve_job<H: Host, L: OwnWire, S: Store, O: Write, E: Write, T: Write + Send + Copy + Drop>(
-    rt: &H,
-    arguments: Arguments<'_>,
-    screen: Screen<'_, E, T>,
-    connection: Connection<L>,
-    store: &mut Noting<'_, S>,
-    lines: &mut LineRows<'_, O>,
-) -> ExitStatus {
-    let alloc = rt.alloc();
-    let Screen {
-        faults,
-        is_reported,
-        terminal,
-    } = screen;
-    match begin_separate(alloc, arguments.capture, arguments.separate, store) {
-        Ok(begun) => {
-            let files = arguments.task.run_files();
-            let progress = Progress::begin(rt, if arguments.is_quiet { None } else { terminal });
+    let task = arguments.task;
+    let given = &arguments.given;
+    let is_quiet = given.has("quiet") || matches!(task, Task::Reads(Reading::Explain(_)));
+    let is_reported = given.has("verbose") || !is_quiet;
+    let Streams { output, faults } = streams;
+    let remembers = is_reported && !matches!(task, Task::Reads(_));
+    let mut lines = LineRows::new(alloc, lines_form(given), remembers, output);
+    let mut noting = Noting::new(alloc, store, is_reported);
+    let (ended, planned, capture, seen) = match begin_separate(alloc, given, &mut noting) {
+        Ok(capture) => {
+            let progress = Progress::begin(rt, if is_quiet { None } else { terminal });
             let watch = watch_of(rt, progress.as_ref());
-            let capture = begun.as_ref();
+            let begun = capture.as_ref();
             let (ended, planned) = do_observed(
-                watch, &arguments, capture, connection, store, lines,
+                watch,
+                arguments,
+                begun,
+                connection,
+                &mut noting,
+                &mut lines,
             );
-            let status = status_of(ended, is_reported, OUTPUT, store, lines, faults);
-            if is_reported {
-                tell_refused(alloc, "sii_wire", files, lines.refused(), store, faults);
-                tell_refused(alloc, "sii_wire", files, &planned, store, faults);
-            }
-            end_observed(begun, status, lines, faults)
+            (ended, planned, capture, OUTPUT)
         }
         Err(fault) => {
             drop(connection);
             let ended = Err(WireFault::Station(fault));
-            status_of(ended, is_reported, CAPTURE_OR_OUTPUT, store, lines, faults)
+            (ended, Vec::new(alloc), None, CAPTURE_OR_OUTPUT)
         }
+    };
+    let status = status_of(ended, is_reported, seen, &noting, &mut lines, faults);
+    if is_reported {
+        let files = task.run_files();
+        let kept = lines.refused();
+        tell_refused(alloc, "sii_wire", files, kept, &mut noting, faults);
+        tell_refused(alloc, "sii_wire", files, &planned, &mut noting, faults);
     }
-}
-
-/// Ends the capture of a call that ends with this status, if there is one, and returns the status of both. A fault of the capture is printed.
-fn end_observed<F: RandomAccessFile + Drop, O: Write, E: Write>(
-    capture: Option<Capture<F>>,
-    status: ExitStatus,
-    lines: &mut LineRows<'_, O>,
-    faults: &mut E,
-) -> ExitStatus {
     let mut failures = Failures::none();
     let status = end_capture(capture, status, &mut failures);
-    failures.print(faults);
-    if let Some(Failure::Fault(fault)) = failures.first() {
-        put_fault(WireFault::Station(fault), lines);
-    }
+    print_failures(&failures, &mut lines, faults);
     status
-}
-
-/// Writes the row of a fault, if rows are written. An error of the output is ignored.
-fn put_fault<O: Write>(fault: WireFault, lines: &mut LineRows<'_, O>) {
-    if lines.is_json() {
-        let _ = writeln!(lines, "{fault}");
-        let _ = lines.flush();
-    }
 }
 
 /// Carries out a task on this wire, whose frames are written to the capture, if there is one, and count for the progress. The line of the progress
@@ -168,7 +129,7 @@ fn do_observed<H: Host, L: OwnWire, S: Store, O: Write, T: Write + Send + Drop>(
 ) -> (Result<ExitStatus, WireFault>, Vec<RefusedCommand>) {
     let Connection { wire, number } = connection;
     let Watch { rt, progress } = watch;
-    let timed = TimedWire::new(wire, rt, arguments.time_out);
+    let timed = TimedWire::new(wire, rt, arguments.given.milliseconds("timeout"));
     let observed = ObservedWire::new(timed, capture, progress, rt);
     let numbered = match arguments.tenure {
         Tenure::Own => NumberedWire::new(observed, number),
@@ -182,18 +143,23 @@ fn do_observed<H: Host, L: OwnWire, S: Store, O: Write, T: Write + Send + Drop>(
     (ended, refused)
 }
 
-/// Begins the capture, if one is named and it is none of the files that the call works on. It fails as `keep_capture_separate` and then
-/// `begin_capture` do.
+/// Begins the capture, if one is named and it is neither the line file, nor the script, nor a file of the line. It fails as `keep_capture_separate`
+/// and then `begin_capture` do.
 fn begin_separate<S: Store>(
     alloc: Global,
-    capture: Option<&str>,
-    separate: Option<CaptureNames<'_>>,
+    given: &ParsedArguments<'_>,
     store: &mut S,
 ) -> Result<Option<Capture<S::File>>, Fault> {
-    if let Some(names) = separate {
+    if let (Some(capture), Some(line)) = (given.text("capture"), given.text("LINE")) {
+        let script = given.text("SCRIPT");
+        let names = CaptureNames {
+            capture,
+            line,
+            script,
+        };
         keep_capture_separate(alloc, names, store)?;
     }
-    begin_capture(capture, store)
+    begin_capture(given.text("capture"), store)
 }
 
 /// Carries out a task on this wire. The commands that a plan refuses are put to `refused`.
@@ -301,7 +267,7 @@ pub(crate) fn all_done<F, E: From<F>>(ended: Result<(), F>) -> Result<ExitStatus
 }
 
 /// The exit status for a result: that of what was done, or that of the fault, which is printed, with what there is to tell of it if `is_reported`:
-/// where none of the files gave it, that it came of these streams.
+/// where none of the files gave it, that it came of these streams. An error of a stream is ignored.
 fn status_of<S: Store, O: Write, E: Write>(
     ended: Result<ExitStatus, WireFault>,
     is_reported: bool,
@@ -310,24 +276,26 @@ fn status_of<S: Store, O: Write, E: Write>(
     lines: &mut LineRows<'_, O>,
     faults: &mut E,
 ) -> ExitStatus {
-    match ended {
-        Ok(status) => status,
-        Err(fault) => {
-            let _ = writeln!(faults, "{fault}");
-            put_fault(fault, lines);
-            match fault {
-                _ if !is_reported => {}
-                WireFault::Station(station) if !matches!(station, Fault::SlaveDead { .. }) => {
-                    let reported = store.reported(station.code(), streams);
-                    tell_more("sii_wire", station.code(), reported, faults);
-                }
-                _ => {
-                    let _ = fault.tell(faults);
-                }
-            }
-            fault.status()
+    let fault = match ended {
+        Ok(status) => return status,
+        Err(fault) => fault,
+    };
+    let _ = writeln!(faults, "{fault}");
+    if lines.is_json() {
+        let _ = writeln!(lines, "{fault}");
+        let _ = lines.flush();
+    }
+    match fault {
+        _ if !is_reported => {}
+        WireFault::Station(station) if !matches!(station, Fault::SlaveDead { .. }) => {
+            let reported = store.reported(station.code(), streams);
+            tell_more("sii_wire", station.code(), reported, faults);
+        }
+        _ => {
+            let _ = fault.tell(faults);
         }
     }
+    fault.status()
 }
 
 /// Prints why the file for the text can't be opened, and returns the exit status.

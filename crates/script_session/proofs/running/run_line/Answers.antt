@@ -29,7 +29,7 @@ returns-in-Err-clause-goes g c =
       followed = subst (λ t. IsFollowed (TellsOf g.D.Device.follows g.D.Lends.tells t) c.in-Err.left.seen)
           (sym (reported-opening reported.desk reported.opening c.reported_of.result c.of_opening.ensures.desk c.of_opening.ensures.opening))
           c.reported_of.ensures;
-    }) refl
+    }) c.of_opening.ensures.desk refl
 
 pub returns-in-Err-clause-saved : goal.returns-in-Err-clause-saved
 returns-in-Err-clause-saved g c answered has = absurd has.ended

@@ -21,9 +21,3 @@ returns-in-Err-clause-failed g c =
       line = refl;
       tells_it = (parts.result.1, c.reported_by-reported.ensures c.args.site.seen parts.ensures.device c.has_stopped-has_stopped.ensures);
     }
-
-pub returns-in-Ok-clause-followed : goal.returns-in-Ok-clause-followed
-returns-in-Ok-clause-followed g c = (c.into_parts-parts.result.1, c.into_parts-parts.ensures.device)
-
-pub returns-in-Err-clause-followed : goal.returns-in-Err-clause-followed
-returns-in-Err-clause-followed g c = (c.into_parts-parts.result.1, c.into_parts-parts.ensures.device)

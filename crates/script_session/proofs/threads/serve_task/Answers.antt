@@ -2,10 +2,9 @@ use Rattle.std.proofs.Common.{◌∙◌, ◌≤◌, ap, arith, length, refl, sub
 use Rattle.std.specs.Prelude.{vec_capacity}
 use Rattle.site_core.specs.Line.{Line}
 use Rattle.book_model.specs.Book.{Book}
-use Rattle.station_line.specs.Site.{IsFollowed}
 use Rattle.script_session.specs.Parts.{IsSeparate, Sites}
 use Rattle.script_session.proofs.SeparateLaws.{separate_reported}
-use Rattle.script_session.proofs.DeskLaws.{as-many-ends, ends-separate, line-reported, served-at-desk, serves-parts}
+use Rattle.script_session.proofs.DeskLaws.{as-many-ends, ends-separate, line-reported, serves-parts}
 use Rattle.script_session.proofs.threads.serve_task.Goals as goal
 
 pub serve_at_desk-requires-clause-opening : goal.serve_at_desk-requires-clause-opening
@@ -17,14 +16,6 @@ serve_at_desk-requires-clause-opening g c κs lives = record {
   parts = (omega (arith, c.of-opening.ensures.parts.0), omega (arith, c.of-opening.ensures.parts.1));
 }
 
-pub returns-in-Ok-serve_at_desk-clause-left : goal.returns-in-Ok-serve_at_desk-clause-left
-returns-in-Ok-serve_at_desk-clause-left g c =
-    let parts = c.into_parts-core in
-    let desk = c.in-Ok-serve_at_desk in
-    served-at-desk c.args.alone c.args.task.work.commands.items c.of-opening.result.core parts.result.1.seen c.in-Ok.prepared.sites desk.at c.put_back.result
-    (c.of-opening.ensures.core ∙ parts.ensures.book) parts.ensures.seen c.in-Ok.ensures.sites.separate desk.ensures.served.of_sites c.put_back.ensures.left
-    desk.ensures.served.ending
-
 pub returns-in-Ok-serve_at_desk-clause-parts : goal.returns-in-Ok-serve_at_desk-clause-parts
 returns-in-Ok-serve_at_desk-clause-parts g c =
     let parts = c.into_parts-core in
@@ -34,7 +25,7 @@ returns-in-Ok-serve_at_desk-clause-parts g c =
     serves-parts c.args.alone c.args.task.work.commands.items c.of-opening.result.core parts.result.1.seen prepared.prepared.sites desk.at
     (c.of-opening.ensures.core ∙ parts.ensures.book) parts.ensures.seen prepared.ensures.sites.separate desk.ensures.served.of_sites desk.ensures.served.ending
     g.D.Device.follows g.D.Device.well g.D.Lends.tells c.args.task.turns prepared.prepared.entire.reported back.result prepared.ensures.turning back.ensures.left back.ensures.reported back.ensures.sound back.ensures.words
-    prepared.ensures.reported (ap (λ (l : Line). length l.sizes) (sym parts.ensures.line) ∙ c.prepare.ensures.count) back.ensures.followed
+    prepared.ensures.reported (ap (λ (l : Line). length l.sizes) (sym parts.ensures.line) ∙ c.prepare.ensures.count)
 
 pub returns-in-Ok-serve_at_desk-clause-failed : goal.returns-in-Ok-serve_at_desk-clause-failed
 returns-in-Ok-serve_at_desk-clause-failed g c =
@@ -65,12 +56,3 @@ returns-in-Err-serve_at_desk-clause-failed g c =
 pub reported_unserved-requires-clause-reserved : goal.reported_unserved-requires-clause-reserved
 reported_unserved-requires-clause-reserved g c =
     subst (λ (sites : Sites). length sites.slaves.items ≤ vec_capacity c.in-Ok.prepared.entire.room.reported) (sym c.in-Err-serve_at_desk.ensures.handed_back) c.in-Ok.ensures.reserved
-
-pub returns-in-Err-clause-before : goal.returns-in-Err-clause-before
-returns-in-Err-clause-before g c = subst (IsFollowed g.D.Device.follows) c.into_parts-core.ensures.seen c.prepare.ensures.followed
-
-pub returns-in-Ok-serve_at_desk-clause-before : goal.returns-in-Ok-serve_at_desk-clause-before
-returns-in-Ok-serve_at_desk-clause-before g c = subst (IsFollowed g.D.Device.follows) c.into_parts-core.ensures.seen c.prepare.ensures.followed
-
-pub returns-in-Err-serve_at_desk-clause-before : goal.returns-in-Err-serve_at_desk-clause-before
-returns-in-Err-serve_at_desk-clause-before g c = subst (IsFollowed g.D.Device.follows) c.into_parts-core.ensures.seen c.prepare.ensures.followed

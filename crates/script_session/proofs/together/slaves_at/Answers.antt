@@ -1,8 +1,6 @@
 use Rattle.std.proofs.Common.{◌≡◌, ◌∷◌, ◌∙◌, [], ap, arith, length, refl}
 use Rattle.std.specs.Vec.Iter.{into_iter_items}
 use Rattle.std.proofs.lemmas.List.{length-append}
-use Rattle.script_session.specs.Parts.{IsWorkFollowed}
-use Rattle.script_session.proofs.PartLaws.{all_more}
 use Rattle.script_session.proofs.ReportedLaws.{room-left}
 use Rattle.station_threads.proofs.Zips.{gone-over}
 use Rattle.script_session.proofs.together.slaves_at.Goals as goal
@@ -11,7 +9,6 @@ pub loop-end-init : goal.loop-end-init
 loop-end-init g c = record {
   over = refl;
   left = room-left g.D.Device.follows g.D.Device.well g.D.Lends.tells c.args.room c.requires.room;
-  followed = tt;
   count = ap length c.requires.room.1;
   reserved = refl;
 }
@@ -32,7 +29,6 @@ loop-end-preserved g c =
     record {
       over = gone-over at.yielded end (into_iter_items at.end-iterator) (into_iter_items c.next.new.self) (into_iter_items c.into_iter-end-iterator.result) steps at.invariant.over;
       left = c.with_slave-left.ensures.left at.yielded at.invariant.left;
-      followed = all_more (IsWorkFollowed g.D.Device.follows) at.yielded end at.invariant.followed c.with_slave-left.ensures.followed;
       count = (let more = length-append at.yielded (end ∷ []) in omega (arith, more, c.with_slave-left.ensures.count, at.invariant.count));
       reserved = c.with_slave-left.ensures.reserved ∙ at.invariant.reserved;
     }

@@ -1,4 +1,4 @@
-use Rattle.std.proofs.Common.{◌≡◌, ℕ, ◌+◌, ◌*◌, ◌/◌, ◌%◌, ◌<◌, ◌≤◌, length, get_or, refl, ap, arith}
+use Rattle.std.proofs.Common.{◌≡◌, ◌/◌, ◌%◌, ◌<◌, length, get_or, refl, ap, arith}
 use Rattle.sii_words.specs.Words.{IsImageSize}
 use Rattle.sii_bytes.specs.Bytes.{AreWords}
 use Rattle.sii_bytes.specs.Bytes.Answers.{done}

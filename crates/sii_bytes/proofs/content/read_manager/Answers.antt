@@ -5,9 +5,9 @@ use Rattle.sii_bytes.specs.Content.ReadsItem.{done, lacks}
 use Rattle.sii_bytes.proofs.content.read_manager.Goals as goal
 
 pub returns-then-number-len : goal.returns-then-number-len
-returns-then-number-len c = lacks (fewer c.in-Ok.all.items refl c.in-Ok.ensures (omega arith)) refl
+returns-then-number-len c = lacks (fewer c.in-Ok.found.items refl c.in-Ok.ensures (omega arith)) refl
 
 pub returns : goal.returns
 returns c =
-    let found = slice_get_read c.in-Ok.all.items (length c.in-Ok.all.items) c.args.number c.index.result.now refl (omega arith) c.index.ensures in
-    done c.index.result.now refl (record { items = c.in-Ok.all.items; all = c.in-Ok.ensures; found = found }) c.manager_row.ensures
+    let found = slice_get_read c.in-Ok.found.items (length c.in-Ok.found.items) c.args.number c.index.result.now refl (omega arith) c.index.ensures in
+    done c.index.result.now refl (record { items = c.in-Ok.found.items; all = c.in-Ok.ensures; found = found }) c.manager_row.ensures

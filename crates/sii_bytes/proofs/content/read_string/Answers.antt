@@ -14,15 +14,15 @@ pub returns-then-number-eq0 : goal.returns-then-number-eq0
 returns-then-number-eq0 c = elim c.then-number-eq0.branch [
   | then-number-eq0-via-then-number-eq0 w ↦ zero_is_none refl (omega arith) (refl, refl)
   | then-number-eq0-via-else-number-eq0+then-number-len w ↦
-      let same = length-map c.in-Ok.all.items text_of in
-      fewer (map text_of c.in-Ok.all.items) refl c.in-Ok.ensures (omega arith) (refl, refl)
+      let same = length-map c.in-Ok.found.items text_of in
+      fewer (map text_of c.in-Ok.found.items) refl c.in-Ok.ensures (omega arith) (refl, refl)
 ]
 
 pub returns-then-len-text : goal.returns-then-len-text
 returns-then-len-text c =
     let next : c.args.number ≡ c.args.number - 1 + 1 = omega arith in
     no_room (c.args.number - 1) c.index-string.result.now.items refl next
-    (item_of text_of AreStrings c.args.content.now c.in-Ok.all.items (c.args.number - 1) c.index-string.result.now c.in-Ok.ensures (omega arith) c.index-string.ensures)
+    (item_of text_of AreStrings c.args.content.now c.in-Ok.found.items (c.args.number - 1) c.index-string.result.now c.in-Ok.ensures (omega arith) c.index-string.ensures)
     (omega arith) (refl, refl)
 
 pub returns : goal.returns
@@ -30,5 +30,5 @@ returns c =
     let next : c.args.number ≡ c.args.number - 1 + 1 = omega arith in
     let written = subst (λ (s : List ℕ). c.put_string.new.text ≡ s ++ drop (length s) c.args.text.now) c.deref.ensures.value c.put_string.ensures in
     done (c.args.number - 1) c.index-string.result.now.items refl next
-    (item_of text_of AreStrings c.args.content.now c.in-Ok.all.items (c.args.number - 1) c.index-string.result.now c.in-Ok.ensures (omega arith) c.index-string.ensures)
+    (item_of text_of AreStrings c.args.content.now c.in-Ok.found.items (c.args.number - 1) c.index-string.result.now c.in-Ok.ensures (omega arith) c.index-string.ensures)
     written (omega arith)

@@ -7,7 +7,7 @@ use Rattle.sii_bytes.proofs.editing.edit_category.Goals as goal
 
 pub copy_from_slice-requires : goal.copy_from_slice-requires
 copy_from_slice-requires c =
-    same_length IsDeviceSize c.args.device.now c.in-Ok.words c.in-Ok-recategorized.bytes.items c.deref.result.now c.in-Ok.ensures.0 c.in-Ok.ensures.1 c.in-Ok-recategorized.ensures.length
+    same_length IsDeviceSize c.args.device.now c.in-Ok.found c.in-Ok-recategorized.found.items c.deref.result.now c.in-Ok.ensures.0 c.in-Ok.ensures.1 c.in-Ok-recategorized.ensures.length
     c.deref.ensures.value
 
 pub returns-in-Err-recategorized : goal.returns-in-Err-recategorized

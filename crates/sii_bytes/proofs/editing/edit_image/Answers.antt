@@ -7,7 +7,7 @@ use Rattle.sii_bytes.proofs.editing.edit_image.Goals as goal
 
 pub copy_from_slice-requires : goal.copy_from_slice-requires
 copy_from_slice-requires c =
-    same_length IsDeviceSize c.args.device.now c.in-Ok.words c.in-Ok-imaged.bytes.items c.deref.result.now c.in-Ok.ensures.0 c.in-Ok.ensures.1 c.in-Ok-imaged.ensures.length
+    same_length IsDeviceSize c.args.device.now c.in-Ok.found c.in-Ok-imaged.found.items c.deref.result.now c.in-Ok.ensures.0 c.in-Ok.ensures.1 c.in-Ok-imaged.ensures.length
     c.deref.ensures.value
 
 pub returns-in-Err-imaged : goal.returns-in-Err-imaged

@@ -3,6 +3,9 @@ use Rattle.station_files.specs.declared.faults.Failure.TheVariants as failures
 use Rattle.station_session.proofs.Noting.{one_noted}
 use Rattle.station_session.proofs.recovery.print_recovered.Goals as goal
 
+pub returns-in_default : goal.returns-in_default
+returns-in_default g c = inl (refl, refl)
+
 pub returns-in-Ok : goal.returns-in-Ok
 returns-in-Ok g c = inl (refl, refl)
 

@@ -3,7 +3,6 @@ use Rattle.station_files.proofs.Loaded.{handed_on}
 use Rattle.station_line.specs.Refusals.{RefusesRecovery}
 use Rattle.station_line.proofs.Opened.{is_fresh}
 use Rattle.station_session.proofs.Ending.{recovers}
-use Rattle.station_session.specs.Session.{calls_in}
 use Rattle.station_line.proofs.Validated.{has_journal, journal_refused}
 use Rattle.station_session.proofs.recovery.recover_line.Goals as goal
 
@@ -15,7 +14,7 @@ recover_session-requires-clause-fresh g c κs lives =
 pub returns-in-None-clause-recovered : goal.returns-in-None-clause-recovered
 returns-in-None-clause-recovered g c =
     let session = c.in_ok-session.session in
-    recovers g.S.Store.leads (g.S.Store.files c.args.store.now) (g.S.Store.files c.load_session.new.store) (g.S.Store.files c.recover_session.new.store) c.args.name.now session.line session.site c.recover_session.result.status (calls_in c.recover_session.result.reported)
+    recovers _ g.S.Store.leads (g.S.Store.files c.args.store.now) (g.S.Store.files c.load_session.new.store) (g.S.Store.files c.recover_session.new.store) c.args.name.now session.line session.site c.recover_session.result
     c.in_ok-session.ensures.loaded c.in_ok-session.ensures.separate (has_journal session.site session.refusal c.in_ok-session.ensures.validated c.in-None.is) c.load_session.ensures.same c.recover_session.ensures.ends
 
 pub returns-in-Some-clause-refused : goal.returns-in-Some-clause-refused

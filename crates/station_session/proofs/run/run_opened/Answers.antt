@@ -6,11 +6,12 @@ use Rattle.site_shadow.specs.Site.{SiteValue}
 use Rattle.site_file.proofs.Sent.{device-send}
 use Rattle.line_watch.proofs.Sent.{watched-send}
 use Rattle.station_files.specs.Faults.{IsFaultless}
+use Rattle.station_line.specs.Answers.{IsOfAnswers}
 use Rattle.station_line.specs.Opened.{is_old}
 use Rattle.station_session.specs.RunFiles.{RunKeepsFiles}
 use Rattle.station_session.specs.Session.{EndsRun}
 use Rattle.station_session.proofs.Ending.{ends_run, has_ended, told}
-use Rattle.station_session.proofs.Noting.{answers_noted, end_answers, stays, then_noted, worse_noted}
+use Rattle.station_session.proofs.Noting.{answers_noted, end_answers, stays, stays_good, then_noted, worse_noted}
 use Rattle.station_session.proofs.RunFiles.{run_on_files}
 use Rattle.station_session.proofs.run.run_opened.Goals as goal
 
@@ -46,11 +47,11 @@ returns-clause-kept g c =
     let ran = c.run_line-answers in
     let final = c.with_all_reported-status in
     subst (λ (s : SiteValue). RunKeepsFiles _ s.seen given.commands.items final.result ran.result.reported) c.with_device.ensures
-    (run_on_files _ _ _ _ (λ device seen follows. (device.device, follows)) (λ device seen follows reported tells. tells.calls) (λ device seen follows well. well) ran.result.reported
+    (run_on_files _ (λ device. device.device) ran.result.reported
     (IsErr ran.result.ended) (¬ IsFaultless final.result)
-    (told ran.result.ended c.status.result c.note_end.result c.note_answered.result c.worse-noted.result c.worse.result final.result c.note_answered.ensures.fault
-    c.worse-noted.ensures.faultless c.worse.ensures.faultless (stays c.worse.result final.result c.note_answered.new.failures final.new.failures final.ensures.noted))
-    c.with_device.result.seen given.commands.items (ap (λ (s : SiteValue). s.seen.past) c.with_device.ensures ∙ c.requires.fresh.new) ran.ensures.goes)
+    (told ran.result.ended c.note_answered.result final.result c.note_answered.ensures.fault (λ well. (c.worse-noted.ensures.faultless (c.worse.ensures.faultless
+    (stays_good c.worse.result final.result (stays c.worse.result final.result c.note_answered.new.failures final.new.failures final.ensures.noted) well)).1).1))
+    c.with_device.result.seen (ap (λ (s : SiteValue). s.seen.past) c.with_device.ensures ∙ c.requires.fresh.new) given.commands.items ran.ensures.goes)
 
 pub returns-clause-noted : goal.returns-clause-noted
 returns-clause-noted g c =
@@ -59,7 +60,7 @@ returns-clause-noted g c =
     let closed = c.note_end in
     let ended = c.note_answered in
     let final = c.with_all_reported-status in
-    then_noted c.worse.result final.result old ended.new.failures final.new.failures
+    then_noted IsOfAnswers c.worse.result final.result old ended.new.failures final.new.failures
     (worse_noted c.status.result c.worse-noted.result c.worse.result old old ended.new.failures (answers_noted ran.answers c.status.result old c.status.ensures)
     (worse_noted closed.result ended.result c.worse-noted.result old closed.new.self ended.new.failures
     (end_answers ran.closed closed.result old closed.new.self closed.ensures.done closed.ensures.fault closed.ensures.noted closed.ensures.same)

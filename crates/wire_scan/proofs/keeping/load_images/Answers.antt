@@ -4,6 +4,7 @@ use Rattle.std.specs.List.{AllZip}
 use Rattle.station_files.specs.Files.{Known}
 use Rattle.sii_words.proofs.ListedMembers.{AllZip-take-step}
 use Rattle.wire_scan.specs.Keeping.{IsImageOf}
+use Rattle.wire_scan.proofs.Refusing.{first_refused}
 use Rattle.wire_scan.proofs.keeping.load_images.Goals as goal
 
 -- one more image file
@@ -24,3 +25,10 @@ loop-name-preserved g c = record {
       rw c.in_ok-push-in-Ok.ensures.items (one_more (g.S.Store.files c.args.store.now) (g.S.Store.files c.loop-name.store) c.args.names.now c.loop-name.name-index c.name-item.result c.as_str.result.now c.loop-name.images.items c.in-Ok.image inside c.loop-name.invariant.same named c.loop-name.invariant.images c.in-Ok.ensures.image);
   same = c.load_image.ensures.same ∙ c.loop-name.invariant.same;
 }
+
+pub returns-in-Err-clause-refused : goal.returns-in-Err-clause-refused
+returns-in-Err-clause-refused g c =
+    let inside : c.loop-name.name-index < length c.args.names.now = search rules in
+    let named : c.as_str.result.now ≡ string_bytes (get_or c.args.names.now c.loop-name.name-index c.name-item.result) = c.as_str.ensures.value ∙ ap (λ name. string_bytes name) c.name-item.is in
+    first_refused (g.S.Store.files c.args.store.now) (g.S.Store.files c.loop-name.store) c.args.names.now c.loop-name.name-index c.name-item.result c.as_str.result.now c.loop-name.images.items c.in-Err.fault
+    inside named c.loop-name.invariant.same c.loop-name.invariant.images c.in-Err.ensures.refused

@@ -1,38 +1,29 @@
-use Rattle.std.proofs.Common.{◌≡◌, ◌∙◌, ap, subst, false, length, arith}
-use Rattle.site_core.specs.State.{Seen}
-use Rattle.script_session.proofs.SoundLaws.{on_ok}
-use Rattle.station_line.proofs.Opened.{as-many, has-disk}
-use Rattle.script_session.specs.Saving.{IsReportedLine}
-use Rattle.script_session.specs.Running.{EndsReported}
-use Rattle.wire_session.proofs.Recovering.{ends_recovered, printed, printed_leaves}
+use Rattle.std.proofs.Common.{false, length}
+use Rattle.std.specs.Prelude.{[], IsErr, IsSomeAnd}
+use Rattle.script_session.specs.Recovering.{RecoversByThreads}
+use Rattle.script_session.specs.Running.{EndsReported, OfDevices, OfRecovery}
+use Rattle.script_session.proofs.SaysLaws.{fails_as}
+use Rattle.wire_session.proofs.Recovering.{fails_printed, own_printed, saves_recovery}
+use Rattle.wire_session.proofs.RunEnds.{run_fails}
 use Rattle.wire_session.proofs.recovery.recover_site.Goals as goal
 
-pub save_reported-saved-requires-clause-disk : goal.save_reported-saved-requires-clause-disk
-save_reported-saved-requires-clause-disk g c κs lives =
-    has-disk c.in-Ok.redone.alone.line c.into_parts-core.result.1.line c.into_parts-core.ensures.line c.in-Ok.ensures.line.disk
+pub returns-clause-own : goal.returns-clause-own
+returns-clause-own g c = own_printed _ c.end_of.result c.of_own_parts-ended.result c.print_recovered.result c.of_own_parts-ended.ensures.own c.print_recovered.ensures
 
-pub save_reported-saved-requires-clause-slaves : goal.save_reported-saved-requires-clause-slaves
-save_reported-saved-requires-clause-slaves g c κs lives =
-    let count : c.len.result ≡ length c.args.line.now.images.items = omega (arith, c.len.ensures, c.args.line.now.images.ok.0) in
-    as-many c.in-Ok.redone.alone.line c.into_parts-core.result.1.line (length c.args.line.now.images.items) c.into_parts-core.ensures.line
-    (c.in-Ok.ensures.line.count ∙ count)
+pub returns-clause-goes : goal.returns-clause-goes
+returns-clause-goes g c new =
+    let ran = c.recover_by_threads-answers in
+    let ended = c.of_own_parts-ended in
+    fails_as (OfRecovery c.args.site.seen (OfDevices g.D.Device.follows g.D.Device.well g.D.Lends.tells ran.result.reported)) (IsErr ran.result.ended)
+    (IsErr c.print_recovered.result)
+    (λ failed. fails_printed ended.result c.print_recovered.result c.print_recovered.ensures
+    (ended.ensures.failed (run_fails ran.result c.end_of.result c.end_of.ensures.ended failed))) c.args.site.seen [] new ran.ensures.goes
 
-pub returns-in-Ok-clause-recovers : goal.returns-in-Ok-clause-recovers
-returns-in-Ok-clause-recovers g c =
-    let follows = g.D.Device.follows in
-    let well = g.D.Device.well in
-    let tells = g.D.Lends.tells in
-    let slaves = length c.args.line.now.images.items in
-    let saved = c.save_reported-saved in
-    let ended = c.print_saved.result in
-    let told = c.print_saved.ensures in
-    ends_recovered (λ s. EndsReported follows well tells false c.args.site slaves (record { desk = c.in-Ok.redone.reported; after = saved.result.1 }) s.seen)
-    ended (g.S.Store.files c.args.store.now) (g.S.Store.files saved.new.store) c.args.line.now c.args.site.seen
-    c.in-Ok.redone.alone c.into_parts-core.result.1.seen.state c.in-Ok.ensures.recovered c.in-Ok.ensures.begins
-    (on_ok ended (λ (ends : IsReportedLine follows well tells saved.result.1 slaves c.into_parts-core.result.1.seen). record {
-      leads = c.in-Ok.ensures.reported;
-      ends = subst (IsReportedLine follows well tells saved.result.1 slaves) c.into_parts-core.ensures.seen ends;
-    }) (printed _ saved.result.0 ended told saved.ensures.reported))
-    (ap (λ (seen : Seen). seen.state) c.into_parts-core.ensures.seen)
-    (printed _ saved.result.0 ended told saved.ensures.saved) saved.ensures.others
-    (printed_leaves saved.result.0 ended (g.S.Store.files c.args.store.now) (g.S.Store.files saved.new.store) c.args.line.now told saved.ensures.failed)
+pub returns-clause-saved : goal.returns-clause-saved
+returns-clause-saved g c =
+    let ran = c.recover_by_threads-answers in
+    let ended = c.of_own_parts-ended in
+    saves_recovery _ (λ s. IsSomeAnd ran.result.recovered (λ all. RecoversByThreads c.args.site all s))
+    (λ reported s. EndsReported g.D.Device.follows g.D.Device.well g.D.Lends.tells false c.args.site (length c.args.line.now.images.items) reported s.seen)
+    ran.result c.end_of.result ended.result c.print_recovered.result (g.S.Store.files ran.new.store) c.args.line.now c.args.site.seen
+    c.end_of.ensures.ended ended.ensures.own c.print_recovered.ensures ran.ensures.saved

@@ -1,5 +1,8 @@
-use Rattle.std.proofs.Common.{rules, arith}
+use Rattle.std.proofs.Common.{◌≡◌, ◌⊎◌, ℕ, ◌+◌, ◌*◌, Result, subst, sym, rules, arith, IfOk, slice_index}
 use Rattle.ecat_frame.specs.Command.{code_of}
+use Rattle.wire_frames.specs.Came.{Reported}
+use Rattle.wire_frames.specs.declared.asking.Reply.{Reply}
+use Rattle.wire_words.specs.declared.telling.Hitch.{Hitch}
 use Rattle.wire_words.specs.declared.telling.Hitch.TheVariants as hitch
 use Rattle.wire_words.proofs.Replies.{heard_are_reported}
 use Rattle.wire_words.proofs.telling.tell.Goals as goal

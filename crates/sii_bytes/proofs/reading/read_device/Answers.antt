@@ -1,9 +1,0 @@
-use Rattle.sii_words.specs.Words.{IsDeviceSize}
-use Rattle.sii_bytes.proofs.BytesLaws.{read_entire, spelt_by}
-use Rattle.sii_bytes.proofs.reading.read_device.Goals as goal
-
-pub returns-in-Ok : goal.returns-in-Ok
-returns-in-Ok c = (
-  read_entire IsDeviceSize c.in-Ok.words c.args.bytes.now c.in-Ok.ensures.words c.in-Ok.ensures.count c.in-Ok.ensures.size,
-  spelt_by c.in-Ok.words c.args.bytes.now c.in-Ok.ensures.words,
-)
